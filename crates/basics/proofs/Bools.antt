@@ -1,0 +1,51 @@
+-- Laws of choices, conjunction and `allBelow`. Assumes nothing.
+use mathlib.Core.Path.{_≡_, refl, sym, ap, _∙_, subst}
+use mathlib.Core.Bool.{Bool, true, false}
+use Prim.Native.Nat.{ℕ, zero, suc, _<_}
+use native.Mathlib.Omega.{arith}
+use native.Mathlib.Nat.{not-suc-le-zero}
+use lib.Dec.{T, eqb}
+use borrow.Author.Tests.{eqb-true, eqb-false}
+use Rattle.basics.specs.Choice.{pick, cases, both, either, allBelow}
+
+pub no-true {ℓ} : {A : Type ℓ} → false ≡ true → A
+no-true e = absurd (subst T (sym e) tt)
+
+pub both-l : (a b : Bool) → both a b ≡ true → a ≡ true
+unfolding both
+both-l true b e = refl
+both-l false b e = e
+
+pub both-r : (a b : Bool) → both a b ≡ true → b ≡ true
+unfolding both
+both-r true b e = e
+both-r false b e = cc
+
+pub both-i : (a b : Bool) → a ≡ true → b ≡ true → both a b ≡ true
+unfolding both
+both-i a b p q = cc
+
+pub both-false-l : (a b : Bool) → a ≡ false → both a b ≡ false
+unfolding both
+both-false-l a b p = cc
+
+pub both-false-r : (a b : Bool) → b ≡ false → both a b ≡ false
+unfolding both
+both-false-r true b p = p
+both-false-r false b p = refl
+
+pub all-at : (k : ℕ) (f : ℕ → Bool) → allBelow k f ≡ true → (i : ℕ) → i < k → f i ≡ true
+unfolding allBelow
+all-at zero f e i h = absurd (not-suc-le-zero h)
+all-at (suc k) f e i h =
+    cases (eqb i k)
+    (λ q. ap f (eqb-true i k q) ∙ both-l (f k) (allBelow k f) e)
+    (λ q. all-at k f (both-r (f k) (allBelow k f) e) i (omega (arith, eqb-false i k q)))
+
+pub all-fail : (k : ℕ) (f : ℕ → Bool) (i : ℕ) → i < k → f i ≡ false → allBelow k f ≡ false
+all-fail k f i h e = cases (allBelow k f) (λ q. no-true (sym e ∙ all-at k f q i h)) (λ q. q)
+
+-- a choice that ends in 0 went by its test
+pub zero-test : (c : Bool) (x k : ℕ) → (k ≡ 0 → ⊥) → pick c x k ≡ 0 → (c ≡ true) × (x ≡ 0)
+zero-test true x k n e = (refl, e)
+zero-test false x k n e = absurd (n e)

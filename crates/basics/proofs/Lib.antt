@@ -1,0 +1,6 @@
+pub mod Bools
+pub mod Courses
+pub mod Tests
+pub mod Passes
+pub mod Chains
+pub mod Takes
