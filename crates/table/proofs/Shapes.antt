@@ -1,0 +1,81 @@
+-- The shapes of rows: bounds, and that a field lies in its row. Assumes nothing.
+use Prim.Native.Nat.{ℕ, zero, suc, _+_, _-_, _*_, _≤_, _<_}
+use mathlib.Core.Path.{_≡_, refl, sym, ap, _∙_}
+use mathlib.Core.List.{List, [], _∷_}
+use lib.Dec.{ltb}
+use borrow.Author.Tests.{lt-ltb, le-ltb}
+use native.Mathlib.Nat.{mul-le-mul, mul-le-mul-right, suc-mul, add-mul}
+use native.Mathlib.Omega.{arith}
+use Rattle.basics.specs.Choice.{pick}
+use Rattle.table.specs.Bytes.{shorts, words, fields, rowSize, fieldAt, fieldWidth}
+
+pub shorts-small : (k : ℕ) → shorts k ≤ 6
+unfolding shorts
+shorts-small zero = omega arith
+shorts-small (suc zero) = omega arith
+shorts-small (suc (suc zero)) = omega arith
+shorts-small (suc (suc (suc zero))) = omega arith
+shorts-small (suc (suc (suc (suc zero)))) = omega arith
+shorts-small (suc (suc (suc (suc (suc zero))))) = omega arith
+shorts-small (suc (suc (suc (suc (suc (suc zero)))))) = omega arith
+shorts-small (suc (suc (suc (suc (suc (suc (suc k))))))) = omega arith
+
+pub words-small : (k : ℕ) → words k ≤ 2
+unfolding words
+words-small zero = omega arith
+words-small (suc zero) = omega arith
+words-small (suc (suc zero)) = omega arith
+words-small (suc (suc (suc zero))) = omega arith
+words-small (suc (suc (suc (suc zero)))) = omega arith
+words-small (suc (suc (suc (suc (suc zero))))) = omega arith
+words-small (suc (suc (suc (suc (suc (suc zero)))))) = omega arith
+words-small (suc (suc (suc (suc (suc (suc (suc k))))))) = omega arith
+
+pub fields-is : (k : ℕ) → fields k ≡ shorts k + words k
+unfolding shorts words
+fields-is zero = refl
+fields-is (suc zero) = refl
+fields-is (suc (suc zero)) = refl
+fields-is (suc (suc (suc zero))) = refl
+fields-is (suc (suc (suc (suc zero)))) = refl
+fields-is (suc (suc (suc (suc (suc zero))))) = refl
+fields-is (suc (suc (suc (suc (suc (suc zero)))))) = refl
+fields-is (suc (suc (suc (suc (suc (suc (suc k))))))) = refl
+
+pub product : (a w : ℕ) → a ≤ 6 → w ≤ 2 → a * w ≤ 12
+product a w h l = mul-le-mul h l
+
+pub size-is : (w k a b : ℕ) → a ≡ shorts k → b ≡ words k → a * w + b * 2 ≡ rowSize w k
+unfolding rowSize
+size-is w k a b h l = rw (h, l)
+
+-- field f of section k
+module _ (w k f n : ℕ) (hn : n ≡ shorts k) where
+  module _ (h : f < n) where
+    pub short-at : fieldAt w k f ≡ f * w
+    unfolding fieldAt
+    short-at = rw (← hn, lt-ltb f n h)
+
+    pub short-width : fieldWidth w k f ≡ w
+    unfolding fieldWidth
+    short-width = rw (← hn, lt-ltb f n h)
+
+    pub short-in : f * w + w ≤ rowSize w k
+    unfolding rowSize
+    short-in =
+        let m : suc f * w ≤ n * w = mul-le-mul-right w h in
+        let e : suc f * w ≡ f * w + w = suc-mul f w in
+        rw (← hn) (omega arith)
+
+  module _ (h : n ≤ f) where
+    pub word-at : fieldAt w k f ≡ n * w + (f - n) * 2
+    unfolding fieldAt
+    word-at = rw (← hn, le-ltb f n h)
+
+    pub word-width : fieldWidth w k f ≡ 2
+    unfolding fieldWidth
+    word-width = rw (← hn, le-ltb f n h)
+
+    pub word-in : f < fields k → n * w + (f - n) * 2 + 2 ≤ rowSize w k
+    unfolding rowSize
+    word-in l = let m : f < n + words k = rw (hn, ← fields-is k) l in rw (← hn) (omega arith)
