@@ -4,3 +4,5 @@ pub mod Tests
 pub mod Passes
 pub mod Chains
 pub mod Takes
+pub mod Holding
+pub mod Marking

@@ -1,3 +1,5 @@
 pub mod Choice
 pub mod Course
 pub mod Chain
+pub mod Holds
+pub mod Marks

@@ -1,8 +1,15 @@
-// What every crate's definitions and laws share: see specs/ and proofs/. One function, so that the crate exists.
+// What every crate's definitions and laws share, in specs/ and proofs/; and the marks that count occurrences.
 ghost use mathlib.Core.Path.{_≡_};
+ghost use Rattle.basics.specs.Marks.{marked};
 
-pub fn keep(x: u64) -> u64
-    ensures { λ r. ⌜ r ≡ x ⌝ }
+// Notes one more occurrence of x, up to two.
+pub fn mark(seen: &mut [u8], x: usize)
+    ensures { λ _. ⌜ now (seen .exit) ≡ marked x (now (seen .entry)) ⌝ }
 {
-    x
+    if x < seen.len() {
+        let m = seen[x];
+        if m < 2 {
+            seen[x] = m + 1;
+        }
+    }
 }
