@@ -21,7 +21,7 @@ use Rattle.table.proofs.Shapes.{short-at, short-width, short-in, word-a
 module _ (t : List ℕ) (s : Sections) (o : Of t s) (k i z : ℕ) (hk : k < 7) (hz : z ≡ rowSize (s .w) k) (l : i < getD (s .counts) k 0) where
   row-room : getD (s .starts) k 0 + i * z + z ≤ length t
   row-room =
-      let h : getD (s .starts) k 0 + getD (s .counts) k 0 * z ≤ length t = rw hz (o .room k hk) in
+      let h : getD (s .starts) k 0 + getD (s .counts) k 0 * z ≤ length t = rw hz (o .section k hk .room) in
       let m : suc i * z ≤ getD (s .counts) k 0 * z = mul-le-mul-right z l in
       let e : suc i * z ≡ i * z + z = suc-mul i z in
       omega arith
@@ -38,22 +38,22 @@ module _ (t : List ℕ) (s : Sections) (o : Of t s) (k i z : ℕ) (hk : k < 7) (
 -- the count of section k
 pub count-is : (t : List ℕ) (s : Sections) (o : Of t s) (k : ℕ) → k < 7 → Field (tableOf (s .w) t .count k) (getD (s .counts) k 0)
 unfolding tableOf
-count-is t s o k h = record { is = o .counts k h; small = o .small k h }
+count-is t s o k h = record { is = o .section k h .count; small = o .section k h .small }
 
 -- field f of row i of section k
 module _ (t : List ℕ) (s : Sections) (o : Of t s) (k i f : ℕ) (hk : k < 7) where
   pub cell-none : getD (s .counts) k 0 ≤ i → Field (tableOf (s .w) t .cell k i f) 0
   unfolding tableOf cellAt
-  cell-none h = record { is = rw (← o .counts k hk, le-ltb i (getD (s .counts) k 0) h); small = omega arith }
+  cell-none h = record { is = rw (← o .section k hk .count, le-ltb i (getD (s .counts) k 0) h); small = omega arith }
 
   module _ (l : i < getD (s .counts) k 0) (row n : ℕ) (hr : RowAt t (getD (s .starts) k 0) i (rowSize (s .w) k) row) (hn : n ≡ shorts k) where
     -- where row i begins, by the definition
     begun : begins (s .w) t k + s .w + i * rowSize (s .w) k ≡ row
-    begun = rw (← o .starts k hk) (sym (hr .is))
+    begun = rw (← o .section k hk .start) (sym (hr .is))
 
     pub cell-short : (r : ℕ) → f < n → Field (num t (row + f * s .w) (s .w)) r → Field (tableOf (s .w) t .cell k i f) r
     unfolding tableOf cellAt
-    cell-short r h x = rw (← o .counts k hk, lt-ltb i (getD (s .counts) k 0) l, begun, short-at (s .w) k f n hn h, short-width (s .w) k f n hn h) x
+    cell-short r h x = rw (← o .section k hk .count, lt-ltb i (getD (s .counts) k 0) l, begun, short-at (s .w) k f n hn h, short-width (s .w) k f n hn h) x
 
     pub short-room : f < n → row + f * s .w + s .w ≤ length t
     short-room h = let m = short-in (s .w) k f n hn h in let q = hr .room in omega arith
@@ -62,7 +62,7 @@ module _ (t : List ℕ) (s : Sections) (o : Of t s) (k i f : ℕ) (hk : k < 7) w
     unfolding tableOf cellAt
     cell-word r h x =
         let e : row + (n * s .w + (f - n) * 2) ≡ row + n * s .w + (f - n) * 2 = omega arith in
-        rw (← o .counts k hk, lt-ltb i (getD (s .counts) k 0) l, begun, word-at (s .w) k f n hn h, word-width (s .w) k f n hn h, e) x
+        rw (← o .section k hk .count, lt-ltb i (getD (s .counts) k 0) l, begun, word-at (s .w) k f n hn h, word-width (s .w) k f n hn h, e) x
 
     pub word-room : n ≤ f → f < fields k → row + n * s .w + (f - n) * 2 + 2 ≤ length t
     word-room h g = let m = word-in (s .w) k f n hn h g in let q = hr .room in omega arith

@@ -3,27 +3,18 @@ use Prim.Native.Nat.{ℕ, zero, suc, _+_, _-_, _*_, _≤_, _<_, _^_}
 use mathlib.Core.Path.{_≡_, refl, sym, ap, _∙_}
 use mathlib.Core.List.{List, [], _∷_}
 use mathlib.Core.Bool.{Bool, true, false}
-use lib.ListN.{length, getD, take, drop, length-drop, set, length-set, replicate, length-replicate}
-use lib.Seq.{getD-drop, getD-set-same, getD-set-other}
+use lib.ListN.{length, getD}
 use lib.Dec.{leb, ltb, eqb}
-use borrow.Author.Tests.{eq-eqb, ne-eqb, le-leb, lt-leb, leb-true, leb-false, eqb-true, eqb-false}
-use borrow.Rule.Slice.PartAt.{part-to-end}
-use native.Mathlib.Nat.{add-zero, zero-add, mul-le-mul}
+use borrow.Author.Tests.{eq-eqb, ne-eqb, le-leb, lt-leb}
+use native.Mathlib.Nat.{mul-le-mul}
 use native.Mathlib.Omega.{arith}
-use native.Mathlib.Numerals.{add-one}
 use mir.Val.{Fits}
 use mir.Syntax.{w64}
-use Rattle.basics.specs.Choice.{pick, cases, both, allBelow}
-use Rattle.basics.specs.Chain.{free, chained, carried, Chain}
-use Rattle.basics.proofs.Bools.{no-true}
-use Rattle.basics.proofs.Chains.{chain-none, chain-more, chain-fail, chain-all}
-use Rattle.table.specs.Bytes.{num, rowSize, sectionEnd, sectionFits, whole, begins}
-use Rattle.table.specs.Table.{countAt}
-use Rattle.table.specs.Reading.{sectionAt, Of, Answers, Field}
+use Rattle.basics.specs.Choice.{pick}
+use Rattle.table.specs.Bytes.{num, rowSize, sectionEnd, sectionFits}
+use Rattle.table.specs.Reading.{sectionAt, Field}
 use Rattle.table.specs.declared.Section.{Section}
 use Rattle.table.specs.declared.Section.the-variants.{Whole, Early}
-use Rattle.table.specs.declared.Sections.{Sections}
-use Rattle.table.specs.declared.Read.{Read}
 
 pub num-two : (t : List ℕ) (p k a b : ℕ) → k ≡ 2 → a ≡ getD t p 0 → b ≡ getD t (p + 1) 0 → a < 256 → b < 256 → Field (num t p k) (a + 256 * b)
 num-two t p k a b h ha hb la lb = record { is = simp (eq-eqb k 2 h) (omega arith); small = omega arith }

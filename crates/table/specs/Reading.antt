@@ -5,6 +5,7 @@ use mathlib.Core.Bool.{true}
 use mathlib.Core.List.{List}
 use lib.ListN.{length, getD, take, drop}
 use Rattle.basics.specs.Choice.{pick}
+use Rattle.basics.specs.Chain.{Chain}
 use Rattle.table.specs.Bytes.{num, rowSize, begins, sectionEnd, sectionFits, whole}
 use Rattle.table.specs.Table.{countAt}
 use Rattle.table.specs.declared.Section.{Section}
@@ -16,14 +17,27 @@ use Rattle.table.specs.declared.Read.{Read}
 unfoldable pub sectionAt : List ℕ → ℕ → ℕ → Section
 sectionAt b w k = pick (sectionFits w b k 0) (Whole (num b 0 w) (sectionEnd w b k 0)) Early
 
+-- section k of t: its count c, and where its rows begin
+pub record SectionIs (t : List ℕ) (w k c a : ℕ) : Type 0 where
+  pub count : c ≡ countAt w t k
+  pub start : a ≡ begins w t k + w
+  pub room : a + c * rowSize w k ≤ length t
+  pub small : c < 65536
+
 -- s are the sections of t
 pub record Of (t : List ℕ) (s : Sections) : Type 0 where
   pub low : 1 ≤ s .w
   pub high : s .w ≤ 2
-  pub counts : (k : ℕ) → k < 7 → getD (s .counts) k 0 ≡ countAt (s .w) t k
-  pub starts : (k : ℕ) → k < 7 → getD (s .starts) k 0 ≡ begins (s .w) t k + s .w
-  pub room : (k : ℕ) → k < 7 → getD (s .starts) k 0 + getD (s .counts) k 0 * rowSize (s .w) k ≤ length t
-  pub small : (k : ℕ) → k < 7 → getD (s .counts) k 0 < 65536
+  pub section : (k : ℕ) → k < 7 → SectionIs t (s .w) k (getD (s .counts) k 0) (getD (s .starts) k 0)
+
+-- what a reader has found when k sections end before p
+pub record SectionsTo (t : List ℕ) (w : ℕ) (counts starts : List ℕ) (p k : ℕ) : Type 0 where
+  pub upto : k ≤ 7
+  pub inside : p ≤ length t
+  pub chain : Chain (sectionEnd w t) (sectionFits w t) k p
+  pub counts7 : length counts ≡ 7
+  pub starts7 : length starts ≡ 7
+  pub section : (j : ℕ) → j < k → SectionIs t w j (getD counts j 0) (getD starts j 0)
 
 -- a reader's answer: whether the bytes are seven whole sections, and then which
 pub record Answers (t : List ℕ) (w : ℕ) (r : Read) : Type 0 where

@@ -6,7 +6,7 @@ ghost use lib.ListN.{length, getD, take, drop};
 ghost use Rattle.table.specs.Bytes.{num, shorts, words, fields, rowSize};
 ghost use Rattle.table.specs.Table.{Table, tableOf};
 ghost use Rattle.table.specs.Entries.{declared, typeKind, typeP, typeQ, typeLow, typeHigh, fieldType, varMode, varType, blockKind, owner, firstVar, params, vars, firstStmt, space, argNode, nodeKind, nodeP, nodeQ, nodeV, stmtKind, stmtA, stmtB, stmtC, stmtD, stmtLink, typeCount, fieldCount, varCount, blockCount, argCount, nodeCount, stmtCount};
-ghost use Rattle.table.specs.Reading.{sectionAt, Of, Field, RowAt};
+ghost use Rattle.table.specs.Reading.{sectionAt, Of, Answers, Field, RowAt};
 
 pub struct Sections {
     pub w: usize,
@@ -86,6 +86,33 @@ fn read_section(part: &[u8], w: usize, k: usize) -> Section
     Section::Whole {
         count,
         next: w + rows,
+    }
+}
+
+// The sections of the table `t` in the edition of width w.
+pub fn read_sections(t: &[u8], w: usize) -> Read
+    requires { ⌜ (1 ≤ w) × (w ≤ 2) ⌝ }
+    ensures { λ r. ⌜ Answers (now (t .entry)) w r ⌝ }
+{
+    let mut counts = [0usize; 7];
+    let mut starts = [0usize; 7];
+    let mut p = 0;
+    let mut k = 0;
+    while k < 7 {
+        let Section::Whole { count, next } = read_section(&t[p..], w, k) else {
+            return Read {
+                found: false,
+                sections: Sections { w, counts, starts },
+            };
+        };
+        counts[k] = count;
+        starts[k] = p + w;
+        p += next;
+        k += 1;
+    }
+    Read {
+        found: p == t.len(),
+        sections: Sections { w, counts, starts },
     }
 }
 
