@@ -1,0 +1,15 @@
+use Rattle.words.proofs.DeviceLaws.{devices}
+use borrow.Author.Needs.{needs}
+use Rattle.words.proofs.devices.write_device.Statement.{statement}
+use Rattle.words.proofs.devices.write_device.Tie as tie
+
+pub write-device-spec : {M : Type 1} → statement M
+write-device-spec =
+    tie.close
+    (tie.spec
+    (λ c κs. search needs)
+    (λ c. search devices)
+    (λ c κs. search devices)
+    (λ c. search needs)
+    (λ c. search devices)
+    (λ c. search devices))

@@ -1,0 +1,23 @@
+// The integer that a word stands for (5.1.1). Signed numbers are for this crate's own use: above it words are u16.
+ghost use mathlib.Core.Path.{_≡_};
+ghost use Rattle.words.specs.Numbers.{intOf, between};
+
+pub fn integer(w: u16) -> i32
+    ensures { λ r. ⌜ r ≡ intOf w ⌝ }
+{
+    if w < 32768 {
+        w as i32
+    } else {
+        w as i32 - 65536
+    }
+}
+
+// Ranges include both bounds (7).
+pub fn is_between(low: i32, high: i32, z: i32) -> bool
+    ensures { λ r. ⌜ r ≡ between low high z ⌝ }
+{
+    if low <= z {
+        return z <= high;
+    }
+    false
+}
