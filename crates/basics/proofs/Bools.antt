@@ -1,12 +1,12 @@
 -- Laws of choices, conjunction and `allBelow`. Assumes nothing.
 use mathlib.Core.Path.{_≡_, refl, sym, ap, _∙_, subst}
 use mathlib.Core.Bool.{Bool, true, false}
-use Prim.Native.Nat.{ℕ, zero, suc, _<_}
+use Prim.Native.Nat.{ℕ, zero, suc, _<_, _≤_}
 use native.Mathlib.Omega.{arith}
 use native.Mathlib.Nat.{not-suc-le-zero}
-use lib.Dec.{T, eqb}
-use borrow.Author.Tests.{eqb-true, eqb-false}
-use Rattle.basics.specs.Choice.{pick, cases, both, either, allBelow}
+use lib.Dec.{T, eqb, leb}
+use borrow.Author.Tests.{eqb-true, eqb-false, leb-true}
+use Rattle.basics.specs.Choice.{pick, cases, both, either, between, allBelow}
 
 pub no-true {ℓ} : {A : Type ℓ} → false ≡ true → A
 no-true e = absurd (subst T (sym e) tt)
@@ -33,6 +33,10 @@ pub both-false-r : (a b : Bool) → b ≡ false → both a b ≡ false
 unfolding both
 both-false-r true b p = p
 both-false-r false b p = refl
+
+pub between-true : (a b x : ℕ) → between a b x ≡ true → (a ≤ x) × (x ≤ b)
+unfolding between
+between-true a b x e = (leb-true a x (both-l _ _ e), leb-true x b (both-r _ _ e))
 
 pub all-at : (k : ℕ) (f : ℕ → Bool) → allBelow k f ≡ true → (i : ℕ) → i < k → f i ≡ true
 unfolding allBelow

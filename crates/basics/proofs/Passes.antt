@@ -24,3 +24,13 @@ module _ (f : ℕ → Bool) where
   passed-all i n g h k = let e : i ≡ n = omega arith in rw (← e) (sym (g .passed))
 
 pub ruleset passes = (passed-none, passed-more, passed-fail, passed-all)
+
+-- the same where a local n holds how many numbers there are
+module _ (f : ℕ → Bool) (i n m : ℕ) (l : n ≡ m) where
+  pub count-fail : (r : Bool) → r ≡ f i → i < n → r ≡ false → false ≡ allBelow m f
+  count-fail r g h e = passed-fail f i r g m (omega arith) e
+
+  pub count-all : Passed f i → i ≤ n → n ≤ i → true ≡ allBelow m f
+  count-all g h k = passed-all f i m g (omega arith) (omega arith)
+
+pub ruleset counts = (passed-none, passed-more, count-fail, count-all)

@@ -2,6 +2,7 @@
 use mathlib.Core.Path.{_≡_, refl}
 use mathlib.Core.Bool.{Bool, true, false}
 use Prim.Native.Nat.{ℕ, zero, suc}
+use lib.Dec.{leb}
 
 -- the first where the test holds, else the second
 abbrev pub pick {ℓ} : {A : Type ℓ} → Bool → A → A → A
@@ -17,12 +18,15 @@ cases true f g = f refl
 cases false f g = g refl
 
 unfoldable pub both : Bool → Bool → Bool
-both true b = b
-both false b = false
+both a b = pick a b false
 
 unfoldable pub either : Bool → Bool → Bool
 either true b = true
 either false b = b
+
+-- x is from a to b
+unfoldable pub between : ℕ → ℕ → ℕ → Bool
+between a b x = both (leb a x) (leb x b)
 
 -- f holds at every number below k
 unfoldable pub allBelow : ℕ → (ℕ → Bool) → Bool

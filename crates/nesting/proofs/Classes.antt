@@ -7,7 +7,7 @@ use native.Mathlib.Omega.{arith}
 use lib.Dec.{leb, eqb}
 use lib.ListN.{getD}
 use borrow.Author.Tests.{leb-true, leb-false, eqb-true, lt-ltb, le-leb, lt-leb}
-use Rattle.basics.specs.Choice.{pick, cases}
+use Rattle.basics.specs.Choice.{pick}
 use Rattle.table.specs.Table.{Table}
 use Rattle.table.specs.Entries.{stmtCount, stmtKind}
 use Rattle.nesting.specs.Nest.{classOf, class}

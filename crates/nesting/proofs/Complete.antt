@@ -1,18 +1,16 @@
 -- Where the grammar has a body, the numbers say so; and the rule is the grammar. Assumes nothing.
-use mathlib.Core.Path.{_≡_, refl, sym, ap, _∙_, subst}
-use mathlib.Core.Bool.{Bool, true, false}
-use Prim.Native.Nat.{ℕ, zero, suc, _+_, _-_, _*_, _<_, _≤_}
+use mathlib.Core.Path.{_≡_, refl, sym, _∙_}
+use mathlib.Core.Bool.{true}
+use Prim.Native.Nat.{ℕ, zero, suc, _+_, _-_, _<_, _≤_}
 use native.Mathlib.Omega.{arith}
 use native.Mathlib.Numerals.{add-one}
-use lib.Dec.{ltb, leb, eqb}
 use borrow.Author.Tests.{lt-ltb, le-leb, lt-leb, eq-eqb, ne-eqb}
-use Rattle.basics.specs.Choice.{pick, cases, both}
-use Rattle.basics.specs.Chain.{free, Chain}
+use Rattle.basics.specs.Chain.{Chain}
 use Rattle.basics.proofs.Chains.{ends, chain-none, chain-more, chain-all}
 use Rattle.table.specs.Table.{Table}
-use Rattle.table.specs.Entries.{blockCount, firstStmt, stmtCount, stmtKind, stmtA, stmtLink}
-use Rattle.nesting.specs.Nest.{class, Body, one, more, Statement, simple, group, Arm, arm, Arms, last, next, onward, stmtEnd, bodyFrom, armEnd, armsFrom, closed, bodyEnd, armsEnd, Block, block, Blocks, none, further, finished, blockEnd, blockOk, nested}
-use Rattle.nesting.proofs.Grammar.{within, body-up, stmt-up, arm-up, arms-up, stmt-in, arm-in, first-arm, first-stmt, blocks-sound}
+use Rattle.table.specs.Entries.{blockCount, firstStmt, stmtCount, stmtA, stmtLink}
+use Rattle.nesting.specs.Nest.{class, Body, one, more, Statement, simple, group, Arm, arm, Arms, last, next, stmtEnd, bodyFrom, armEnd, armsFrom, closed, bodyEnd, armsEnd, Block, block, Blocks, none, further, finished, blockEnd, blockOk, nested}
+use Rattle.nesting.proofs.Grammar.{within, body-up, stmt-up, arm-up, stmt-in, arm-in, first-arm, first-stmt, blocks-sound}
 
 module _ (T : Table) where
   mutual

@@ -1,6 +1,6 @@
 -- The rule at small tables: one that is nested, and some that are not. Assumes nothing.
 use mathlib.Core.Path.{_≡_, refl}
-use mathlib.Core.Bool.{Bool, true, false}
+use mathlib.Core.Bool.{true, false}
 use mathlib.Core.List.{List, [], _∷_}
 use Prim.Native.Nat.{ℕ}
 use lib.Dec.{eqb}
@@ -8,7 +8,7 @@ use lib.ListN.{length, getD}
 use Rattle.basics.specs.Choice.{pick, both, allBelow}
 use Rattle.basics.specs.Chain.{free, carried, chained}
 use Rattle.table.specs.Table.{Table}
-use Rattle.nesting.specs.Nest.{classOf, class, stmtEnd, bodyFrom, armEnd, closed, armsFrom, bodyEnd, armsEnd, finished, blockEnd, blockOk, nested}
+use Rattle.nesting.specs.Nest.{classOf, class, stmtEnd, bodyFrom, armEnd, closed, armsFrom, bodyEnd, finished, blockEnd, blockOk, nested}
 
 -- a statement with its kind, a and link
 abbrev stmt : ℕ → ℕ → ℕ → List ℕ

@@ -1,13 +1,12 @@
 -- What the nesting promises of each statement of a body. Assumes nothing.
-use mathlib.Core.Path.{_≡_, refl, sym, ap, _∙_, subst}
-use mathlib.Core.Bool.{Bool, true, false}
-use Prim.Native.Nat.{ℕ, zero, suc, _+_, _-_, _*_, _<_, _≤_}
+use mathlib.Core.Path.{_≡_}
+use Prim.Native.Nat.{ℕ, _+_, _-_, _<_, _≤_}
 use native.Mathlib.Omega.{arith}
-use lib.Dec.{ltb, leb, eqb}
+use lib.Dec.{ltb, eqb}
 use borrow.Author.Tests.{ltb-true, ltb-false, eqb-true, eqb-false}
-use Rattle.basics.specs.Choice.{pick, cases, both}
+use Rattle.basics.specs.Choice.{cases}
 use Rattle.table.specs.Table.{Table}
-use Rattle.table.specs.Entries.{blockCount, firstStmt, stmtCount, stmtKind, stmtA, stmtLink}
+use Rattle.table.specs.Entries.{stmtLink}
 use Rattle.nesting.specs.Nest.{class, Body, one, more, Statement, simple, group, Arm, arm, Arms, last, next}
 use Rattle.nesting.proofs.Grammar.{body-up, stmt-up, arm-up, arms-up, first-arm}
 

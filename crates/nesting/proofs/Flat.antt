@@ -1,25 +1,24 @@
 -- The laws of the numbers, in the form that `search` takes. Assumes nothing.
-use mathlib.Core.Path.{_≡_, refl, sym, ap, _∙_, subst}
-use mathlib.Core.Bool.{Bool, true, false}
+use mathlib.Core.Path.{_≡_, refl, _∙_}
+use mathlib.Core.Bool.{false}
 use Prim.Native.Nat.{ℕ, zero, suc, _+_, _-_, _*_, _<_, _≤_}
 use native.Mathlib.Omega.{arith}
-use lib.Dec.{ltb, leb, eqb}
+use lib.Dec.{eqb}
 use borrow.Author.Tests.{le-leb, lt-leb, lt-ltb, le-ltb, eq-eqb, ne-eqb}
 use borrow.Author.Needs.{needs}
 use mir.Val.{Fits}
 use mir.Syntax.{w64}
-use Rattle.basics.specs.Choice.{pick, cases}
 use Rattle.basics.specs.Chain.{Chain}
 use Rattle.table.specs.Table.{Table, tableOf}
-use Rattle.table.specs.Entries.{blockCount, firstStmt, stmtCount, stmtKind, stmtA, stmtLink}
-use Rattle.nesting.specs.Nest.{classOf, class, Statement, Body, Arm, Arms, stmtEnd, bodyFrom, armEnd, armsFrom, closed, bodyEnd, armsEnd, blockEnd, blockOk, finished, nested}
+use Rattle.table.specs.Entries.{blockCount, firstStmt, stmtCount, stmtKind, stmtLink}
+use Rattle.nesting.specs.Nest.{classOf, class, Statement, Arm, stmtEnd, bodyFrom, armEnd, armsFrom, closed, bodyEnd, armsEnd, blockEnd, blockOk, finished, nested}
 use Rattle.nesting.specs.Ends.{BodyEnds, ArmsEnds, ArmEnds, StmtEnds, BodyRest, ArmsRest}
 use Rattle.basics.proofs.Chains.{chain-none, chain-more, chain-fail, chain-all}
 use mathlib.Core.List.{List}
 use Rattle.table.specs.Reading.{Of}
 use Rattle.table.specs.declared.Sections.{Sections}
 use Rattle.table.proofs.Cells.{count-is}
-use Rattle.nesting.proofs.Grammar.{within, stmt-is, arm-is, arms-sound, body-sound, stmt-up, body-up, stmt-in, body-in, arm-up, arm-in}
+use Rattle.nesting.proofs.Grammar.{within, stmt-is, arm-is, arms-sound, body-sound, stmt-up, stmt-in, arm-up, arm-in}
 
 module _ (T : Table) where
   module _ (i c : ℕ) (k : c ≡ class T i) where

@@ -1,16 +1,16 @@
 -- Where the numbers say that there is a body, there is one of the grammar. Assumes nothing.
-use mathlib.Core.Path.{_≡_, refl, sym, ap, _∙_, subst}
+use mathlib.Core.Path.{_≡_, refl}
 use mathlib.Core.Bool.{Bool, true, false}
-use Prim.Native.Nat.{ℕ, zero, suc, _+_, _-_, _*_, _<_, _≤_}
+use Prim.Native.Nat.{ℕ, zero, suc, _+_, _-_, _<_, _≤_}
 use native.Mathlib.Omega.{arith}
 use lib.Dec.{ltb, leb, eqb}
-use borrow.Author.Tests.{ltb-true, leb-true, eqb-true, eqb-false, lt-ltb, le-ltb, le-leb, lt-leb, eq-eqb, ne-eqb}
-use Rattle.basics.specs.Choice.{pick, cases, both}
+use borrow.Author.Tests.{ltb-true, eqb-true, eqb-false}
+use Rattle.basics.specs.Choice.{pick, cases}
 use Rattle.basics.specs.Chain.{free}
 use Rattle.basics.proofs.Chains.{passes}
 use Rattle.table.specs.Table.{Table}
-use Rattle.table.specs.Entries.{blockCount, firstStmt, stmtCount, stmtKind, stmtA, stmtLink}
-use Rattle.nesting.specs.Nest.{classOf, class, Body, one, more, Statement, simple, group, Arm, arm, Arms, last, next, onward, stmtEnd, bodyFrom, armEnd, armsFrom, closed, bodyEnd, armsEnd, Block, block, Blocks, none, further, finished, blockEnd, blockOk, nested}
+use Rattle.table.specs.Entries.{blockCount, firstStmt, stmtCount, stmtA, stmtLink}
+use Rattle.nesting.specs.Nest.{class, Body, one, more, Statement, simple, group, Arm, arm, Arms, last, next, onward, stmtEnd, bodyFrom, armEnd, armsFrom, closed, bodyEnd, armsEnd, Block, block, Blocks, none, further, finished, blockEnd, blockOk, nested}
 
 module _ (T : Table) where
   -- what is no class 5 is within

@@ -1,13 +1,13 @@
 -- What an accepted nesting promises to the layers above: the statements of a block. Assumes nothing.
-use mathlib.Core.Path.{_≡_, refl, sym, ap, _∙_}
-use mathlib.Core.Bool.{Bool, true, false}
+use mathlib.Core.Path.{_≡_, refl, sym}
+use mathlib.Core.Bool.{true}
 use Prim.Native.Nat.{ℕ, zero, suc, _+_, _-_, _<_, _≤_}
 use mathlib.Core.Logic.{_⊎_, inl, inr, ⊎-elim}
 use native.Mathlib.Omega.{arith}
 use native.Mathlib.Numerals.{add-one}
 use lib.Dec.{ltb, leb, eqb}
-use borrow.Author.Tests.{ltb-true, ltb-false, leb-true, leb-false, eqb-true, eqb-false, ne-eqb, eq-eqb, lt-ltb, le-ltb}
-use Rattle.basics.specs.Choice.{pick, cases}
+use borrow.Author.Tests.{ltb-true, ltb-false, leb-true, leb-false, eqb-true, eqb-false, ne-eqb, eq-eqb}
+use Rattle.basics.specs.Choice.{cases}
 use Rattle.basics.specs.Chain.{free}
 use Rattle.basics.proofs.Chains.{passes, ends, rises}
 use Rattle.table.specs.Table.{Table}
@@ -173,7 +173,8 @@ module _ (T : Table) where
     unfolding free blockStep
     same k b l p q e =
         let f = span b l .fine k p (omega arith) .known in
-        rw (ne-eqb (class T k) 4 (λ x. omega arith)) e
+        let m = within T k (omega arith) in
+        rw (ne-eqb (stmtKind T k) 13 (λ x. omega (arith, class-block-end T k m x))) e
 
     start-0 : start 0 ≡ 0
     unfolding start free
@@ -196,7 +197,7 @@ module _ (T : Table) where
         let z = span b (omega arith) in
         let w : start (b + 1) - 1 ≡ k = omega arith in
         let c : class T k ≡ 4 = rw w at (z .«end») in
-        rw (eq-eqb (class T k) 4 c, counted k b (omega arith) (omega (arith, z .some)) (omega arith), add-one b))
+        rw (eq-eqb (stmtKind T k) 13 (block-end-kind T k c), counted k b (omega arith) (omega (arith, z .some)) (omega arith), add-one b))
 
     pub block-of : (b i : ℕ) → b < blockCount T → StmtOf T b i → blockOf T i ≡ b
     unfolding blockOf

@@ -108,7 +108,7 @@ nested T = chained (blockEnd T) (blockOk T) (blockCount T) (stmtCount T)
 
 -- the block of the statement after i, where b is that of i
 unfoldable pub blockStep : Table → ℕ → ℕ → ℕ
-blockStep T i b = pick (eqb (class T i) 4) (b + 1) b
+blockStep T i b = pick (eqb (stmtKind T i) 13) (b + 1) b
 
 -- the block of statement i: as many block ends stand before it
 unfoldable pub blockOf : Table → ℕ → ℕ

@@ -2,3 +2,4 @@ pub mod Shapes
 pub mod Numbers
 pub mod Cells
 pub mod Sectioning
+pub mod Parts

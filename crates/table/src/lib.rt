@@ -1,12 +1,13 @@
 // The table of a program, read from a lent slice of bytes: sections, rows, fields. All above this crate goes by these readers alone.
 // The width w of a field, 1 or 2, is a parameter: 1 is the small edition.
 ghost use mathlib.Core.Path.{_≡_};
-ghost use Prim.Native.Nat.{ℕ, _+_, _-_, _*_, _≤_, _<_};
+ghost use Prim.Native.Nat.{ℕ, _+_, _-_, _*_, _≤_, _<_, min};
 ghost use lib.ListN.{length, getD, take, drop};
 ghost use Rattle.table.specs.Bytes.{num, shorts, words, fields, rowSize};
 ghost use Rattle.table.specs.Table.{Table, tableOf};
 ghost use Rattle.table.specs.Entries.{declared, typeKind, typeP, typeQ, typeLow, typeHigh, fieldType, varMode, varType, blockKind, owner, firstVar, params, vars, firstStmt, space, argNode, nodeKind, nodeP, nodeQ, nodeV, stmtKind, stmtA, stmtB, stmtC, stmtD, stmtLink, typeCount, fieldCount, varCount, blockCount, argCount, nodeCount, stmtCount};
 ghost use Rattle.table.specs.Reading.{sectionAt, Of, Answers, Field, RowAt};
+ghost use Rattle.table.specs.Parts.{argumentPart, argumentIn};
 
 pub struct Sections {
     pub w: usize,
@@ -393,4 +394,38 @@ pub fn stmt_link(t: &[u8], s: Sections, i: usize) -> usize
     ensures { λ r. ⌜ Field (stmtLink (tableOf (s .w) (now (t .entry))) i) r ⌝ }
 {
     cell(t, s, 6, i, 5)
+}
+
+fn least(a: usize, b: usize) -> usize
+    ensures { λ r. ⌜ r ≡ min a b ⌝ }
+{
+    if a <= b {
+        return a;
+    }
+    b
+}
+
+// The part of the table that holds a call's arguments: `count` of them from `first` on, or as many of these as there are.
+pub fn call_arguments(t: &[u8], s: Sections, first: usize, count: usize) -> &[u8]
+    requires { ⌜ Of (now t) s ⌝ }
+    ensures { λ r. ⌜ now r ≡ argumentPart (s .w) (now (t .entry)) first count ⌝ }
+{
+    let w = s.w;
+    let n = s.counts[4];
+    let f = least(first, n);
+    let from = s.starts[4] + f * w;
+    let to = from + least(count, n - f) * w;
+    &t[from..to]
+}
+
+// Argument k of a call, 0 where its part has no such argument.
+pub fn argument(part: &[u8], w: usize, k: usize) -> usize
+    requires { ⌜ (1 ≤ w) × (w ≤ 2) × (k < 65536) ⌝ }
+    ensures { λ r. ⌜ Field (argumentIn (now (part .entry)) w k) r ⌝ }
+{
+    let at = k * w;
+    if at + w <= part.len() {
+        return number(part, at, w);
+    }
+    0
 }

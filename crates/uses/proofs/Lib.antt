@@ -1,1 +1,4 @@
 pub mod Noting
+pub mod Blanks
+pub mod Promise
+pub mod Examples

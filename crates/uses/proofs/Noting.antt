@@ -1,13 +1,13 @@
 -- Marking all uses marks each node as often as it is used, up to two. Assumes nothing.
-use Prim.Native.Nat.{ℕ, zero, suc, _+_, _≤_, _<_, min}
+use Prim.Native.Nat.{ℕ, zero, suc, _+_, _≤_, _<_}
 use mathlib.Core.Path.{_≡_, refl, sym, ap, _∙_}
-use mathlib.Core.Bool.{Bool, true, false}
+use mathlib.Core.Bool.{Bool}
 use mathlib.Core.List.{List, [], _∷_, _++_, append-nil}
 use native.Mathlib.Omega.{arith}
 use lib.ListN.{length, getD, List·getD-eq-default}
 use lib.Dec.{eqb}
 use borrow.Author.Tests.{eq-eqb, ne-eqb, eqb-true, eqb-false}
-use Rattle.basics.specs.Choice.{pick, cases, both, allBelow}
+use Rattle.basics.specs.Choice.{cases, allBelow}
 use Rattle.basics.specs.Marks.{occurs, gather, marked, Seen}
 use Rattle.basics.proofs.Marking.{length-marked, seen-zeros, seen-more, gather-more}
 use Rattle.table.specs.Table.{Table}
@@ -109,7 +109,7 @@ module _ (T : Table) (s0 s1 s2 s3 : List ℕ) (z : Blank (nodeCount T) s0)
   seen : Seen (uses T) s3
   seen = rw together (rw append-nil at (seen-all (uses T) [] s0 (seen-zeros s0 (z .zeros))))
 
-  pub marks-room : (n : ℕ) → n ≡ nodeCount T → n ≤ length s3
+  marks-room : (n : ℕ) → n ≡ nodeCount T → n ≤ length s3
   marks-room n e = rw together (simp length-all (omega (arith, z .long)))
 
   pub rule-is : (n : ℕ) (r : Bool) → n ≡ nodeCount T → r ≡ allBelow n (oneMark s3) → r ≡ usedOnce T
@@ -119,5 +119,3 @@ module _ (T : Table) (s0 s1 s2 s3 : List ℕ) (z : Blank (nodeCount T) s0)
 pub ruleset firsts = (first-none, first-one, first-both)
 
 pub ruleset rows = (rows-none, rows-more, rows-all, rows-length)
-
-pub ruleset rules = (marks-room, rule-is)

@@ -1,0 +1,18 @@
+use Rattle.basics.specs.Choice.{both}
+use Rattle.entries.specs.Known.{known}
+use Rattle.basics.proofs.Tests.{tests}
+use borrow.Author.Needs.{needs}
+use Rattle.entries.proofs.all_known.Statement.{statement}
+use Rattle.entries.proofs.all_known.Tie as tie
+
+pub all-known-spec : {M : Type 1} → statement M
+unfolding both known
+all-known-spec =
+    tie.close
+    (tie.spec
+    (λ c κs. search needs)
+    (λ c κs. search needs)
+    (λ c κs. search needs)
+    (λ c. search tests)
+    (λ c. search tests)
+    (λ c. search tests))

@@ -1,0 +1,30 @@
+use Prim.Native.Nat.{_≤_, _-_}
+use native.Mathlib.Omega.{arith}
+use borrow.Author.Needs.{needs}
+use Rattle.basics.specs.Choice.{Passed}
+use Rattle.basics.proofs.Passes.{counts}
+use Rattle.table.specs.Table.{tableOf}
+use Rattle.entries.specs.Known.{stmtKnown}
+use Rattle.entries.proofs.stmts_known.Statement.{statement}
+use Rattle.entries.proofs.stmts_known.Tie as tie
+
+abbrev Inv-loop : tie.InvT-loop
+Inv-loop t s n i₀ i = (i ≤ n) × Passed (stmtKnown (tableOf (s .w) t)) i
+
+abbrev μ-loop : tie.MeasureT-loop
+μ-loop t s n i₀ i = n - i
+
+pub stmts-known-spec : {M : Type 1} → statement M
+stmts-known-spec =
+    tie.close
+    (tie.spec
+    Inv-loop
+    μ-loop
+    (λ c κs. search needs)
+    (λ c. (omega arith, search counts))
+    (λ c κs. search needs)
+    (λ c. omega arith)
+    (λ c. omega arith)
+    (λ c. (omega arith, search counts))
+    (λ c. search counts)
+    (λ c. search counts))

@@ -1,0 +1,69 @@
+-- The marks of the modules that process types name. Assumes nothing.
+use Prim.Native.Nat.{ℕ, _+_, _≤_, _<_, min}
+use mathlib.Core.Path.{_≡_, refl, sym, ap, _∙_}
+use mathlib.Core.List.{List, [], _∷_, _++_}
+use mathlib.Core.Bool.{Bool, true, false}
+use lib.ListN.{length, getD}
+use lib.Dec.{eqb, leb}
+use borrow.Author.Tests.{eq-eqb, ne-eqb, leb-true, leb-false, le-leb, lt-leb}
+use native.Mathlib.Omega.{arith}
+use Rattle.basics.specs.Choice.{pick, cases}
+use Rattle.basics.specs.Marks.{occurs, gather, marked, Seen}
+use Rattle.basics.proofs.Marking.{length-marked, seen-zeros, seen-more, gather-more}
+use Rattle.table.specs.Table.{Table}
+use Rattle.table.specs.Entries.{typeKind, typeP, typeCount, blockCount}
+use Rattle.numbers.specs.Declarations.{moduleOf, named, namedOnce}
+use Rattle.numbers.specs.Marking.{Clear, Named, moduleMarked}
+
+module _ (T : Table) (i k : ℕ) (hk : k ≡ typeKind T (3 + i)) (l : List ℕ) where
+  pub mark-it : (p : ℕ) (r : List ℕ) → k ≡ 3 → p ≡ typeP T (3 + i) → r ≡ marked p l → r ≡ moduleMarked T i l
+  unfolding moduleMarked
+  mark-it p r e g h = rw (← hk, e, ← g) h
+
+  pub mark-not : (k ≡ 3 → ⊥) → l ≡ moduleMarked T i l
+  unfolding moduleMarked
+  mark-not e = rw (← hk, ne-eqb k 3 e)
+
+pub named-none : (T : Table) (l : List ℕ) → Clear T l → Named T 0 l
+unfolding gather
+named-none T l c = record { long = c .long; seen = seen-zeros l (c .clear) }
+
+module _ (T : Table) (i : ℕ) (l : List ℕ) (h : Named T i l) where
+  module _ (r : List ℕ) (e : r ≡ moduleMarked T i l) where
+    pub same-long : length r ≡ length l
+    unfolding moduleMarked
+    same-long =
+        cases (eqb (typeKind T (3 + i)) 3)
+        (λ q. let g : r ≡ marked (typeP T (3 + i)) l = rw q at e in ap length g ∙ length-marked (typeP T (3 + i)) l)
+        (λ q. let g : r ≡ l = rw q at e in ap length g)
+
+    seen-next : Seen (gather (moduleOf T) (i + 1)) r
+    unfolding moduleMarked moduleOf
+    seen-next =
+        cases (eqb (typeKind T (3 + i)) 3)
+        (λ q. rw (gather-more (moduleOf T) i, e, q) (seen-more (typeP T (3 + i)) (gather (moduleOf T) i) l (h .seen)))
+        (λ q. rw (gather-more (moduleOf T) i, e, q) (h .seen))
+
+    pub named-more : Named T (i + 1) r
+    named-more = record { long = omega (arith, same-long, h .long); seen = seen-next }
+
+  pub named-all : (n m : ℕ) → n ≡ m → i ≤ n → n ≤ i → Named T m l
+  named-all n m e g k = let q : i ≡ m = omega arith in rw (← q) h
+
+pub long-more : (l r l₀ : List ℕ) (T : Table) (i : ℕ) → Named T i l → r ≡ moduleMarked T i l → length l ≡ length l₀ → length r ≡ length l₀
+long-more l r l₀ T i h e g = same-long T i l h r e ∙ g
+
+-- a block's mark
+module _ (T : Table) (l : List ℕ) (h : Named T (typeCount T) l) (b : ℕ) (k : b < blockCount T) where
+  pub mark-room : b < length l
+  mark-room = omega (arith, h .long)
+
+  pub mark-once : leb (getD l b 0) 1 ≡ namedOnce T b
+  unfolding namedOnce named
+  mark-once =
+      let e : getD l b 0 ≡ min (occurs b (gather (moduleOf T) (typeCount T))) 2 = h .seen .marks b mark-room in
+      cases (leb (occurs b (gather (moduleOf T) (typeCount T))) 1)
+      (λ q. rw q (le-leb (getD l b 0) 1 (omega (arith, e, leb-true (occurs b (gather (moduleOf T) (typeCount T))) 1 q))))
+      (λ q. rw q (lt-leb (getD l b 0) 1 (omega (arith, e, leb-false (occurs b (gather (moduleOf T) (typeCount T))) 1 q))))
+
+pub ruleset marking = (mark-it, mark-not, named-none, named-more, named-all, long-more, mark-room, mark-once)

@@ -1,0 +1,6 @@
+pub mod Sorts
+pub mod Declarations
+pub mod Marking
+pub mod Blocks
+pub mod Operands
+pub mod Ranges

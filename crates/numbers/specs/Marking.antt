@@ -1,0 +1,24 @@
+-- The marks by which process types that name the same module are found. Assumes nothing.
+use Prim.Native.Nat.{ℕ, _+_, _≤_, _<_}
+use mathlib.Core.Path.{_≡_}
+use mathlib.Core.List.{List}
+use lib.ListN.{length, getD}
+use lib.Dec.{eqb}
+use Rattle.basics.specs.Choice.{pick}
+use Rattle.basics.specs.Marks.{gather, marked, Seen}
+use Rattle.table.specs.Table.{Table}
+use Rattle.table.specs.Entries.{typeKind, typeP, blockCount}
+use Rattle.numbers.specs.Declarations.{moduleOf}
+
+-- one mark for each block at least, all 0
+pub record Clear (T : Table) (l : List ℕ) : Type 0 where
+  pub long : blockCount T ≤ length l
+  pub clear : (j : ℕ) → j < length l → getD l j 0 ≡ 0
+
+-- the marks of the modules that the first i declared types name
+pub record Named (T : Table) (i : ℕ) (l : List ℕ) : Type 0 where
+  pub long : blockCount T ≤ length l
+  pub seen : Seen (gather (moduleOf T) i) l
+
+unfoldable pub moduleMarked : Table → ℕ → List ℕ → List ℕ
+moduleMarked T i l = pick (eqb (typeKind T (3 + i)) 3) (marked (typeP T (3 + i)) l) l

@@ -1,0 +1,140 @@
+-- Counting the words of a type: what a type's words are, and the laws of each return. Assumes nothing.
+use Prim.Native.Nat.{ℕ, _+_, _-_, _*_, _≤_, _<_, min}
+use mathlib.Core.Path.{_≡_, refl, sym, ap, _∙_}
+use mathlib.Core.List.{List}
+use lib.ListN.{length, getD, set, take}
+use lib.Seq.{length-take-le}
+use native.Mathlib.Omega.{arith}
+use native.Mathlib.Numerals.{add-one}
+use borrow.Author.Tests.{eq-eqb, ne-eqb, lt-ltb, le-ltb}
+use Rattle.basics.specs.Choice.{pick}
+use Rattle.basics.specs.Course.{upto, course}
+use Rattle.basics.specs.Holds.{Holds}
+use Rattle.basics.proofs.Courses.{upto-below, upto-above}
+use Rattle.basics.proofs.Holding.{holds-none, holds-more, holds-at, holds-in, holds-part}
+use Rattle.table.specs.Table.{Table, tableOf, cellAt, countAt}
+use Rattle.table.specs.Entries.{declared, typeCount, typeKind, typeP, typeQ, fieldType}
+use Rattle.types.specs.Match.{elements}
+use Rattle.sizes.specs.Sizes.{sumBelow, fieldsWords, typeWords, wordsOf, partWords, offsetIn, kept, Known, Room, Sizes}
+use Rattle.sizes.proofs.Sums.{sum-more, cap-add, cap-mul}
+
+-- the words of a type, by its kind
+module _ (T : Table) (τ : ℕ) where
+  pub words-record : typeKind T τ ≡ 1 → wordsOf T τ ≡ offsetIn T τ (typeQ T τ)
+  unfolding wordsOf course typeWords partWords offsetIn
+  words-record e = rw e
+
+  pub words-array : typeKind T τ ≡ 2 → wordsOf T τ ≡ elements T τ * partWords T τ (typeQ T τ)
+  unfolding wordsOf course typeWords partWords
+  words-array e = rw e
+
+  pub words-simple : (typeKind T τ ≡ 1 → ⊥) → (typeKind T τ ≡ 2 → ⊥) → wordsOf T τ ≡ 1
+  unfolding wordsOf course typeWords
+  words-simple a b = rw (ne-eqb (typeKind T τ) 1 a, ne-eqb (typeKind T τ) 2 b)
+
+  pub part-lower : (σ : ℕ) → σ < τ → partWords T τ σ ≡ wordsOf T σ
+  unfolding partWords wordsOf
+  part-lower σ l = upto-below 0 (typeWords T) τ σ l
+
+  pub part-none : (σ : ℕ) → τ ≤ σ → partWords T τ σ ≡ 0
+  unfolding partWords
+  part-none σ l = upto-above 0 (typeWords T) τ σ l
+
+  pub offset-none : offsetIn T τ 0 ≡ 0
+  unfolding offsetIn fieldsWords sumBelow
+  offset-none = refl
+
+  pub offset-more : (i : ℕ) → offsetIn T τ (i + 1) ≡ offsetIn T τ i + partWords T τ (fieldType T (typeP T τ + i))
+  unfolding offsetIn fieldsWords
+  offset-more i = sum-more (λ k. partWords T τ (fieldType T (typeP T τ + k))) i
+
+-- one type
+module _ (T : Table) (n : ℕ) where
+  pub known-at : (l : List ℕ) (r : ℕ) → Known T l → n < length l → r ≡ getD l n 0 → r ≡ min (wordsOf T n) 201
+  unfolding kept
+  known-at l r h k e = e ∙ h .holds .is n k
+
+  module _ (kind : ℕ) (hk : kind ≡ typeKind T n) where
+    pub w-record : (q r : ℕ) → kind ≡ 1 → q ≡ typeQ T n → r ≡ min (offsetIn T n q) 201 → r ≡ min (wordsOf T n) 201
+    w-record q r e hq h = rw (words-record T n (sym hk ∙ e), ← hq) h
+
+    pub w-array : (q c w r : ℕ) → kind ≡ 2 → q ≡ typeQ T n → q < n → c ≡ elements T n → w ≡ min (wordsOf T q) 201 → r ≡ min (c * w) 201 → r ≡ min (wordsOf T n) 201
+    w-array q c w r e hq l hc hw h =
+        rw (words-array T n (sym hk ∙ e), ← hq, part-lower T n q l, ← hc) (cap-mul 201 (wordsOf T q) w hw c r h)
+
+    pub w-none : (q : ℕ) → kind ≡ 2 → q ≡ typeQ T n → n ≤ q → 0 ≡ min (wordsOf T n) 201
+    w-none q e hq l =
+        let x : wordsOf T n ≡ elements T n * 0 = words-array T n (sym hk ∙ e) ∙ rw (← hq, part-none T n q l) in omega arith
+
+    pub w-simple : (kind ≡ 1 → ⊥) → (kind ≡ 2 → ⊥) → 1 ≡ min (wordsOf T n) 201
+    w-simple a b = let x = words-simple T n (λ e. a (hk ∙ e)) (λ e. b (hk ∙ e)) in omega arith
+
+pub ruleset counts = (known-at, w-record, w-array, w-none, w-simple)
+
+-- the fields of a record one after the other
+module _ (T : Table) (n : ℕ) where
+  pub o-none : 0 ≡ min (offsetIn T n 0) 201
+  o-none = rw (offset-none T n)
+
+  module _ (p i sum f : ℕ) (hp : p ≡ typeP T n) (hs : sum ≡ min (offsetIn T n i) 201) (hf : f ≡ fieldType T (p + i)) where
+    pub o-more : (w r : ℕ) → f < n → w ≡ min (wordsOf T f) 201 → r ≡ min (sum + w) 201 → r ≡ min (offsetIn T n (i + 1)) 201
+    o-more w r l hw h =
+        rw (offset-more T n i, ← hp, ← hf, part-lower T n f l) (cap-add 201 (offsetIn T n i) sum hs (wordsOf T f) w r hw h)
+
+    pub o-skip : n ≤ f → sum ≡ min (offsetIn T n (i + 1)) 201
+    o-skip l =
+        let x : offsetIn T n (i + 1) ≡ offsetIn T n i + 0 = offset-more T n i ∙ rw (← hp, ← hf, part-none T n f l) in omega arith
+
+  pub o-all : (k i sum : ℕ) → sum ≡ min (offsetIn T n i) 201 → i ≤ k → k ≤ i → sum ≡ min (offsetIn T n k) 201
+  o-all k i sum h a b = let e : i ≡ k = omega arith in rw (← e) h
+
+-- a part as long as it was asked for
+pub part-long : (n : ℕ) (l : List ℕ) → n ≤ length l → n ≡ length (take n l)
+part-long n l h = sym (length-take-le n l h)
+
+-- all types
+module _ (T : Table) (l : List ℕ) where
+  pub sizes-none : Holds (kept T) 0 l
+  sizes-none = holds-none (kept T) l
+
+  pub sizes-known : (n : ℕ) → Holds (kept T) n l → Known T (take n l)
+  sizes-known n h = record { holds = rw (length-take-le n l (h .long)) (holds-part (kept T) l n h) }
+
+  pub sizes-more : (n w v : ℕ) → Holds (kept T) n l → n < length l → v ≡ w → w ≡ min (wordsOf T n) 201 → Holds (kept T) (n + 1) (set l n v)
+  unfolding kept
+  sizes-more n w v h k e f = holds-more (kept T) l n v h k (e ∙ f)
+
+  module _ (c : ℕ) (e : c ≡ typeCount T) where
+    pub sizes-all : (n : ℕ) → Holds (kept T) n l → n ≤ 3 + c → 3 + c ≤ n → Sizes T l
+    sizes-all n h a b = let q : n ≡ 3 + typeCount T = omega arith in record { holds = rw q at h }
+
+    module _ (h : Sizes T l) where
+      pub sizes-in : (n : ℕ) → n < 3 + c → n < length l
+      sizes-in n k = holds-in (kept T) l (3 + typeCount T) n (h .holds) (rw e at k)
+
+      pub sizes-long : 3 + c ≤ length l
+      sizes-long = rw e (h .holds .long)
+
+      pub sizes-part : Known T (take (3 + c) l)
+      sizes-part = rw e (sizes-known (3 + typeCount T) (h .holds))
+
+      pub size-at : (n r : ℕ) → n < 3 + c → r ≡ getD l n 0 → r ≡ min (wordsOf T n) 201
+      unfolding kept
+      size-at n r k f = f ∙ h .holds .is n (rw e at k)
+
+-- numbers that no type has, and the standard types
+module _ (w : ℕ) (t : List ℕ) (τ : ℕ) where
+  kind-none : 3 + typeCount (tableOf w t) ≤ τ → typeKind (tableOf w t) τ ≡ 0
+  unfolding tableOf cellAt declared
+  kind-none h = let g : countAt w t 0 ≤ τ - 3 = omega arith in rw (le-ltb τ 3 (omega arith), le-ltb (τ - 3) (countAt w t 0) g)
+
+  pub words-far : 3 + typeCount (tableOf w t) ≤ τ → wordsOf (tableOf w t) τ ≡ 1
+  words-far h = let e = kind-none h in words-simple (tableOf w t) τ (λ q. omega arith) (λ q. omega arith)
+
+  pub size-none : (c : ℕ) → c ≡ typeCount (tableOf w t) → 3 + c ≤ τ → 1 ≡ min (wordsOf (tableOf w t) τ) 201
+  size-none c e h = let q = words-far (rw e at h) in omega arith
+
+pub words-standard : (T : Table) (τ : ℕ) → τ < 3 → wordsOf T τ ≡ 1
+unfolding declared
+words-standard T τ h =
+    let e : typeKind T τ ≡ 0 = rw (lt-ltb τ 3 h) in words-simple T τ (λ q. omega arith) (λ q. omega arith)

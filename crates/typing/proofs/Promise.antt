@@ -1,0 +1,234 @@
+-- THE PROMISE of refusal 9: what holds of each node, statement and module of a table that keeps the rule. Assumes nothing.
+use Prim.Native.Nat.{ℕ, _+_, _≤_, _<_}
+use mathlib.Core.Path.{_≡_, refl, sym, ap, _∙_}
+use mathlib.Core.Bool.{Bool, true, false}
+use lib.Dec.{eqb, leb}
+use borrow.Author.Tests.{eqb-true, leb-true, leb-false, ne-eqb, le-leb, lt-leb}
+use native.Mathlib.Omega.{arith}
+use Rattle.basics.specs.Choice.{pick, cases, allBelow}
+use Rattle.basics.proofs.Bools.{no-true, all-at}
+use Rattle.table.specs.Table.{Table}
+use Rattle.table.specs.Entries.{typeKind, typeP, varMode, varType, blockKind, owner, firstVar, params, argNode, nodeKind, nodeP, nodeQ, nodeV, stmtKind, stmtA, stmtB, stmtC, stmtD, nodeCount, stmtCount, blockCount}
+use Rattle.types.specs.Types.{typeOf}
+use Rattle.types.specs.Match.{matches}
+use Rattle.typing.specs.Typing.{isVariable, isExpression, constantTyped, elementTyped, unaryTyped, alikeTyped, binaryTyped, nodeTyped, argumentTyped, kthTyped, argumentsTyped, processCallTyped, startTyped, callTyped, writeTyped, stmtTyped, simple, paramSimple, paramsSimple, typed}
+
+-- the argument node n suits the parameter x
+pub record Suits (T : Table) (x n : ℕ) : Type 0 where
+  -- a var parameter: a variable of the same type
+  pub variable : varMode T x ≡ 2 → (1 ≤ nodeKind T n) × (nodeKind T n ≤ 3)
+  pub same : varMode T x ≡ 2 → typeOf T n ≡ varType T x
+  -- another: an expression of a matching type
+  pub expression : (varMode T x ≡ 2 → ⊥) → (nodeKind T n ≤ 7) × (1 ≤ nodeKind T n → 4 ≤ nodeKind T n)
+  pub matching : (varMode T x ≡ 2 → ⊥) → matches T (typeOf T n) (varType T x) ≡ true
+
+-- the d arguments from c on suit the parameters of block b
+pub record Arguments (T : Table) (b c d : ℕ) : Type 0 where
+  pub count : d ≡ params T b
+  pub each : (k : ℕ) → k < d → Suits T (firstVar T b + k) (argNode T (c + k))
+
+-- a test that led to true held, and so did what follows it
+first : (c d : Bool) → pick c d false ≡ true → c ≡ true
+first true d h = refl
+first false d h = no-true h
+
+next : (c d : Bool) → pick c d false ≡ true → d ≡ true
+next true d h = h
+next false d h = no-true h
+
+module _ (T : Table) where
+  variable-kinds : (n : ℕ) → isVariable T n ≡ true → (1 ≤ nodeKind T n) × (nodeKind T n ≤ 3)
+  unfolding isVariable
+  variable-kinds n h = (leb-true 1 (nodeKind T n) (first _ _ h), leb-true (nodeKind T n) 3 (next (leb 1 (nodeKind T n)) _ h))
+
+  expression-kinds : (n : ℕ) → isExpression T n ≡ true → (nodeKind T n ≤ 7) × (1 ≤ nodeKind T n → 4 ≤ nodeKind T n)
+  unfolding isExpression
+  expression-kinds n h =
+      cases (eqb (nodeKind T n) 0)
+      (λ e. let z = eqb-true (nodeKind T n) 0 e in (omega arith, λ l. absurd (omega arith)))
+      (λ e.
+      let g : pick (leb 4 (nodeKind T n)) (leb (nodeKind T n) 7) false ≡ true = rw e at h in
+      (leb-true (nodeKind T n) 7 (next (leb 4 (nodeKind T n)) _ g), λ l. leb-true 4 (nodeKind T n) (first _ _ g)))
+
+  suits : (x n : ℕ) → argumentTyped T x n ≡ true → Suits T x n
+  unfolding argumentTyped
+  suits x n h =
+      record {
+        variable = λ e. variable-kinds n (first _ _ (var e));
+        same = λ e. eqb-true (typeOf T n) (varType T x) (next (isVariable T n) _ (var e));
+        expression = λ e. expression-kinds n (first _ _ (value e));
+        matching = λ e. next (isExpression T n) _ (value e);
+      }
+    where
+      var : varMode T x ≡ 2 → pick (isVariable T n) (eqb (typeOf T n) (varType T x)) false ≡ true
+      var e = rw e at h
+
+      value : (varMode T x ≡ 2 → ⊥) → pick (isExpression T n) (matches T (typeOf T n) (varType T x)) false ≡ true
+      value e = rw (ne-eqb (varMode T x) 2 e) at h
+
+  arguments : (b c d : ℕ) → argumentsTyped T b c d ≡ true → Arguments T b c d
+  unfolding argumentsTyped kthTyped
+  arguments b c d h =
+      record {
+        count = eqb-true d (params T b) (first _ _ h);
+        each = λ k l. suits (firstVar T b + k) (argNode T (c + k)) (all-at d (kthTyped T (firstVar T b) c) (next (eqb d (params T b)) _ h) k l);
+      }
+
+module _ (T : Table) (h : typed T ≡ true) where
+  nodes : allBelow (nodeCount T) (nodeTyped T) ≡ true
+  unfolding typed
+  nodes = first _ _ h
+
+  rest : pick (allBelow (stmtCount T) (stmtTyped T)) (allBelow (blockCount T) (paramsSimple T)) false ≡ true
+  unfolding typed
+  rest = next (allBelow (nodeCount T) (nodeTyped T)) _ h
+
+  -- nodes
+  module _ (n : ℕ) (l : n < nodeCount T) where
+    node : nodeTyped T n ≡ true
+    node = all-at (nodeCount T) (nodeTyped T) nodes n l
+
+    module _ (k : nodeKind T n ≡ 0) where
+      pub boolean-constant : nodeP T n ≡ 1 → nodeV T n ≤ 1
+      unfolding nodeTyped constantTyped
+      boolean-constant e = leb-true (nodeV T n) 1 (rw (k, e) at node)
+
+      pub character-constant : nodeP T n ≡ 2 → nodeV T n ≤ 127
+      unfolding nodeTyped constantTyped
+      character-constant e = leb-true (nodeV T n) 127 (rw (k, e) at node)
+
+    pub field-of-record : nodeKind T n ≡ 2 → typeKind T (typeOf T (nodeP T n)) ≡ 1
+    unfolding nodeTyped
+    field-of-record k = eqb-true (typeKind T (typeOf T (nodeP T n))) 1 (rw k at node)
+
+    module _ (k : nodeKind T n ≡ 3) where
+      element : pick (eqb (typeKind T (typeOf T (nodeP T n))) 2) (eqb (typeOf T (nodeQ T n)) (typeP T (typeOf T (nodeP T n)))) false ≡ true
+      unfolding nodeTyped elementTyped
+      element = rw k at node
+
+      pub element-of-array : typeKind T (typeOf T (nodeP T n)) ≡ 2
+      element-of-array = eqb-true (typeKind T (typeOf T (nodeP T n))) 2 (first _ _ element)
+
+      pub index-type : typeOf T (nodeQ T n) ≡ typeP T (typeOf T (nodeP T n))
+      index-type = eqb-true (typeOf T (nodeQ T n)) (typeP T (typeOf T (nodeP T n))) (next (eqb (typeKind T (typeOf T (nodeP T n))) 2) _ element)
+
+    module _ (k : nodeKind T n ≡ 5) where
+      pub not-operand : nodeQ T n ≡ 2 → typeOf T (nodeP T n) ≤ 1
+      unfolding nodeTyped unaryTyped
+      not-operand e = leb-true (typeOf T (nodeP T n)) 1 (rw (k, e) at node)
+
+      pub integer-operand : (nodeQ T n ≡ 2 → ⊥) → typeOf T (nodeP T n) ≡ 0
+      unfolding nodeTyped unaryTyped
+      integer-operand e = eqb-true (typeOf T (nodeP T n)) 0 (rw (k, ne-eqb (nodeQ T n) 2 e) at node)
+
+    module _ (k : nodeKind T n ≡ 6) where
+      pub equality-operands : nodeV T n ≤ 2 → matches T (typeOf T (nodeP T n)) (typeOf T (nodeQ T n)) ≡ true
+      unfolding nodeTyped binaryTyped
+      equality-operands v = rw (k, le-leb (nodeV T n) 2 v) at node
+
+      module _ (v : 3 ≤ nodeV T n) where
+        alike : pick (eqb (typeOf T (nodeP T n)) (typeOf T (nodeQ T n))) (alikeTyped (nodeV T n) (typeOf T (nodeP T n))) false ≡ true
+        unfolding nodeTyped binaryTyped
+        alike = rw (k, lt-leb (nodeV T n) 2 v) at node
+
+        alike-type : alikeTyped (nodeV T n) (typeOf T (nodeP T n)) ≡ true
+        alike-type = next (eqb (typeOf T (nodeP T n)) (typeOf T (nodeQ T n))) _ alike
+
+        pub same-operands : typeOf T (nodeP T n) ≡ typeOf T (nodeQ T n)
+        same-operands = eqb-true (typeOf T (nodeP T n)) (typeOf T (nodeQ T n)) (first _ _ alike)
+
+        pub order-operands : nodeV T n ≤ 6 → typeOf T (nodeP T n) ≤ 2
+        unfolding alikeTyped
+        order-operands w = leb-true (typeOf T (nodeP T n)) 2 (rw (le-leb (nodeV T n) 6 w) at alike-type)
+
+      pub arithmetic-operands : 7 ≤ nodeV T n → nodeV T n ≤ 11 → typeOf T (nodeP T n) ≡ 0
+      unfolding alikeTyped
+      arithmetic-operands v w = eqb-true (typeOf T (nodeP T n)) 0 (rw (lt-leb (nodeV T n) 6 v, le-leb (nodeV T n) 11 w) at (alike-type (omega arith)))
+
+      pub logic-operands : 12 ≤ nodeV T n → typeOf T (nodeP T n) ≤ 1
+      unfolding alikeTyped
+      logic-operands v =
+          let w : 7 ≤ nodeV T n = omega arith in
+          leb-true (typeOf T (nodeP T n)) 1 (rw (lt-leb (nodeV T n) 6 w, lt-leb (nodeV T n) 11 v) at (alike-type (omega arith)))
+
+    pub transfer-operand : nodeKind T n ≡ 7 → typeOf T (nodeP T n) ≤ 2
+    unfolding nodeTyped
+    transfer-operand k = leb-true (typeOf T (nodeP T n)) 2 (rw k at node)
+
+  -- statements
+  module _ (i : ℕ) (l : i < stmtCount T) where
+    stmt : stmtTyped T i ≡ true
+    stmt = all-at (stmtCount T) (stmtTyped T) (first _ _ rest) i l
+
+    pub assignment : stmtKind T i ≡ 1 → matches T (typeOf T (stmtA T i)) (typeOf T (stmtB T i)) ≡ true
+    unfolding stmtTyped
+    assignment k = rw k at stmt
+
+    pub local-call : stmtKind T i ≡ 2 → Arguments T (stmtA T i) (stmtC T i) (stmtD T i)
+    unfolding stmtTyped callTyped
+    local-call k = arguments T (stmtA T i) (stmtC T i) (stmtD T i) (rw k at stmt)
+
+    module _ (k : stmtKind T i ≡ 3) where
+      process-call : pick (eqb (typeKind T (typeOf T (stmtA T i))) 3) (pick (eqb (owner T (stmtB T i)) (typeP T (typeOf T (stmtA T i)))) (argumentsTyped T (stmtB T i) (stmtC T i) (stmtD T i)) false) false ≡ true
+      unfolding stmtTyped callTyped processCallTyped
+      process-call = rw k at stmt
+
+      pub called-variable : typeKind T (typeOf T (stmtA T i)) ≡ 3
+      called-variable = eqb-true (typeKind T (typeOf T (stmtA T i))) 3 (first _ _ process-call)
+
+      called : pick (eqb (owner T (stmtB T i)) (typeP T (typeOf T (stmtA T i)))) (argumentsTyped T (stmtB T i) (stmtC T i) (stmtD T i)) false ≡ true
+      called = next (eqb (typeKind T (typeOf T (stmtA T i))) 3) _ process-call
+
+      pub called-owner : owner T (stmtB T i) ≡ typeP T (typeOf T (stmtA T i))
+      called-owner = eqb-true (owner T (stmtB T i)) (typeP T (typeOf T (stmtA T i))) (first _ _ called)
+
+      pub called-arguments : Arguments T (stmtB T i) (stmtC T i) (stmtD T i)
+      called-arguments = arguments T (stmtB T i) (stmtC T i) (stmtD T i) (next (eqb (owner T (stmtB T i)) (typeP T (typeOf T (stmtA T i)))) _ called)
+
+    pub created-variable : stmtKind T i ≡ 4 → typeKind T (typeOf T (stmtA T i)) ≡ 3
+    unfolding stmtTyped callTyped
+    created-variable k = eqb-true (typeKind T (typeOf T (stmtA T i))) 3 (rw k at stmt)
+
+    module _ (k : stmtKind T i ≡ 5) where
+      start : pick (eqb (typeKind T (typeOf T (stmtA T i))) 3) (argumentsTyped T (typeP T (typeOf T (stmtA T i))) (stmtC T i) (stmtD T i)) false ≡ true
+      unfolding stmtTyped callTyped startTyped
+      start = rw k at stmt
+
+      pub started-variable : typeKind T (typeOf T (stmtA T i)) ≡ 3
+      started-variable = eqb-true (typeKind T (typeOf T (stmtA T i))) 3 (first _ _ start)
+
+      pub started-arguments : Arguments T (typeP T (typeOf T (stmtA T i))) (stmtC T i) (stmtD T i)
+      started-arguments = arguments T (typeP T (typeOf T (stmtA T i))) (stmtC T i) (stmtD T i) (next (eqb (typeKind T (typeOf T (stmtA T i))) 3) _ start)
+
+    pub guard : stmtKind T i ≡ 10 → typeOf T (stmtA T i) ≡ 1
+    unfolding stmtTyped
+    guard k = eqb-true (typeOf T (stmtA T i)) 1 (rw k at stmt)
+
+    module _ (k : stmtKind T i ≡ 12) where
+      write : pick (eqb (typeOf T (stmtA T i)) 0) (eqb (typeOf T (stmtB T i)) 0) false ≡ true
+      unfolding stmtTyped writeTyped
+      write = rw k at stmt
+
+      pub written-address : typeOf T (stmtA T i) ≡ 0
+      written-address = eqb-true (typeOf T (stmtA T i)) 0 (first _ _ write)
+
+      pub written-value : typeOf T (stmtB T i) ≡ 0
+      written-value = eqb-true (typeOf T (stmtB T i)) 0 (next (eqb (typeOf T (stmtA T i)) 0) _ write)
+
+  -- the parameters of modules
+  module _ (b : ℕ) (l : b < blockCount T) (m : blockKind T b ≡ 1) (k : ℕ) (g : k < params T b) where
+    block : paramsSimple T b ≡ true
+    block = all-at (blockCount T) (paramsSimple T) (next (allBelow (stmtCount T) (stmtTyped T)) _ rest) b l
+
+    param : pick (eqb (varMode T (firstVar T b + k)) 1) (simple T (varType T (firstVar T b + k))) false ≡ true
+    unfolding paramsSimple paramSimple
+    param = all-at (params T b) (paramSimple T (firstVar T b)) (rw m at block) k g
+
+    pub module-param : varMode T (firstVar T b + k) ≡ 1
+    module-param = eqb-true (varMode T (firstVar T b + k)) 1 (first _ _ param)
+
+    pub module-param-type : 3 ≤ varType T (firstVar T b + k) → typeKind T (varType T (firstVar T b + k)) ≡ 3
+    unfolding simple
+    module-param-type z =
+        eqb-true (typeKind T (varType T (firstVar T b + k))) 3
+        (rw (lt-leb (varType T (firstVar T b + k)) 2 z) at (next (eqb (varMode T (firstVar T b + k)) 1) _ param))

@@ -1,0 +1,28 @@
+use Rattle.typing.proofs.Rows.{kinds}
+use Rattle.typing.specs.Typing.{callTyped}
+use borrow.Author.Needs.{needs}
+use Rattle.typing.proofs.call_typed.Statement.{statement}
+use Rattle.typing.proofs.call_typed.Tie as tie
+
+pub call-typed-spec : {M : Type 1} → statement M
+unfolding callTyped
+call-typed-spec =
+    tie.close
+    (tie.spec
+    (λ c κs. search needs)
+    (λ c κs. search needs)
+    (λ c κs. search needs)
+    (λ c κs. search needs)
+    (λ c κs. search needs)
+    (λ c. search kinds depth 10)
+    (λ c κs. search needs)
+    (λ c κs. search needs)
+    (λ c κs. search needs)
+    (λ c. search kinds depth 10)
+    (λ c κs. search needs)
+    (λ c κs. search needs)
+    (λ c. search kinds depth 10)
+    (λ c κs. search needs)
+    (λ c κs. search needs)
+    (λ c. search kinds depth 10)
+    (λ c. search kinds depth 10))
