@@ -1,22 +1,21 @@
 -- Counting the words of a type: what a type's words are, and the laws of each return. Assumes nothing.
-use Prim.Native.Nat.{ℕ, _+_, _-_, _*_, _≤_, _<_, min}
-use mathlib.Core.Path.{_≡_, refl, sym, ap, _∙_}
+use Prim.Native.Nat.{ℕ, suc, _+_, _-_, _*_, _≤_, _<_, min}
+use mathlib.Core.Path.{_≡_, refl, sym, _∙_}
 use mathlib.Core.List.{List}
 use lib.ListN.{length, getD, set, take}
 use lib.Seq.{length-take-le}
 use native.Mathlib.Omega.{arith}
-use native.Mathlib.Numerals.{add-one}
-use borrow.Author.Tests.{eq-eqb, ne-eqb, lt-ltb, le-ltb}
-use Rattle.basics.specs.Choice.{pick}
-use Rattle.basics.specs.Course.{upto, course}
+use native.Mathlib.Nat.{suc-mul, mul-le-mul-right}
+use borrow.Author.Tests.{ne-eqb, lt-ltb, le-ltb}
+use Rattle.basics.specs.Course.{course}
 use Rattle.basics.specs.Holds.{Holds}
 use Rattle.basics.proofs.Courses.{upto-below, upto-above}
-use Rattle.basics.proofs.Holding.{holds-none, holds-more, holds-at, holds-in, holds-part}
+use Rattle.basics.proofs.Holding.{holds-none, holds-more, holds-part}
 use Rattle.table.specs.Table.{Table, tableOf, cellAt, countAt}
-use Rattle.table.specs.Entries.{declared, typeCount, typeKind, typeP, typeQ, fieldType}
-use Rattle.types.specs.Match.{elements}
-use Rattle.sizes.specs.Sizes.{sumBelow, fieldsWords, typeWords, wordsOf, partWords, offsetIn, kept, Known, Room, Sizes}
-use Rattle.sizes.proofs.Sums.{sum-more, cap-add, cap-mul}
+use Rattle.table.specs.Entries.{declared, typeCount, typeKind, typeP, typeQ, typeLow, typeHigh, fieldType}
+use Rattle.types.specs.Match.{offset, span, elements}
+use Rattle.sizes.specs.Sizes.{sumBelow, fieldsWords, typeWords, wordsOf, partWords, offsetIn, kept, Known, Sizes}
+use Rattle.sizes.proofs.Sums.{sum-more, sum-up, cap-add, cap-mul}
 
 -- the words of a type, by its kind
 module _ (T : Table) (τ : ℕ) where
@@ -47,6 +46,35 @@ module _ (T : Table) (τ : ℕ) where
   pub offset-more : (i : ℕ) → offsetIn T τ (i + 1) ≡ offsetIn T τ i + partWords T τ (fieldType T (typeP T τ + i))
   unfolding offsetIn fieldsWords
   offset-more i = sum-more (λ k. partWords T τ (fieldType T (typeP T τ + k))) i
+
+-- where the parts of a record or an array lie: within it, if they have lower numbers
+module _ (T : Table) (τ : ℕ) where
+  offset-up : (i k : ℕ) → i ≤ k → offsetIn T τ i ≤ offsetIn T τ k
+  unfolding offsetIn fieldsWords
+  offset-up i k l = sum-up (λ n. partWords T τ (fieldType T (typeP T τ + n))) i k l
+
+  module _ (e : typeKind T τ ≡ 1) (i : ℕ) where
+    pub offset-in : i ≤ typeQ T τ → offsetIn T τ i ≤ wordsOf T τ
+    offset-in l = rw (words-record T τ e) (offset-up i (typeQ T τ) l)
+
+    pub field-in : i < typeQ T τ → fieldType T (typeP T τ + i) < τ → offsetIn T τ i + wordsOf T (fieldType T (typeP T τ + i)) ≤ wordsOf T τ
+    field-in l g =
+        let u : offsetIn T τ (i + 1) ≡ offsetIn T τ i + wordsOf T (fieldType T (typeP T τ + i)) = offset-more T τ i ∙ rw (part-lower T τ (fieldType T (typeP T τ + i)) g) in
+        let v = offset-up (i + 1) (typeQ T τ) (omega arith) in
+        let x = words-record T τ e in
+        omega arith
+
+  -- the place of an index value between the bounds
+  pub index-in : (v : ℕ) → offset (typeLow T τ) ≤ offset v → offset v ≤ offset (typeHigh T τ) → offset v - offset (typeLow T τ) < elements T τ
+  unfolding elements span
+  index-in v l g = omega arith
+
+  pub element-in : (j : ℕ) → typeKind T τ ≡ 2 → typeQ T τ < τ → j < elements T τ → j * wordsOf T (typeQ T τ) + wordsOf T (typeQ T τ) ≤ wordsOf T τ
+  element-in j e g l =
+      let u : wordsOf T τ ≡ elements T τ * wordsOf T (typeQ T τ) = words-array T τ e ∙ rw (part-lower T τ (typeQ T τ) g) in
+      let v : suc j * wordsOf T (typeQ T τ) ≤ elements T τ * wordsOf T (typeQ T τ) = mul-le-mul-right (wordsOf T (typeQ T τ)) l in
+      let x = suc-mul j (wordsOf T (typeQ T τ)) in
+      omega arith
 
 -- one type
 module _ (T : Table) (n : ℕ) where
@@ -109,9 +137,6 @@ module _ (T : Table) (l : List ℕ) where
     sizes-all n h a b = let q : n ≡ 3 + typeCount T = omega arith in record { holds = rw q at h }
 
     module _ (h : Sizes T l) where
-      pub sizes-in : (n : ℕ) → n < 3 + c → n < length l
-      sizes-in n k = holds-in (kept T) l (3 + typeCount T) n (h .holds) (rw e at k)
-
       pub sizes-long : 3 + c ≤ length l
       sizes-long = rw e (h .holds .long)
 

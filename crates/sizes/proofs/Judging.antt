@@ -1,19 +1,19 @@
 -- Judging types and blocks: the laws of each return. Assumes nothing.
-use Prim.Native.Nat.{ℕ, zero, suc, _+_, _-_, _*_, _%_, _≤_, _<_, min}
-use mathlib.Core.Path.{_≡_, refl, sym, ap, _∙_}
+use Prim.Native.Nat.{ℕ, _+_, _-_, _%_, _≤_, _<_, min}
+use mathlib.Core.Path.{_≡_, refl}
 use mathlib.Core.Bool.{Bool, true, false}
 use mathlib.Core.List.{List}
 use lib.Dec.{eqb, leb, ltb}
 use native.Mathlib.Omega.{arith}
 use borrow.Author.Tests.{le-leb, lt-leb, leb-true, ltb-true, ltb-false}
-use Rattle.basics.specs.Choice.{pick, cases, both, allBelow, Passed}
+use Rattle.basics.specs.Choice.{cases, allBelow, Passed}
 use Rattle.basics.proofs.Passes.{passed-fail, passed-all}
 use Rattle.basics.proofs.Bools.{all-at, no-true}
 use Rattle.table.specs.Table.{Table, tableOf}
-use Rattle.table.specs.Entries.{typeCount, typeKind, typeP, typeQ, typeLow, typeHigh, varType, firstVar, vars}
+use Rattle.table.specs.Entries.{typeCount, typeLow, typeHigh, varType, firstVar, vars}
 use Rattle.types.specs.Match.{offset, span, elements}
 use Rattle.sizes.specs.Sizes.{sumBelow, wordsOf, inIndex, boundsOk, evenString, typeOk, typeSized, typesSized, varOffset, moduleWords}
-use Rattle.sizes.proofs.Sums.{sum-more, cap-add, type-small, module-small}
+use Rattle.sizes.proofs.Sums.{sum-more, sum-up, cap-add, module-small}
 use Rattle.sizes.proofs.Counting.{words-far, words-standard}
 
 -- an array has elements where its low is not above its high
@@ -84,6 +84,14 @@ pub var-more : (T : Table) (b i : ℕ) → varOffset T b (i + 1) ≡ varOffset T
 unfolding varOffset
 var-more T b i = sum-more (λ k. wordsOf T (varType T (firstVar T b + k))) i
 
+pub var-offset-in : (T : Table) (b i : ℕ) → i ≤ vars T b → varOffset T b i ≤ moduleWords T b
+unfolding moduleWords varOffset
+var-offset-in T b i l = sum-up (λ n. wordsOf T (varType T (firstVar T b + n))) i (vars T b) l
+
+-- a variable lies within those of its block
+pub var-in : (T : Table) (b i : ℕ) → i < vars T b → varOffset T b i + wordsOf T (varType T (firstVar T b + i)) ≤ moduleWords T b
+var-in T b i l = let e = var-more T b i in let u = var-offset-in T b (i + 1) (omega arith) in omega arith
+
 module _ (w : ℕ) (t : List ℕ) (h : typesSized (tableOf w t) ≡ true) where
   pub any-small : (τ : ℕ) → wordsOf (tableOf w t) τ ≤ 200
   any-small τ =
@@ -92,8 +100,8 @@ module _ (w : ℕ) (t : List ℕ) (h : typesSized (tableOf w t) ≡ true) where
       (λ e. let q = words-far w t τ (ltb-false τ (3 + typeCount (tableOf w t)) e) in omega arith)
 
   pub v-more : (b p i sum x y r : ℕ) → p ≡ firstVar (tableOf w t) b → sum ≡ min (varOffset (tableOf w t) b i) 257
-    → x ≡ varType (tableOf w t) (p + i) → y ≡ min (wordsOf (tableOf w t) x) 201 → r ≡ min (sum + y) 257
-    → r ≡ min (varOffset (tableOf w t) b (i + 1)) 257
+      → x ≡ varType (tableOf w t) (p + i) → y ≡ min (wordsOf (tableOf w t) x) 201 → r ≡ min (sum + y) 257
+      → r ≡ min (varOffset (tableOf w t) b (i + 1)) 257
   v-more b p i sum x y r hp hs hx hy e =
       let l = any-small x in
       rw (var-more (tableOf w t) b i, ← hp, ← hx)

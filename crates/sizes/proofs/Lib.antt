@@ -1,3 +1,5 @@
 pub mod Sums
 pub mod Counting
 pub mod Judging
+pub mod Promise
+pub mod Examples

@@ -1,15 +1,14 @@
 -- Sums of what a function gives, and numbers that are kept up to a limit. Assumes nothing.
 use Prim.Native.Nat.{ℕ, zero, suc, _+_, _*_, _≤_, _<_, min}
-use mathlib.Core.Path.{_≡_, refl, sym, ap, _∙_}
-use mathlib.Core.Bool.{Bool, true, false}
+use mathlib.Core.Path.{_≡_, refl}
 use native.Mathlib.Numerals.{add-one}
 use native.Mathlib.Nat.{mul-le-mul, mul-le-mul-right}
 use native.Mathlib.Omega.{arith}
 use lib.Dec.{leb}
-use borrow.Author.Tests.{leb-true, leb-false, le-leb, lt-leb}
+use borrow.Author.Tests.{leb-true, leb-false, lt-leb}
 use mir.Val.{Fits}
 use mir.Syntax.{w64}
-use Rattle.basics.specs.Choice.{pick, cases}
+use Rattle.basics.specs.Choice.{cases}
 use Rattle.sizes.specs.Sizes.{sumBelow}
 
 pub sum-more : (f : ℕ → ℕ) (i : ℕ) → sumBelow (i + 1) f ≡ sumBelow i f + f i
