@@ -1,0 +1,135 @@
+-- The entries of a table as constructors (01, The table). An entry that does not exist, or of an unknown kind, is none. Assumes nothing.
+use Prim.Native.Nat.{ℕ, _+_}
+use mathlib.Core.Bool.{Bool, true, false}
+use lib.Dec.{eqb, ltb}
+use Rattle.basics.specs.Choice.{pick}
+use Rattle.table.specs.Table.{Table}
+use Rattle.table.specs.Entries.{typeCount, nodeCount, stmtCount, typeKind, typeP, typeQ, typeLow, typeHigh, nodeKind, nodeP, nodeQ, nodeV, stmtKind, stmtA, stmtB, stmtC, stmtD, stmtLink}
+
+-- a record type has its first field and the number of fields, an array type its index type, element type and bounds,
+-- a process type its module
+pub data TypeEntry : Type 0 where
+  integer boolean character : TypeEntry
+  recordType : ℕ → ℕ → TypeEntry
+  arrayType : ℕ → ℕ → ℕ → ℕ → TypeEntry
+  processType : ℕ → TypeEntry
+  noType : TypeEntry
+
+unfoldable pub typeAt : Table → ℕ → TypeEntry
+typeAt T τ =
+    pick (eqb τ 0) integer
+    (pick (eqb τ 1) boolean
+    (pick (eqb τ 2) character
+    (pick (eqb (typeKind T τ) 1) (recordType (typeP T τ) (typeQ T τ))
+    (pick (eqb (typeKind T τ) 2) (arrayType (typeP T τ) (typeQ T τ) (typeLow T τ) (typeHigh T τ))
+    (pick (eqb (typeKind T τ) 3) (processType (typeP T τ))
+    noType)))))
+
+-- sign inversion, negation, and the value of a device location (10.2, 10.3)
+pub data Unary : Type 0 where
+  minus not val : Unary
+  noUnary : Unary
+
+unfoldable pub unaryAt : ℕ → Unary
+unaryAt o = pick (eqb o 1) minus (pick (eqb o 2) not (pick (eqb o 3) val noUnary))
+
+-- the relations (10.1), + - * / mod (10.2), and, or (10.2, 10.3)
+pub data Binary : Type 0 where
+  equal notEqual less notGreater greater notLess : Binary
+  add subtract multiply divide modulus : Binary
+  and or : Binary
+  noBinary : Binary
+
+unfoldable pub binaryAt : ℕ → Binary
+binaryAt o =
+    pick (eqb o 1) equal (pick (eqb o 2) notEqual
+    (pick (eqb o 3) less (pick (eqb o 4) notGreater (pick (eqb o 5) greater (pick (eqb o 6) notLess
+    (pick (eqb o 7) add (pick (eqb o 8) subtract (pick (eqb o 9) multiply (pick (eqb o 10) divide (pick (eqb o 11) modulus
+    (pick (eqb o 12) and (pick (eqb o 13) or
+    noBinary))))))))))))
+
+-- variables: whole (8.3), field (8.4), indexed (8.5). Expressions: constant (6), retrieval of a variable (8.7), operators (10), type transfer (9.2)
+pub data Node : Type 0 where
+  constant : ℕ → ℕ → Node
+  whole : ℕ → Node
+  field : ℕ → ℕ → Node
+  element : ℕ → ℕ → Node
+  retrieve : ℕ → Node
+  unary : Unary → ℕ → Node
+  binary : Binary → ℕ → ℕ → Node
+  transfer : ℕ → ℕ → Node
+  noNode : Node
+
+-- a node of kind k with its fields p, q and v
+unfoldable pub nodeOf : ℕ → ℕ → ℕ → ℕ → Node
+nodeOf k p q v =
+    pick (eqb k 0) (constant p v)
+    (pick (eqb k 1) (whole p)
+    (pick (eqb k 2) (field p q)
+    (pick (eqb k 3) (element p q)
+    (pick (eqb k 4) (retrieve p)
+    (pick (eqb k 5) (unary (unaryAt q) p)
+    (pick (eqb k 6) (binary (binaryAt v) p q)
+    (pick (eqb k 7) (transfer p q)
+    noNode)))))))
+
+unfoldable pub nodeAt : Table → ℕ → Node
+nodeAt T n = pick (ltb n (nodeCount T)) (nodeOf (nodeKind T n) (nodeP T n) (nodeQ T n) (nodeV T n)) noNode
+
+-- the structured statements (11.7 to 11.10)
+pub data Opener : Type 0 where
+  if while when cycle : Opener
+
+-- when no guard is true, a when or cycle is blocked
+unfoldable pub waits : Opener → Bool
+waits if = false
+waits while = false
+waits when = true
+waits cycle = true
+
+-- a while or cycle executes its conditional statements again
+unfoldable pub repeats : Opener → Bool
+repeats if = false
+repeats while = true
+repeats when = false
+repeats cycle = true
+
+-- the numbers c and d of a call or start are its first argument and their count; those of an arm are its guard and link
+pub data Statement : Type 0 where
+  skip : Statement
+  assign : ℕ → ℕ → Statement
+  localCall : ℕ → ℕ → ℕ → Statement
+  processCall : ℕ → ℕ → ℕ → ℕ → Statement
+  create : ℕ → Statement
+  start : ℕ → ℕ → ℕ → Statement
+  opener : Opener → Statement
+  arm : ℕ → ℕ → Statement
+  endArms : ℕ → Statement
+  write : ℕ → ℕ → Statement
+  blockEnd : Statement
+  noStatement : Statement
+
+-- a statement of kind k
+unfoldable pub statementOf : ℕ → ℕ → ℕ → ℕ → ℕ → ℕ → Statement
+statementOf k a b c d link =
+    pick (eqb k 0) skip
+    (pick (eqb k 1) (assign a b)
+    (pick (eqb k 2) (localCall a c d)
+    (pick (eqb k 3) (processCall a b c d)
+    (pick (eqb k 4) (create a)
+    (pick (eqb k 5) (start a c d)
+    (pick (eqb k 6) (opener if)
+    (pick (eqb k 7) (opener while)
+    (pick (eqb k 8) (opener when)
+    (pick (eqb k 9) (opener cycle)
+    (pick (eqb k 10) (arm a link)
+    (pick (eqb k 11) (endArms link)
+    (pick (eqb k 12) (write a b)
+    (pick (eqb k 13) blockEnd
+    noStatement)))))))))))))
+
+unfoldable pub stmtAt : Table → ℕ → Statement
+stmtAt T i =
+    pick (ltb i (stmtCount T))
+    (statementOf (stmtKind T i) (stmtA T i) (stmtB T i) (stmtC T i) (stmtD T i) (stmtLink T i))
+    noStatement

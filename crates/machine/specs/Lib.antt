@@ -1,0 +1,15 @@
+pub mod Memory
+pub mod Layout
+pub mod Outcomes
+pub mod Entries
+pub mod Variables
+pub mod Context
+pub mod Operands
+pub mod Calls
+pub mod Processes
+pub mod Statements
+pub mod Step
+pub mod Run
+pub mod Values
+pub mod Rule
+pub mod Public

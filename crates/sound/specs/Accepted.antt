@@ -1,0 +1,16 @@
+-- All that the stepper may use of a table: it keeps the rules 3 to 9. Assumes nothing.
+use mathlib.Core.Path.{_≡_}
+use mathlib.Core.Bool.{true}
+use Rattle.table.specs.Table.{Table}
+use Rattle.entries.specs.Known.{known}
+use Rattle.numbers.specs.Ranges.{inRange}
+use Rattle.nesting.specs.Nest.{nested}
+use Rattle.sizes.specs.Sizes.{sized}
+use Rattle.typing.specs.Typing.{typed}
+
+pub record Accepted (T : Table) : Type 0 where
+  pub kinds : known T ≡ true
+  pub numbers : inRange T ≡ true
+  pub nesting : nested T ≡ true
+  pub sizes : sized T ≡ true
+  pub types : typed T ≡ true
