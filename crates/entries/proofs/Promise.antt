@@ -6,7 +6,7 @@ use borrow.Author.Tests.{leb-true}
 use Rattle.basics.proofs.Bools.{both-l, both-r, between-true, all-at}
 use Rattle.table.specs.Table.{Table}
 use Rattle.table.specs.Entries.{typeKind, varMode, blockKind, nodeKind, nodeQ, nodeV, stmtKind, typeCount, varCount, blockCount, nodeCount, stmtCount}
-use Rattle.entries.specs.Known.{typeKnown, varKnown, blockKnown, usesQ, usesV, operatorKnown, nodeKnown, operandsKnown, argsKnown, stmtKnown, declarationsKnown, known}
+use Rattle.entries.specs.Known.{typeKnown, varKnown, blockKnown, operatorKnown, nodeKnown, stmtKnown, declarationsKnown, known}
 
 module _ (T : Table) (h : known T ≡ true) where
   declarations : declarationsKnown T ≡ true

@@ -1,8 +1,6 @@
 // Refusal 3: kinds, modes and operators are known, and unused fields are 0.
 ghost use mathlib.Core.Path.{_≡_};
-ghost use Prim.Native.Nat.{ℕ, _+_, _≤_, _<_};
-ghost use lib.ListN.{length};
-ghost use lib.Dec.{eqb, leb};
+ghost use Prim.Native.Nat.{_+_, _<_};
 ghost use Rattle.basics.specs.Choice.{allBelow};
 ghost use Rattle.table.specs.Table.{tableOf};
 ghost use Rattle.table.specs.Entries.{typeCount, varCount, blockCount, nodeCount, stmtCount};

@@ -1,11 +1,11 @@
 -- What a table that escapes refusal 4 promises of blocks and their variables. Assumes nothing.
 use Prim.Native.Nat.{ℕ, _+_, _%_, _≤_, _<_}
-use mathlib.Core.Path.{_≡_, refl, sym, _∙_}
+use mathlib.Core.Path.{_≡_, refl}
 use mathlib.Core.Bool.{true}
 use native.Mathlib.Omega.{arith}
-use lib.Dec.{eqb, leb, ltb}
+use lib.Dec.{eqb}
 use borrow.Author.Tests.{eqb-true, eqb-false, leb-true, ltb-true, lt-ltb, le-ltb, ne-eqb}
-use Rattle.basics.specs.Choice.{pick, cases}
+use Rattle.basics.specs.Choice.{cases}
 use Rattle.basics.specs.Chain.{always}
 use Rattle.basics.proofs.Bools.{both-l, both-r, between-true, all-at}
 use Rattle.basics.proofs.Takes.{there, apart}

@@ -5,3 +5,4 @@ pub mod Parts
 pub mod TypePromise
 pub mod BlockPromise
 pub mod OperandPromise
+pub mod Examples

@@ -1,13 +1,12 @@
 -- The marks of the modules that process types name. Assumes nothing.
 use Prim.Native.Nat.{ℕ, _+_, _≤_, _<_, min}
-use mathlib.Core.Path.{_≡_, refl, sym, ap, _∙_}
-use mathlib.Core.List.{List, [], _∷_, _++_}
-use mathlib.Core.Bool.{Bool, true, false}
-use lib.ListN.{length, getD}
+use mathlib.Core.Path.{_≡_, ap, _∙_}
+use mathlib.Core.List.{List}
+use lib.ListN.{length, getD, replicate, length-replicate, getD-replicate}
 use lib.Dec.{eqb, leb}
-use borrow.Author.Tests.{eq-eqb, ne-eqb, leb-true, leb-false, le-leb, lt-leb}
+use borrow.Author.Tests.{ne-eqb, leb-true, leb-false, le-leb, lt-leb}
 use native.Mathlib.Omega.{arith}
-use Rattle.basics.specs.Choice.{pick, cases}
+use Rattle.basics.specs.Choice.{cases}
 use Rattle.basics.specs.Marks.{occurs, gather, marked, Seen}
 use Rattle.basics.proofs.Marking.{length-marked, seen-zeros, seen-more, gather-more}
 use Rattle.table.specs.Table.{Table}
@@ -23,6 +22,14 @@ module _ (T : Table) (i k : ℕ) (hk : k ≡ typeKind T (3 + i)) (l : List ℕ) 
   pub mark-not : (k ≡ 3 → ⊥) → l ≡ moduleMarked T i l
   unfolding moduleMarked
   mark-not e = rw (← hk, ne-eqb k 3 e)
+
+-- an array of zeros that is long enough
+pub clear-zeros : (T : Table) (n : ℕ) → blockCount T ≤ n → Clear T (replicate n 0)
+clear-zeros T n h =
+    record {
+      long = rw (length-replicate {A = ℕ} n 0) h;
+      clear = λ j l. getD-replicate {A = ℕ} n j 0 0 (rw (length-replicate {A = ℕ} n 0) at l);
+    }
 
 pub named-none : (T : Table) (l : List ℕ) → Clear T l → Named T 0 l
 unfolding gather

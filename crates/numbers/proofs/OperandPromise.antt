@@ -1,17 +1,17 @@
 -- What a table that escapes refusal 4 promises of arguments, nodes and statements. Assumes nothing.
 use Prim.Native.Nat.{ℕ, _+_, _≤_, _<_}
-use mathlib.Core.Path.{_≡_, refl, sym, _∙_}
-use mathlib.Core.Bool.{Bool, true, false}
+use mathlib.Core.Path.{_≡_, refl}
+use mathlib.Core.Bool.{true, false}
 use native.Mathlib.Omega.{arith}
-use lib.Dec.{eqb, leb, ltb}
-use borrow.Author.Tests.{eqb-true, eqb-false, leb-true, ltb-true, eq-eqb}
-use Rattle.basics.specs.Choice.{pick, both, between, cases}
+use lib.Dec.{eqb}
+use borrow.Author.Tests.{eqb-true, leb-true, ltb-true}
+use Rattle.basics.specs.Choice.{both, between, cases}
 use Rattle.basics.proofs.Bools.{both-l, both-r, between-true}
 use Rattle.basics.proofs.Takes.{there, apart}
 use Rattle.table.specs.Table.{Table}
 use Rattle.table.specs.Entries.{typeKind, typeQ, blockKind, argNode, nodeKind, nodeP, nodeQ, stmtKind, stmtA, stmtB, stmtC, stmtD, stmtLink, varCount, blockCount, argCount, nodeCount, stmtCount}
 use Rattle.types.specs.Types.{typeOf}
-use Rattle.numbers.specs.Sorts.{variableKind, expressionKind, variableBelow, expressionBelow, blockOf, Variable, Expression}
+use Rattle.numbers.specs.Sorts.{variableKind, expressionKind, variableBelow, expressionBelow, Variable, Expression}
 use Rattle.numbers.specs.Operands.{argRanged, pRanged, placeRanged, qRanged, nodeRanged, aVariable, aExpression, aBlock, aRanged, bExpression, bRanged, linkRanged, stmtRanged, isCall, callFirst, callCount, argumentsTaken}
 use Rattle.numbers.specs.Ranges.{inRange}
 use Rattle.numbers.proofs.Parts.{arguments-taken, arg-row, node-row, stmt-row}
@@ -197,3 +197,8 @@ module _ (T : Table) (h : inRange T ≡ true) where
     pub start-args : stmtKind T i ≡ 5 → stmtC T i + stmtD T i ≤ argCount T
     unfolding isCall between both
     start-args e = args-there (rw e)
+
+  -- no two calls take the same argument
+  pub args-apart : (i k : ℕ) → i < k → k < stmtCount T → isCall T i ≡ true → isCall T k ≡ true → stmtC T i + stmtD T i ≤ stmtC T k
+  unfolding argumentsTaken callFirst callCount
+  args-apart i k l g e f = apart (isCall T) (callFirst T) (callCount T) (stmtCount T) (argCount T) (arguments-taken T h) i k l g e f

@@ -1,11 +1,11 @@
 -- What a table that escapes refusal 4 promises of types and of the types of variables. Assumes nothing.
 use Prim.Native.Nat.{ℕ, _+_, _-_, _≤_, _<_}
-use mathlib.Core.Path.{_≡_, refl, sym, _∙_}
+use mathlib.Core.Path.{_≡_}
 use mathlib.Core.Bool.{true}
 use native.Mathlib.Omega.{arith}
-use lib.Dec.{eqb, leb, ltb}
-use borrow.Author.Tests.{eq-eqb, eqb-true, leb-true, ltb-true, ltb-false, lt-ltb}
-use Rattle.basics.specs.Choice.{pick, cases}
+use lib.Dec.{ltb}
+use borrow.Author.Tests.{eq-eqb, eqb-true, leb-true, ltb-true, ltb-false}
+use Rattle.basics.specs.Choice.{cases}
 use Rattle.basics.proofs.Bools.{both-l, both-r, all-at}
 use Rattle.basics.proofs.Takes.{there, apart}
 use Rattle.table.specs.Table.{Table}
@@ -86,3 +86,16 @@ module _ (T : Table) (h : inRange T ≡ true) where
     process-module e =
         let r : 3 + (τ - 3) ≡ τ = number 3 e (omega arith) in
         block-there T 1 (typeP T τ) (rw (r, e) at (row-of 3 e (omega arith)))
+
+  -- no two records take the same field
+  pub fields-apart : (τ σ : ℕ) → τ < σ → σ < 3 + typeCount T → typeKind T τ ≡ 1 → typeKind T σ ≡ 1 → typeP T τ + typeQ T τ ≤ typeP T σ
+  unfolding fieldsTaken recordFirst recordCount
+  fields-apart τ σ l g e f =
+      let k : τ < 3 + typeCount T = omega arith in
+      let a = declared-from T τ 1 e (omega arith) in
+      let r : 3 + (τ - 3) ≡ τ = number τ k 1 e (omega arith) in
+      let q : 3 + (σ - 3) ≡ σ = number σ g 1 f (omega arith) in
+      let w =
+      apart (isRecord T) (recordFirst T) (recordCount T) (typeCount T) (fieldCount T) (fields-taken T h) (τ - 3) (σ - 3) (omega arith) (omega arith)
+      (takes-fields τ k e) (takes-fields σ g f) in
+      rw (r, q) at w

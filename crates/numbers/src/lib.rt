@@ -6,8 +6,7 @@ pub mod blocks; // blocks, and the modes of their variables
 pub mod operands; // arguments, nodes, statements
 
 ghost use mathlib.Core.Path.{_≡_};
-ghost use Prim.Native.Nat.{ℕ, _+_, _≤_, _<_};
-ghost use lib.ListN.{length};
+ghost use Prim.Native.Nat.{_<_};
 ghost use Rattle.table.specs.Table.{tableOf};
 ghost use Rattle.table.specs.Reading.{Of};
 ghost use Rattle.types.specs.Types.{Types};

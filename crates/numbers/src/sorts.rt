@@ -19,24 +19,24 @@ fn expression_kind(k: usize) -> bool
     basics::between(4, 7, k)
 }
 
-// Node n is below m and a variable.
-pub fn variable_below(t: &[u8], s: table::Sections, m: usize, n: usize) -> bool
+// Node v is below m and a variable.
+pub fn variable_below(t: &[u8], s: table::Sections, m: usize, v: usize) -> bool
     requires { ⌜ Of (now t) s ⌝ }
-    ensures { λ r. ⌜ r ≡ variableBelow (tableOf (s .w) (now (t .entry))) m n ⌝ }
+    ensures { λ r. ⌜ r ≡ variableBelow (tableOf (s .w) (now (t .entry))) m v ⌝ }
 {
-    if n < m {
-        return variable_kind(table::node_kind(t, s, n));
+    if v < m {
+        return variable_kind(table::node_kind(t, s, v));
     }
     false
 }
 
-// Node n is below m and an expression.
-pub fn expression_below(t: &[u8], s: table::Sections, m: usize, n: usize) -> bool
+// Node e is below m and an expression.
+pub fn expression_below(t: &[u8], s: table::Sections, m: usize, e: usize) -> bool
     requires { ⌜ Of (now t) s ⌝ }
-    ensures { λ r. ⌜ r ≡ expressionBelow (tableOf (s .w) (now (t .entry))) m n ⌝ }
+    ensures { λ r. ⌜ r ≡ expressionBelow (tableOf (s .w) (now (t .entry))) m e ⌝ }
 {
-    if n < m {
-        return expression_kind(table::node_kind(t, s, n));
+    if e < m {
+        return expression_kind(table::node_kind(t, s, e));
     }
     false
 }

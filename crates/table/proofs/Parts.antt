@@ -1,17 +1,17 @@
 -- The part of a call's arguments, and what is read in it. Assumes nothing.
 use Prim.Native.Nat.{ℕ, zero, suc, _+_, _-_, _*_, _≤_, _<_, _^_, min}
-use mathlib.Core.Path.{_≡_, refl, sym, ap, _∙_}
+use mathlib.Core.Path.{_≡_, refl, ap, _∙_}
 use mathlib.Core.List.{List}
 use mathlib.Core.Bool.{Bool, true, false}
 use lib.ListN.{length, getD, take, drop, length-drop}
 use lib.Seq.{getD-take, getD-drop, length-take-le}
-use lib.Dec.{eqb, leb, ltb}
+use lib.Dec.{eqb, ltb}
 use borrow.Author.Tests.{eqb-true, le-leb, lt-leb, lt-ltb, le-ltb, ltb-true, ltb-false}
-use native.Mathlib.Nat.{add-mul, suc-mul, mul-le-mul, mul-le-mul-right, add-sub-cancel-left, add-assoc, add-zero}
+use native.Mathlib.Nat.{add-mul, suc-mul, mul-le-mul, mul-le-mul-right, add-sub-cancel-left, add-assoc}
 use native.Mathlib.Omega.{arith}
 use mir.Val.{Fits}
 use mir.Syntax.{w64}
-use Rattle.basics.specs.Choice.{pick, cases}
+use Rattle.basics.specs.Choice.{pick, cases, allBelow}
 use Rattle.table.specs.Bytes.{num, shorts, words, rowSize, fieldAt, fieldWidth, begins}
 use Rattle.table.specs.Table.{countAt, cellAt, tableOf}
 use Rattle.table.specs.Entries.{argNode}
@@ -167,3 +167,14 @@ module _ (t : List ℕ) (s : Sections) (o : Of t s) (first count k : ℕ) (l : k
 
   pub argument-is : argumentIn (argumentPart (s .w) t first count) (s .w) k ≡ argNode (tableOf (s .w) t) (first + k)
   argument-is = cases (ltb (first + k) (countAt (s .w) t 4)) (λ e. found-in (ltb-true _ _ e)) (λ e. found-none (ltb-false _ _ e))
+
+all-same : (n : ℕ) (f g : ℕ → Bool) → ((k : ℕ) → k < n → f k ≡ g k) → allBelow n f ≡ allBelow n g
+unfolding allBelow
+all-same zero f g h = refl
+all-same (suc n) f g h = let e : f n ≡ g n = h n (omega arith) in let i = all-same n f g (λ k l. h k (omega arith)) in rw (e, i)
+
+-- a test of each argument of a call: of the part's is of the table's
+pub each-argument :
+    (t : List ℕ) (s : Sections) → Of t s → (first count : ℕ) (f : ℕ → ℕ → Bool)
+    → allBelow count (λ k. f k (argumentIn (argumentPart (s .w) t first count) (s .w) k)) ≡ allBelow count (λ k. f k (argNode (tableOf (s .w) t) (first + k)))
+each-argument t s o first count f = all-same count _ _ (λ k l. ap (f k) (argument-is t s o first count k l))

@@ -405,7 +405,7 @@ fn least(a: usize, b: usize) -> usize
     b
 }
 
-// The part of the table that holds a call's arguments: `count` of them from `first` on, or as many of these as there are.
+// The argument finder: the part of the table that holds a call's arguments, `count` of them from `first` on, or as many of these as there are.
 pub fn call_arguments(t: &[u8], s: Sections, first: usize, count: usize) -> &[u8]
     requires { ⌜ Of (now t) s ⌝ }
     ensures { λ r. ⌜ now r ≡ argumentPart (s .w) (now (t .entry)) first count ⌝ }

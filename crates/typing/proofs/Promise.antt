@@ -1,9 +1,9 @@
 -- THE PROMISE of refusal 9: what holds of each node, statement and module of a table that keeps the rule. Assumes nothing.
 use Prim.Native.Nat.{ℕ, _+_, _≤_, _<_}
-use mathlib.Core.Path.{_≡_, refl, sym, ap, _∙_}
+use mathlib.Core.Path.{_≡_, refl}
 use mathlib.Core.Bool.{Bool, true, false}
 use lib.Dec.{eqb, leb}
-use borrow.Author.Tests.{eqb-true, leb-true, leb-false, ne-eqb, le-leb, lt-leb}
+use borrow.Author.Tests.{eqb-true, leb-true, ne-eqb, le-leb, lt-leb}
 use native.Mathlib.Omega.{arith}
 use Rattle.basics.specs.Choice.{pick, cases, allBelow}
 use Rattle.basics.proofs.Bools.{no-true, all-at}
@@ -11,7 +11,7 @@ use Rattle.table.specs.Table.{Table}
 use Rattle.table.specs.Entries.{typeKind, typeP, varMode, varType, blockKind, owner, firstVar, params, argNode, nodeKind, nodeP, nodeQ, nodeV, stmtKind, stmtA, stmtB, stmtC, stmtD, nodeCount, stmtCount, blockCount}
 use Rattle.types.specs.Types.{typeOf}
 use Rattle.types.specs.Match.{matches}
-use Rattle.typing.specs.Typing.{isVariable, isExpression, constantTyped, elementTyped, unaryTyped, alikeTyped, binaryTyped, nodeTyped, argumentTyped, kthTyped, argumentsTyped, processCallTyped, startTyped, callTyped, writeTyped, stmtTyped, simple, paramSimple, paramsSimple, typed}
+use Rattle.typing.specs.Typing.{isVariable, isExpression, constantTyped, elementTyped, unaryTyped, alikeTyped, binaryTyped, nodeTyped, argumentTyped, parameterTyped, argumentsTyped, processCallTyped, startTyped, callTyped, writeTyped, stmtTyped, simple, paramSimple, paramsSimple, typed}
 
 -- the argument node n suits the parameter x
 pub record Suits (T : Table) (x n : ℕ) : Type 0 where
@@ -67,11 +67,11 @@ module _ (T : Table) where
       value e = rw (ne-eqb (varMode T x) 2 e) at h
 
   arguments : (b c d : ℕ) → argumentsTyped T b c d ≡ true → Arguments T b c d
-  unfolding argumentsTyped kthTyped
+  unfolding argumentsTyped parameterTyped
   arguments b c d h =
       record {
         count = eqb-true d (params T b) (first _ _ h);
-        each = λ k l. suits (firstVar T b + k) (argNode T (c + k)) (all-at d (kthTyped T (firstVar T b) c) (next (eqb d (params T b)) _ h) k l);
+        each = λ k l. suits (firstVar T b + k) (argNode T (c + k)) (all-at d (parameterTyped T (firstVar T b) c) (next (eqb d (params T b)) _ h) k l);
       }
 
 module _ (T : Table) (h : typed T ≡ true) where

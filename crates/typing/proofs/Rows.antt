@@ -1,18 +1,17 @@
 -- Row tests that are asked with locals: x is the local that holds τ. Assumes nothing.
-use Prim.Native.Nat.{ℕ, _+_, _≤_, _<_}
-use mathlib.Core.Path.{_≡_, refl, sym, ap, _∙_}
-use mathlib.Core.Bool.{Bool, true, false}
-use mathlib.Core.List.{List}
-use lib.Dec.{eqb, leb}
+use Prim.Native.Nat.{ℕ}
+use mathlib.Core.Path.{_≡_}
+use mathlib.Core.Bool.{Bool}
+use lib.Dec.{eqb}
 use borrow.Author.Tests.{eq-eqb, ne-eqb}
 use Rattle.basics.specs.Choice.{pick}
 use Rattle.basics.proofs.Tests.{tests, righttests, l-eq, l-ne, same-eqb, same-leb}
 use Rattle.table.specs.Table.{Table}
-use Rattle.table.specs.Entries.{typeKind, varMode, varType, argNode}
+use Rattle.table.specs.Entries.{typeKind}
 use Rattle.table.specs.Reading.{Field}
 use Rattle.types.specs.Types.{typeOf}
 use Rattle.types.specs.Match.{matches}
-use Rattle.typing.specs.Typing.{constantTyped, elementTyped, unaryTyped, binaryTyped, argumentTyped, argumentsTyped, processCallTyped, startTyped, writeTyped, simple}
+use Rattle.typing.specs.Typing.{constantTyped, elementTyped, unaryTyped, binaryTyped, argumentsTyped, processCallTyped, startTyped, writeTyped, simple}
 
 module _ (T : Table) (x τ : ℕ) (h : x ≡ τ) where
   pub of-type : (r : ℕ) → Field (typeOf T x) r → Field (typeOf T τ) r

@@ -26,7 +26,7 @@ constantTyped τ v = pick (eqb τ 1) (leb v 1) (pick (eqb τ 2) (leb v 127) true
 unfoldable pub elementTyped : Table → ℕ → ℕ → Bool
 elementTyped T τ σ = pick (eqb (typeKind T τ) 2) (eqb σ (typeP T τ)) false
 
--- minus (1) and val (3) take an integer, not (2) an integer or a boolean (report 10.2, 10.3, 12.3)
+-- minus (1) and val (3) take an integer, not (2) an integer or a boolean (report 10.2, 10.3)
 unfoldable pub unaryTyped : ℕ → ℕ → Bool
 unaryTyped o τ = pick (eqb o 2) (leb τ 1) (eqb τ 0)
 
@@ -60,12 +60,12 @@ argumentTyped T x n =
     (pick (isExpression T n) (matches T (typeOf T n) (varType T x)) false)
 
 -- argument k of a call, whose arguments begin at c, is for parameter k, of those that begin at x
-unfoldable pub kthTyped : Table → ℕ → ℕ → ℕ → Bool
-kthTyped T x c k = argumentTyped T (x + k) (argNode T (c + k))
+unfoldable pub parameterTyped : Table → ℕ → ℕ → ℕ → Bool
+parameterTyped T x c k = argumentTyped T (x + k) (argNode T (c + k))
 
 -- the d arguments from c on for a call of block b: as many as its parameters, each of its type
 unfoldable pub argumentsTyped : Table → ℕ → ℕ → ℕ → Bool
-argumentsTyped T b c d = pick (eqb d (params T b)) (allBelow d (kthTyped T (firstVar T b) c)) false
+argumentsTyped T b c d = pick (eqb d (params T b)) (allBelow d (parameterTyped T (firstVar T b) c)) false
 
 -- a process call of block b through a variable of type τ: its module's procedure (report 11.3)
 unfoldable pub processCallTyped : Table → ℕ → ℕ → ℕ → ℕ → Bool
@@ -117,5 +117,5 @@ typed T =
     false
 
 -- the arguments of a call as its part of the table holds them (the finder's law makes them the table's)
-unfoldable pub kthIn : Table → ℕ → List ℕ → ℕ → ℕ → Bool
-kthIn T w part x k = argumentTyped T (x + k) (argumentIn part w k)
+unfoldable pub parameterIn : Table → ℕ → List ℕ → ℕ → ℕ → Bool
+parameterIn T w part x k = argumentTyped T (x + k) (argumentIn part w k)

@@ -1,14 +1,12 @@
 // Refusal 9: the types of operands, guards, indexes, arguments and parameters.
 ghost use mathlib.Core.Path.{_≡_};
-ghost use Prim.Native.Nat.{ℕ, _+_, _≤_, _<_};
-ghost use lib.ListN.{length};
+ghost use Prim.Native.Nat.{_+_, _<_};
 ghost use Rattle.basics.specs.Choice.{allBelow};
 ghost use Rattle.table.specs.Table.{tableOf};
-ghost use Rattle.table.specs.Entries.{nodeP, nodeQ, stmtA, stmtB, typeKind, params, nodeCount, stmtCount, blockCount};
+ghost use Rattle.table.specs.Entries.{nodeP, nodeQ, stmtA, stmtB, nodeCount, stmtCount, blockCount};
 ghost use Rattle.table.specs.Reading.{Of, Field};
 ghost use Rattle.types.specs.Types.{typeOf, Types};
-ghost use Rattle.types.specs.Match.{matches};
-ghost use Rattle.typing.specs.Typing.{isVariable, isExpression, constantTyped, elementTyped, unaryTyped, alikeTyped, binaryTyped, nodeTyped, argumentTyped, argumentsTyped, processCallTyped, startTyped, callTyped, writeTyped, stmtTyped, simple, paramSimple, paramsSimple, typed, kthIn};
+ghost use Rattle.typing.specs.Typing.{isVariable, isExpression, constantTyped, elementTyped, unaryTyped, alikeTyped, binaryTyped, nodeTyped, argumentTyped, argumentsTyped, processCallTyped, startTyped, callTyped, writeTyped, stmtTyped, simple, paramSimple, paramsSimple, typed, parameterIn};
 
 fn is_variable(t: &[u8], s: table::Sections, n: usize) -> bool
     requires { ⌜ Of (now t) s ⌝ }
@@ -168,7 +166,7 @@ fn part_typed(
     requires { ⌜ Of (now t) s ⌝ }
     requires { ⌜ Types (tableOf (s .w) (now t)) (now types) ⌝ }
     requires { ⌜ (x < 65536) × (count < 65536) ⌝ }
-    ensures { λ r. ⌜ r ≡ allBelow count (kthIn (tableOf (s .w) (now (t .entry))) (s .w) (now (part .entry)) x) ⌝ }
+    ensures { λ r. ⌜ r ≡ allBelow count (parameterIn (tableOf (s .w) (now (t .entry))) (s .w) (now (part .entry)) x) ⌝ }
 {
     let w = s.w;
     let mut k = 0;

@@ -12,23 +12,18 @@ use Rattle.sizes.specs.Sizes.{sized}
 use Rattle.scopes.specs.Scopes.{scoped}
 use Rattle.typing.specs.Typing.{typed}
 
--- of a table whose sections are whole
-unfoldable pub judged : Table → ℕ
-judged T =
-    pick (known T)
-    (pick (inRange T)
-    (pick (usedOnce T)
-    (pick (nested T)
-    (pick (sized T)
-    (pick (scoped T)
-    (pick (typed T) 0 9)
-    8)
-    7)
-    6)
-    5)
-    4)
-    3
+-- refusals 7 to 9
+unfoldable pub judgedLate : Table → ℕ
+judgedLate T = pick (sized T) (pick (scoped T) (pick (typed T) 0 9) 8) 7
 
--- of any bytes, in the edition of width w
+-- refusals 5 and 6, then those
+unfoldable pub judgedUses : Table → ℕ
+judgedUses T = pick (usedOnce T) (pick (nested T) (judgedLate T) 6) 5
+
+-- of a table whose sections are whole: 3 and 4, then those
+unfoldable pub judged : Table → ℕ
+judged T = pick (known T) (pick (inRange T) (judgedUses T) 4) 3
+
+-- THE VERDICT on any bytes, in the edition of width w
 unfoldable pub verdict : ℕ → List ℕ → ℕ
 verdict w t = pick (whole w t) (judged (tableOf w t)) 2

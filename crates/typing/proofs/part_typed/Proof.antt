@@ -3,13 +3,13 @@ use native.Mathlib.Omega.{arith}
 use borrow.Author.Needs.{needs}
 use Rattle.basics.specs.Choice.{Passed}
 use Rattle.table.specs.Table.{tableOf}
-use Rattle.typing.proofs.Passing.{kths}
-use Rattle.typing.specs.Typing.{kthIn}
+use Rattle.typing.proofs.Passing.{parameters}
+use Rattle.typing.specs.Typing.{parameterIn}
 use Rattle.typing.proofs.part_typed.Statement.{statement}
 use Rattle.typing.proofs.part_typed.Tie as tie
 
 abbrev Inv-loop : tie.InvT-loop
-Inv-loop t s types part x count w k₀ k = (k ≤ count) × Passed (kthIn (tableOf (s .w) t) (s .w) part x) k
+Inv-loop t s types part x count w k₀ k = (k ≤ count) × Passed (parameterIn (tableOf (s .w) t) (s .w) part x) k
 
 abbrev μ-loop : tie.MeasureT-loop
 μ-loop t s types part x count w k₀ k = count - k
@@ -20,12 +20,12 @@ part-typed-spec =
     (tie.spec
     Inv-loop
     μ-loop
-    (λ c. (omega arith, search kths))
+    (λ c. (omega arith, search parameters))
     (λ c. omega arith)
     (λ c κs. search needs)
     (λ c κs. search needs)
     (λ c. omega arith)
     (λ c. omega arith)
-    (λ c. (omega arith, search kths))
-    (λ c. search kths)
-    (λ c. search kths))
+    (λ c. (omega arith, search parameters))
+    (λ c. search parameters)
+    (λ c. search parameters))

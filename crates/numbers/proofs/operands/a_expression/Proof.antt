@@ -1,6 +1,5 @@
 use Rattle.numbers.specs.Operands.{aExpression}
 use Rattle.numbers.proofs.Fields.{ranges}
-use borrow.Author.Needs.{needs}
 use Rattle.numbers.proofs.operands.a_expression.Statement.{statement}
 use Rattle.numbers.proofs.operands.a_expression.Tie as tie
 

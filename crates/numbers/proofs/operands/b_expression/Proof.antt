@@ -1,6 +1,5 @@
 use Rattle.numbers.specs.Operands.{bExpression}
 use Rattle.numbers.proofs.Fields.{ranges}
-use borrow.Author.Needs.{needs}
 use Rattle.numbers.proofs.operands.b_expression.Statement.{statement}
 use Rattle.numbers.proofs.operands.b_expression.Tie as tie
 

@@ -1,0 +1,529 @@
+#include "plain.h"
+
+#include <stdbool.h>
+
+enum { INTEGER, BOOLEAN, CHARACTER, DECLARED };          /* types */
+enum { RECORD = 1, ARRAY, PROCESS };                     /* kinds of declared types */
+enum { PROGRAM, MODULE, PROCEDURE };                     /* kinds of blocks */
+enum { LOCAL, VALUE_PARAMETER, VAR_PARAMETER };          /* modes */
+enum { CONSTANT, WHOLE, FIELD, ELEMENT, VALUE, UNARY, BINARY, TRANSFER };
+enum { SKIP, ASSIGN, LOCAL_CALL, PROCESS_CALL, CREATE, START, IF, WHILE, WHEN, CYCLE, ARM, END, WRITE, BLOCK_END };
+enum { NONE = -1 };
+
+struct type { int kind, p, q, low, high; };
+struct variable { int mode, type; };
+struct block { int kind, owner, first, parameters, variables, statement, space; };
+struct node { int kind, p, q, v; };
+struct statement { int kind, a, b, c, d, link; };
+
+struct program {
+    int types, fields, variables, blocks, arguments, nodes, statements;
+    struct type type[258]; /* by type number, from DECLARED on */
+    int field[256];
+    struct variable variable[256];
+    struct block block[256];
+    int argument[256];
+    struct node node[256];
+    struct statement statement[256];
+    int type_of[256];    /* the type of a node, NONE where it has none */
+    int words[258];      /* the words of a type */
+    int block_of[256];   /* the block of a node */
+    int block_at[256];   /* the block of a statement */
+    int home[256];       /* the block of a variable */
+};
+
+/* ---- 2: sections */
+
+struct reader { const uint8_t *at, *end; };
+
+static int word(const uint8_t *p)
+{
+    return p[0] + 256 * p[1];
+}
+
+static int integer(int w)
+{
+    return w < 32768 ? w : w - 65536;
+}
+
+static const uint8_t *rows(struct reader *r, int size, int *count)
+{
+    if (r->at == r->end)
+        return NULL;
+    const uint8_t *first = r->at + 1;
+    *count = *r->at;
+    if (r->end - first < *count * size)
+        return NULL;
+    r->at = first + *count * size;
+    return first;
+}
+
+static bool decode(struct program *g, const uint8_t *table, size_t length)
+{
+    struct reader r = {table, table + length};
+    const uint8_t *p;
+    if (length == 0 || !(p = rows(&r, 7, &g->types)))
+        return false;
+    for (int i = 0; i < g->types; i++, p += 7)
+        g->type[DECLARED + i] = (struct type){p[0], p[1], p[2], word(p + 3), word(p + 5)};
+    if (!(p = rows(&r, 1, &g->fields)))
+        return false;
+    for (int i = 0; i < g->fields; i++)
+        g->field[i] = p[i];
+    if (!(p = rows(&r, 2, &g->variables)))
+        return false;
+    for (int i = 0; i < g->variables; i++, p += 2)
+        g->variable[i] = (struct variable){p[0], p[1]};
+    if (!(p = rows(&r, 8, &g->blocks)))
+        return false;
+    for (int i = 0; i < g->blocks; i++, p += 8)
+        g->block[i] = (struct block){p[0], p[1], p[2], p[3], p[4], p[5], word(p + 6)};
+    if (!(p = rows(&r, 1, &g->arguments)))
+        return false;
+    for (int i = 0; i < g->arguments; i++)
+        g->argument[i] = p[i];
+    if (!(p = rows(&r, 5, &g->nodes)))
+        return false;
+    for (int i = 0; i < g->nodes; i++, p += 5)
+        g->node[i] = (struct node){p[0], p[1], p[2], word(p + 3)};
+    if (!(p = rows(&r, 6, &g->statements)))
+        return false;
+    for (int i = 0; i < g->statements; i++, p += 6)
+        g->statement[i] = (struct statement){p[0], p[1], p[2], p[3], p[4], p[5]};
+    return r.at == r.end;
+}
+
+/* ---- 3: kinds, modes, operators, unused fields */
+
+static bool is_call(int kind)
+{
+    return kind == LOCAL_CALL || kind == PROCESS_CALL || kind == START;
+}
+
+static bool kinds(const struct program *g)
+{
+    for (int i = DECLARED; i < DECLARED + g->types; i++) {
+        struct type t = g->type[i];
+        if (t.kind < RECORD || t.kind > PROCESS || (t.kind == PROCESS && t.q) || (t.kind != ARRAY && (t.low || t.high)))
+            return false;
+    }
+    for (int i = 0; i < g->variables; i++)
+        if (g->variable[i].mode > VAR_PARAMETER)
+            return false;
+    for (int i = 0; i < g->blocks; i++)
+        if (g->block[i].kind > PROCEDURE)
+            return false;
+    for (int i = 0; i < g->nodes; i++) {
+        struct node n = g->node[i];
+        bool uses_q = n.kind == FIELD || n.kind == ELEMENT || n.kind >= UNARY;
+        bool uses_v = n.kind == CONSTANT || n.kind == BINARY;
+        if (n.kind > TRANSFER || (!uses_q && n.q) || (!uses_v && n.v))
+            return false;
+        if ((n.kind == UNARY && (n.q < 1 || n.q > 3)) || (n.kind == BINARY && (n.v < 1 || n.v > 13)))
+            return false;
+    }
+    for (int i = 0; i < g->statements; i++) {
+        struct statement s = g->statement[i];
+        bool uses_a = (s.kind >= ASSIGN && s.kind <= START) || s.kind == ARM || s.kind == WRITE || s.kind == BLOCK_END;
+        bool uses_b = s.kind == ASSIGN || s.kind == PROCESS_CALL || s.kind == WRITE;
+        bool uses_link = s.kind == ARM || s.kind == END;
+        if (s.kind > BLOCK_END || (!uses_a && s.a) || (!uses_b && s.b) || (!is_call(s.kind) && (s.c || s.d)) || (!uses_link && s.link))
+            return false;
+    }
+    return true;
+}
+
+/* ---- 4: numbers */
+
+static bool is_variable(const struct program *g, int limit, int n)
+{
+    return n < limit && g->node[n].kind >= WHOLE && g->node[n].kind <= ELEMENT;
+}
+
+static bool is_expression(const struct program *g, int limit, int n)
+{
+    return n < limit && (g->node[n].kind == CONSTANT || g->node[n].kind >= VALUE);
+}
+
+static bool is_block(const struct program *g, int b, int kind)
+{
+    return b < g->blocks && g->block[b].kind == kind;
+}
+
+static bool types_numbered(const struct program *g)
+{
+    int free = 0;
+    bool named[256] = {false};
+    for (int i = DECLARED; i < DECLARED + g->types; i++) {
+        struct type t = g->type[i];
+        if (t.kind == RECORD) {
+            if (t.p != free || t.q < 1 || t.p + t.q > g->fields)
+                return false;
+            for (; free < t.p + t.q; free++)
+                if (g->field[free] >= i)
+                    return false;
+        } else if (t.kind == ARRAY) {
+            if (t.p > CHARACTER || t.q >= i)
+                return false;
+        } else {
+            if (!is_block(g, t.p, MODULE) || named[t.p])
+                return false;
+            named[t.p] = true;
+        }
+    }
+    return free == g->fields;
+}
+
+static bool blocks_numbered(struct program *g)
+{
+    int free = 0;
+    if (!is_block(g, 0, PROGRAM) || g->block[0].parameters != 0)
+        return false;
+    for (int i = 0; i < g->variables; i++)
+        if (g->variable[i].type >= DECLARED + g->types)
+            return false;
+    for (int b = 0; b < g->blocks; b++) {
+        struct block k = g->block[b];
+        if ((b > 0 && k.kind == PROGRAM) || k.first != free || k.parameters > k.variables || k.first + k.variables > g->variables)
+            return false;
+        for (int i = 0; i < k.variables; i++, free++) {
+            if ((g->variable[free].mode == LOCAL) != (i >= k.parameters))
+                return false;
+            g->home[free] = b;
+        }
+        if (k.kind == PROCEDURE ? k.owner >= g->blocks || g->block[k.owner].kind == PROCEDURE : k.owner != b)
+            return false;
+        if (k.statement >= g->statements || (k.kind == PROCEDURE ? k.space != 0 : k.space > 510 || k.space % 2 != 0))
+            return false;
+    }
+    return free == g->variables;
+}
+
+/* The type of a variable node, read off the table. */
+static int variable_type(const struct program *g, struct node n)
+{
+    if (n.kind == WHOLE)
+        return g->variable[n.p].type;
+    int t = g->type_of[n.p];
+    if (t < DECLARED || g->type[t].kind != (n.kind == FIELD ? RECORD : ARRAY))
+        return NONE;
+    return n.kind == FIELD ? g->field[g->type[t].p + n.q] : g->type[t].q;
+}
+
+static bool node_numbered(struct program *g, int i)
+{
+    struct node n = g->node[i];
+    switch (n.kind) {
+    case CONSTANT: return n.p <= CHARACTER;
+    case WHOLE: if (n.p >= g->variables) return false; break;
+    case FIELD: {
+        if (!is_variable(g, i, n.p))
+            return false;
+        int t = g->type_of[n.p];
+        if (t >= DECLARED && g->type[t].kind == RECORD && n.q >= g->type[t].q)
+            return false;
+        break;
+    }
+    case ELEMENT: if (!is_variable(g, i, n.p) || !is_expression(g, i, n.q)) return false; break;
+    case VALUE: return is_variable(g, i, n.p);
+    case UNARY: return is_expression(g, i, n.p);
+    case BINARY: return is_expression(g, i, n.p) && is_expression(g, i, n.q);
+    default: return is_expression(g, i, n.p) && n.q <= CHARACTER;
+    }
+    g->type_of[i] = variable_type(g, n);
+    return true;
+}
+
+static bool statement_numbered(const struct program *g, struct statement s, int *free)
+{
+    if (is_call(s.kind)) {
+        if (s.c != *free || s.c + s.d > g->arguments)
+            return false;
+        *free = s.c + s.d;
+    }
+    switch (s.kind) {
+    case ASSIGN: return is_variable(g, g->nodes, s.a) && is_expression(g, g->nodes, s.b);
+    case LOCAL_CALL: return is_block(g, s.a, PROCEDURE);
+    case PROCESS_CALL: return is_variable(g, g->nodes, s.a) && is_block(g, s.b, PROCEDURE);
+    case CREATE:
+    case START: return is_variable(g, g->nodes, s.a);
+    case ARM: return is_expression(g, g->nodes, s.a) && s.link < g->statements;
+    case END: return s.link < g->statements;
+    case WRITE: return is_expression(g, g->nodes, s.a) && is_expression(g, g->nodes, s.b);
+    case BLOCK_END: return s.a < g->blocks;
+    default: return true;
+    }
+}
+
+static bool numbers(struct program *g)
+{
+    int free = 0;
+    if (!types_numbered(g) || !blocks_numbered(g))
+        return false;
+    for (int i = 0; i < g->arguments; i++)
+        if (g->argument[i] >= g->nodes)
+            return false;
+    for (int i = 0; i < g->nodes; i++)
+        if (!node_numbered(g, i))
+            return false;
+    for (int i = 0; i < g->statements; i++)
+        if (!statement_numbered(g, g->statement[i], &free))
+            return false;
+    return free == g->arguments;
+}
+
+/* ---- 5: each node is used once */
+
+static bool uses(const struct program *g)
+{
+    int used[256] = {0};
+    for (int i = 0; i < g->arguments; i++)
+        used[g->argument[i]]++;
+    for (int i = 0; i < g->nodes; i++) {
+        struct node n = g->node[i];
+        if (n.kind >= FIELD)
+            used[n.p]++;
+        if (n.kind == ELEMENT || n.kind == BINARY)
+            used[n.q]++;
+    }
+    for (int i = 0; i < g->statements; i++) {
+        struct statement s = g->statement[i];
+        if (s.kind == ASSIGN || (s.kind >= PROCESS_CALL && s.kind <= START) || s.kind == ARM || s.kind == WRITE)
+            used[s.a]++;
+        if (s.kind == ASSIGN || s.kind == WRITE)
+            used[s.b]++;
+    }
+    for (int i = 0; i < g->nodes; i++)
+        if (used[i] != 1)
+            return false;
+    return true;
+}
+
+/* ---- 6: nesting. Each answers where what begins at i ends, or NONE. */
+
+static int arms_end(const struct program *g, int opener, int i);
+
+static int statement_end(const struct program *g, int i)
+{
+    if (i >= g->statements)
+        return NONE;
+    int kind = g->statement[i].kind;
+    if (kind >= IF && kind <= CYCLE)
+        return arms_end(g, i, i + 1);
+    return kind <= START || kind == WRITE ? i + 1 : NONE;
+}
+
+static int body_end(const struct program *g, int i)
+{
+    int end = statement_end(g, i);
+    while (end != NONE && end < g->statements && (g->statement[end].kind <= CYCLE || g->statement[end].kind == WRITE))
+        end = statement_end(g, end);
+    return end;
+}
+
+static int arms_end(const struct program *g, int opener, int i)
+{
+    while (i < g->statements && g->statement[i].kind == ARM) {
+        int end = body_end(g, i + 1);
+        if (end == NONE || end >= g->statements || g->statement[i].link != end)
+            return NONE;
+        if (g->statement[end].kind == END)
+            return g->statement[end].link == opener ? end + 1 : NONE;
+        i = end;
+    }
+    return NONE;
+}
+
+static bool nesting(struct program *g)
+{
+    int i = 0;
+    for (int b = 0; b < g->blocks; b++) {
+        if (g->block[b].statement != i)
+            return false;
+        int end = body_end(g, i);
+        if (end == NONE || end >= g->statements || g->statement[end].kind != BLOCK_END || g->statement[end].a != b)
+            return false;
+        for (; i <= end; i++)
+            g->block_at[i] = b;
+    }
+    return i == g->statements;
+}
+
+/* ---- 7: sizes */
+
+static bool in_type(int type, int value)
+{
+    return type == INTEGER || (value >= 0 && value <= (type == BOOLEAN ? 1 : 127));
+}
+
+static int elements(const struct type *t)
+{
+    return integer(t->high) - integer(t->low) + 1;
+}
+
+static bool sizes(struct program *g)
+{
+    g->words[INTEGER] = g->words[BOOLEAN] = g->words[CHARACTER] = 1;
+    for (int i = DECLARED; i < DECLARED + g->types; i++) {
+        const struct type *t = &g->type[i];
+        int words = 1;
+        if (t->kind == RECORD) {
+            words = 0;
+            for (int k = 0; k < t->q; k++)
+                words += g->words[g->field[t->p + k]];
+        } else if (t->kind == ARRAY) {
+            if (integer(t->low) > integer(t->high) || !in_type(t->p, integer(t->low)) || !in_type(t->p, integer(t->high)))
+                return false;
+            if (t->q == CHARACTER && elements(t) % 2 != 0)
+                return false;
+            words = elements(t) * g->words[t->q];
+        }
+        if (words > 200)
+            return false;
+        g->words[i] = words;
+    }
+    for (int b = 0; b < g->blocks; b++) {
+        int words = 0;
+        for (int i = 0; i < g->block[b].variables; i++)
+            words += g->words[g->variable[g->block[b].first + i].type];
+        if (g->block[b].kind != PROCEDURE && words > 256)
+            return false;
+    }
+    return true;
+}
+
+/* ---- 8: scopes */
+
+static void place(struct program *g, int node, int block)
+{
+    g->block_of[node] = block;
+}
+
+static bool scopes(struct program *g)
+{
+    for (int i = 0; i < g->statements; i++) {
+        struct statement s = g->statement[i];
+        int b = g->block_at[i];
+        if (s.kind == ASSIGN || (s.kind >= PROCESS_CALL && s.kind <= START) || s.kind == ARM || s.kind == WRITE)
+            place(g, s.a, b);
+        if (s.kind == ASSIGN || s.kind == WRITE)
+            place(g, s.b, b);
+        if (is_call(s.kind))
+            for (int k = 0; k < s.d; k++)
+                place(g, g->argument[s.c + k], b);
+        if (s.kind == LOCAL_CALL && g->block[s.a].owner != g->block[b].owner)
+            return false;
+    }
+    for (int i = g->nodes; i-- > 0;) {
+        struct node n = g->node[i];
+        int b = g->block_of[i];
+        if (n.kind >= FIELD)
+            place(g, n.p, b);
+        if (n.kind == ELEMENT || n.kind == BINARY)
+            place(g, n.q, b);
+        if (n.kind == WHOLE && g->home[n.p] != b && g->home[n.p] != g->block[b].owner)
+            return false;
+    }
+    return true;
+}
+
+/* ---- 9: types */
+
+static int kind_of(const struct program *g, int type)
+{
+    return type < DECLARED ? 0 : g->type[type].kind;
+}
+
+static bool is_string(const struct program *g, int type)
+{
+    return kind_of(g, type) == ARRAY && g->type[type].q == CHARACTER;
+}
+
+static bool match(const struct program *g, int a, int b)
+{
+    return a == b || (is_string(g, a) && is_string(g, b) && elements(&g->type[a]) == elements(&g->type[b]));
+}
+
+static int binary_type(const struct program *g, int operator, int a, int b)
+{
+    if (operator <= 2)
+        return match(g, a, b) ? BOOLEAN : NONE;
+    if (a != b)
+        return NONE;
+    if (operator <= 6)
+        return a <= CHARACTER ? BOOLEAN : NONE;
+    if (operator <= 11)
+        return a == INTEGER ? INTEGER : NONE;
+    return a <= BOOLEAN ? a : NONE;
+}
+
+static int node_type(const struct program *g, struct node n)
+{
+    int p = n.kind == CONSTANT || n.kind == WHOLE ? NONE : g->type_of[n.p];
+    switch (n.kind) {
+    case CONSTANT: return in_type(n.p, integer(n.v)) ? n.p : NONE;
+    case WHOLE:
+    case FIELD: return variable_type(g, n);
+    case ELEMENT: return kind_of(g, p) == ARRAY && g->type_of[n.q] == g->type[p].p ? g->type[p].q : NONE;
+    case VALUE: return p;
+    case UNARY: return p == INTEGER || (p == BOOLEAN && n.q == 2) ? p : NONE;
+    case BINARY: return binary_type(g, n.v, p, g->type_of[n.q]);
+    default: return p <= CHARACTER ? n.q : NONE;
+    }
+}
+
+static bool arguments_typed(const struct program *g, const struct block *b, struct statement s)
+{
+    if (s.d != b->parameters)
+        return false;
+    for (int k = 0; k < s.d; k++) {
+        struct variable x = g->variable[b->first + k];
+        int n = g->argument[s.c + k];
+        bool is_var = g->node[n].kind >= WHOLE && g->node[n].kind <= ELEMENT;
+        if (x.mode == VAR_PARAMETER ? !is_var || g->type_of[n] != x.type : is_var || !match(g, g->type_of[n], x.type))
+            return false;
+    }
+    return true;
+}
+
+static bool statement_typed(const struct program *g, struct statement s)
+{
+    int a;
+    switch (s.kind) {
+    case ASSIGN: return match(g, g->type_of[s.a], g->type_of[s.b]);
+    case LOCAL_CALL: return arguments_typed(g, &g->block[s.a], s);
+    case PROCESS_CALL:
+        a = g->type_of[s.a];
+        return kind_of(g, a) == PROCESS && g->block[s.b].owner == g->type[a].p && arguments_typed(g, &g->block[s.b], s);
+    case CREATE: return kind_of(g, g->type_of[s.a]) == PROCESS;
+    case START:
+        a = g->type_of[s.a];
+        return kind_of(g, a) == PROCESS && arguments_typed(g, &g->block[g->type[a].p], s);
+    case ARM: return g->type_of[s.a] == BOOLEAN;
+    case WRITE: return g->type_of[s.a] == INTEGER && g->type_of[s.b] == INTEGER;
+    default: return true;
+    }
+}
+
+static bool types(struct program *g)
+{
+    for (int i = 0; i < g->nodes; i++)
+        if ((g->type_of[i] = node_type(g, g->node[i])) == NONE)
+            return false;
+    for (int i = 0; i < g->statements; i++)
+        if (!statement_typed(g, g->statement[i]))
+            return false;
+    for (int b = 0; b < g->blocks; b++)
+        for (int k = 0; g->block[b].kind == MODULE && k < g->block[b].parameters; k++) {
+            struct variable x = g->variable[g->block[b].first + k];
+            if (x.mode != VALUE_PARAMETER || (x.type >= DECLARED && g->type[x.type].kind != PROCESS))
+                return false;
+        }
+    return true;
+}
+
+uint32_t plain_check(const uint8_t *table, size_t length)
+{
+    struct program g;
+    return !decode(&g, table, length) ? 2 : !kinds(&g) ? 3 : !numbers(&g) ? 4 : !uses(&g) ? 5 : !nesting(&g) ? 6 : !sizes(&g) ? 7 : !scopes(&g) ? 8 : !types(&g) ? 9 : 0;
+}

@@ -1,0 +1,42 @@
+-- Scopes, by example (01, Verdicts). Assumes nothing.
+use Prim.Native.Nat.{ℕ}
+use mathlib.Core.Path.{_≡_, refl}
+use mathlib.Core.Bool.{true, false}
+use mathlib.Core.List.{List, [], _∷_}
+use lib.ListN.{getD}
+use lib.Dec.{eqb}
+use Rattle.basics.specs.Choice.{pick}
+use Rattle.table.specs.Table.{Table}
+use Rattle.scopes.specs.Scopes.{among, visible, staysIn}
+
+-- the program 0 with variables 0, 1; the module 1 with variable 2; its procedure 2 with variable 3; a procedure 3 of the program, with none
+sampleBlocks : List (List ℕ)
+sampleBlocks =
+    (0 ∷ 0 ∷ 0 ∷ 0 ∷ 2 ∷ []) ∷ (1 ∷ 1 ∷ 2 ∷ 0 ∷ 1 ∷ []) ∷ (2 ∷ 1 ∷ 3 ∷ 0 ∷ 1 ∷ []) ∷ (2 ∷ 0 ∷ 4 ∷ 0 ∷ 0 ∷ []) ∷ []
+
+-- a local call of block 2, one of block 3
+sampleCalls : List (List ℕ)
+sampleCalls = (2 ∷ 2 ∷ []) ∷ (2 ∷ 3 ∷ []) ∷ []
+
+sample : Table
+sample =
+    record {
+      count = λ k. 0;
+      cell = λ k i f. pick (eqb k 3) (getD (getD sampleBlocks i []) f 0) (pick (eqb k 6) (getD (getD sampleCalls i []) f 0) 0);
+    }
+
+-- a procedure sees its own variables and its module's, not the program's; the module does not see its procedure's
+visible-variables :
+    (visible sample 2 3 ≡ true)
+    × (visible sample 2 2 ≡ true)
+    × (visible sample 2 1 ≡ false)
+    × (visible sample 2 4 ≡ false)
+    × (visible sample 1 3 ≡ false)
+    × (visible sample 3 1 ≡ true)
+unfolding sample sampleBlocks sampleCalls visible among
+visible-variables = (refl, refl, refl, refl, refl, refl)
+
+-- the module calls its procedure; a procedure of the program is called from the program, and from no module
+local-calls : (staysIn sample 0 1 ≡ true) × (staysIn sample 0 2 ≡ true) × (staysIn sample 1 1 ≡ false) × (staysIn sample 1 0 ≡ true)
+unfolding sample sampleBlocks sampleCalls staysIn
+local-calls = (refl, refl, refl, refl)

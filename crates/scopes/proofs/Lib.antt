@@ -1,0 +1,3 @@
+pub mod Scoping
+pub mod Promise
+pub mod Examples

@@ -1,0 +1,30 @@
+use Prim.Native.Nat.{_≤_, _-_}
+use native.Mathlib.Omega.{arith}
+use borrow.Author.Needs.{needs}
+use Rattle.table.specs.Table.{tableOf}
+use Rattle.basics.specs.Choice.{Passed}
+use Rattle.scopes.proofs.Scoping.{parts}
+use Rattle.scopes.specs.Scopes.{scopedIn}
+use Rattle.scopes.proofs.part_scoped.Statement.{statement}
+use Rattle.scopes.proofs.part_scoped.Tie as tie
+
+abbrev Inv-loop : tie.InvT-loop
+Inv-loop t s b part count w k₀ k = (k ≤ count) × Passed (scopedIn (tableOf (s .w) t) b (s .w) part) k
+
+abbrev μ-loop : tie.MeasureT-loop
+μ-loop t s b part count w k₀ k = count - k
+
+pub part-scoped-spec : {M : Type 1} → statement M
+part-scoped-spec =
+    tie.close
+    (tie.spec
+    Inv-loop
+    μ-loop
+    (λ c. (omega arith, search parts))
+    (λ c κs. search needs)
+    (λ c κs. search needs)
+    (λ c. omega arith)
+    (λ c. omega arith)
+    (λ c. (omega arith, search parts))
+    (λ c. search parts)
+    (λ c. search parts))

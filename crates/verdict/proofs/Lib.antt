@@ -1,0 +1,3 @@
+pub mod Rooming
+pub mod Promise
+mod Examples

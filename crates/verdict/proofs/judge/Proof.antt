@@ -1,0 +1,25 @@
+use Rattle.basics.proofs.Tests.{tests}
+use Rattle.verdict.specs.Verdict.{judged}
+use borrow.Author.Needs.{needs}
+use Rattle.verdict.proofs.judge.Statement.{statement}
+use Rattle.verdict.proofs.judge.Tie as tie
+
+pub judge-spec : {M : Type 1} → statement M
+unfolding judged
+judge-spec =
+    tie.close
+    (tie.spec
+    (λ c κs. search needs)
+    (λ c κs. search needs)
+    (λ c κs. search needs)
+    (λ c κs. search needs)
+    (λ c. search needs)
+    (λ c. search needs)
+    (λ c. search needs)
+    (λ c. search needs)
+    (λ c. search tests)
+    (λ c. search needs)
+    (λ c. search needs)
+    (λ c. search tests)
+    (λ c. search needs)
+    (λ c. search tests))

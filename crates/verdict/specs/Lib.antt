@@ -1,0 +1,3 @@
+pub mod Verdict
+pub mod Rooms
+pub mod Accepted

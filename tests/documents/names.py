@@ -1,0 +1,66 @@
+"""Every definition, function, test and file that docs/MAP.md and README.md name is there. A line 'ok NAME' or 'FAIL NAME: why' a kind."""
+import pathlib
+import re
+import sys
+
+failures = 0
+
+
+def report(name, missing, count):
+    global failures
+    if count == 0:
+        missing = ["none is named"]
+    if missing:
+        failures += 1
+        print(f"FAIL documents/{name}: {', '.join(missing)}")
+    else:
+        print(f"ok documents/{name}: {count}")
+
+
+def text(paths):
+    return "\n".join(path.read_text(encoding="utf-8") for path in paths if path.is_file())
+
+
+page = pathlib.Path("docs/MAP.md").read_text(encoding="utf-8")
+names = r"([A-Za-z0-9_]+(?:, [A-Za-z0-9_]+)*)"
+
+# crate/File: name, name
+missing, count = [], 0
+for crate, file, listed in re.findall(r"\b([a-z]+)/([A-Z][A-Za-z]*): " + names, page):
+    spec = text([pathlib.Path("crates", crate, "specs", file + ".antt")])
+    for name in listed.split(", "):
+        count += 1
+        if not re.search(rf"^\s*(?:unfoldable |abbrev )?pub (?:data |record )?{re.escape(name)}\b", spec, re.M):
+            missing.append(f"{crate}/{file}: {name}")
+report("definitions", missing, count)
+
+# crate::function
+missing, count = [], 0
+for crate, name in re.findall(r"`([a-z]+)::([a-z_]+)`", page):
+    count += 1
+    source = text(sorted(pathlib.Path("crates", crate, "src").glob("**/*.rt")))
+    if not re.search(rf"^pub (?:extern \"C\" )?fn {name}\b", source, re.M):
+        missing.append(f"{crate}::{name}")
+report("functions", missing, count)
+
+# tests/check: name, name
+missing, count = [], 0
+tests = text(sorted(pathlib.Path("tests/check").iterdir()))
+for listed in re.findall(r"tests/check: " + names, page):
+    for name in listed.split(", "):
+        count += 1
+        if f'run("{name}"' not in tests and f"check/{name}" not in tests:
+            missing.append(name)
+report("tests", missing, count)
+
+# files and folders of the repository, in any document
+missing, count = [], 0
+for document in [pathlib.Path("README.md"), *sorted(pathlib.Path("docs").glob("**/*.md"))]:
+    found = re.findall(r"\b((?:crates|docs|include|examples|tests|bench)/[A-Za-z0-9_./-]*[A-Za-z0-9_])(?![A-Za-z0-9_*/])", document.read_text(encoding="utf-8"))
+    for path in found:
+        count += 1
+        if not pathlib.Path(path).exists():
+            missing.append(f"{document}: {path}")
+report("files", missing, count)
+
+sys.exit(failures > 0)
