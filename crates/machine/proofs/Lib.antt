@@ -1,2 +1,10 @@
+pub mod Rows
 pub mod Programs
 pub mod Examples
+pub mod Memories
+pub mod Ends
+pub mod Failures
+pub mod Courses
+pub mod Calling
+pub mod Copies
+pub mod Broken

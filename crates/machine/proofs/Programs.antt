@@ -1,22 +1,22 @@
--- Programs written as rows, and what their runs come to, by computation. Assumes nothing.
+-- What the runs of programs come to, by computation. Assumes nothing.
 use Prim.Native.Nat.{ℕ, _+_, _/_}
 use mathlib.Core.Bool.{Bool, false}
 use mathlib.Core.List.{List, [], _∷_}
 use lib.ListN.{length, getD}
 use Rattle.basics.specs.Choice
 use Rattle.basics.specs.Course
+use Rattle.words.specs.Numbers
+use Rattle.words.specs.Operators
+use Rattle.words.specs.Types as Standard
+use Rattle.words.specs.Devices
 use Rattle.table.specs.Table.{Table}
 use Rattle.table.specs.Entries as table
 use Rattle.types.specs.Match as types
+use Rattle.sizes.specs.Sizes
 use Rattle.machine.specs.Memory
 use Rattle.machine.specs.Layout
 use Rattle.machine.specs.Outcomes
 use Rattle.machine.specs.Entries
-use Rattle.sizes.specs.Sizes as Words
-use Rattle.words.specs.Numbers as Numbers
-use Rattle.words.specs.Operators as Operators
-use Rattle.words.specs.Types as Standard
-use Rattle.words.specs.Devices as Devices
 use Rattle.machine.specs.Variables
 use Rattle.machine.specs.Context
 use Rattle.machine.specs.Operands
@@ -29,27 +29,41 @@ use Rattle.machine.specs.Values
 use Rattle.machine.specs.Rule
 use Rattle.machine.specs.Public
 
--- ---- rows of the sections (01, The table)
-
-abbrev pub recordRow : ℕ → ℕ → List ℕ
-recordRow first count = 1 ∷ first ∷ count ∷ 0 ∷ 0 ∷ []
-
-abbrev pub arrayRow : ℕ → ℕ → ℕ → ℕ → List ℕ
-arrayRow index element low high = 2 ∷ index ∷ element ∷ low ∷ high ∷ []
-
-abbrev pub processRow : ℕ → List ℕ
-processRow b = 3 ∷ b ∷ 0 ∷ 0 ∷ 0 ∷ []
-
--- a program of sections: types, fields, variables, blocks, arguments, nodes, statements
-abbrev pub tableOfRows : List (List (List ℕ)) → Table
-tableOfRows sections = record {
-  count = λ k. length (getD sections k []);
-  cell = λ k i f. getD (getD (getD sections k []) i []) f 0;
-}
-
 -- ---- runs
 
 -- a run of a schedule from begin, over a page; unfolding it unfolds the whole definition
 unfoldable pub runOn : Table → Memory.Memory → List ℕ → Run.Run
-unfolding Choice.both Choice.either Choice.allBelow Course.upto Course.course table.declared types.offset types.span types.elements types.isString types.matches Memory.update Memory.within Memory.store Memory.clear Memory.wordsAt Memory.zeros Layout.location Layout.recordAt Layout.linkAt Outcomes.andThen Outcomes.need Outcomes.failWhere Outcomes.placed Outcomes.valued Outcomes.onPlace Outcomes.onValue Outcomes.wordOf Outcomes.onWord Entries.typeAt Entries.unaryAt Entries.binaryAt Entries.nodeOf Entries.nodeAt Entries.waits Entries.repeats Entries.statementOf Entries.stmtAt Words.sumBelow Words.fieldsWords Words.typeWords Words.wordsOf Words.partWords Words.offsetIn Words.varOffset Words.moduleWords Numbers.between Operators.ranged Operators.addW Operators.subW Operators.negW Operators.mulW Operators.divW Operators.modW Operators.ltW Operators.leW Operators.notB Operators.andB Operators.orB Standard.lowest Standard.highest Standard.inType Standard.transferW Devices.isDevice Devices.positionOf Variables.varWords Variables.firstWords Variables.frameWords Variables.offsetOf Variables.belongs Variables.isModule Variables.isProcedure Variables.knownType Variables.knownAt Variables.known Variables.fits Context.blockOf Context.contextOf Context.contextual Operands.simple Operands.truth Operands.given Operands.same Operands.deviceWord Operands.unaryValue Operands.ordered Operands.integral Operands.logical Operands.binaryValue Operands.onRecord Operands.onArray Operands.outside Operands.placeAt Operands.fieldPlace Operands.elementPlace Operands.moduleVariable Operands.frameVariable Operands.wholePlace Operands.nodeOperand Operands.operandAt Operands.operand Calls.standing Calls.valueArgument Calls.varArgument Calls.argument Calls.argumentWords Calls.arguments Calls.frame Calls.topAfter Calls.pushed Calls.call Calls.popped Calls.returns Calls.return Processes.onModule Processes.onProcess Processes.refers Processes.onReference Processes.created Processes.started Statements.onArms Statements.onOpener Statements.endOf Statements.goTo Statements.goOn Statements.wait Statements.moved Statements.doAssign Statements.doLocalCall Statements.free Statements.doProcessCall Statements.doCreate Statements.doStart Statements.choose Statements.chosen Statements.doOpener Statements.doEnd Statements.doWrite Statements.doBlockEnd Statements.perform Step.settled Step.inRange Step.answers Step.performs Step.proceeds Step.exists Step.turn Step.step Run.begin Run.onDone Run.before Run.run Values.someBelow Values.typeHolds Values.holdsAt Values.nowhere Values.holds Values.partIn Values.partAt Values.part Values.partOfVariable Values.partOfBlock Rule.nextFirst Rule.liesIn Rule.calls Rule.isCreated Rule.owns Rule.lives Rule.moduleHolds Rule.modulesHold Rule.frameHolds Rule.framesHold Rule.frameOk Rule.chain Rule.moduleOk Rule.startedOk Rule.processOk Rule.failureOk Rule.rule Public.visible Public.look
+unfolding Choice.both Choice.either Choice.allBelow Course.upto Course.course table.declared types.offset types.span types.elements types.isString types.matches Sizes.sumBelow Sizes.fieldsWords Sizes.typeWords Sizes.wordsOf Sizes.partWords Sizes.offsetIn Sizes.varOffset Sizes.moduleWords Numbers.between Operators.ranged Operators.addW Operators.subW Operators.negW Operators.mulW Operators.divW Operators.modW Operators.ltW Operators.leW Operators.notB Operators.andB Operators.orB Standard.lowest Standard.highest Standard.inType Standard.transferW Devices.isDevice Devices.positionOf Memory.update Memory.within Memory.store Memory.clear Memory.wordsAt Memory.zeros Layout.location Layout.recordAt Layout.linkAt Outcomes.andThen Outcomes.need Outcomes.failWhere Outcomes.placed Outcomes.valued Outcomes.onPlace Outcomes.onValue Outcomes.wordOf Outcomes.onWord Entries.typeAt Entries.unaryAt Entries.binaryAt Entries.nodeOf Entries.nodeAt Entries.waits Entries.repeats Entries.statementOf Entries.stmtAt Variables.varWords Variables.firstWords Variables.frameWords Variables.offsetOf Variables.belongs Variables.isModule Variables.isProcedure Variables.knownType Variables.knownAt Variables.known Variables.fits Context.blockOf Context.contextOf Context.contextual Operands.simple Operands.truth Operands.given Operands.same Operands.deviceWord Operands.unaryValue Operands.ordered Operands.integral Operands.logical Operands.binaryValue Operands.onRecord Operands.onArray Operands.outside Operands.placeAt Operands.fieldPlace Operands.elementPlace Operands.moduleVariable Operands.frameVariable Operands.wholePlace Operands.nodeOperand Operands.operandAt Operands.operand Calls.standing Calls.valueArgument Calls.varArgument Calls.argument Calls.argumentWords Calls.arguments Calls.frame Calls.topAfter Calls.pushed Calls.call Calls.popped Calls.returns Calls.return Processes.onModule Processes.onProcess Processes.refers Processes.onReference Processes.created Processes.started Statements.onArms Statements.onOpener Statements.endOf Statements.goTo Statements.goOn Statements.wait Statements.moved Statements.doAssign Statements.doLocalCall Statements.free Statements.doProcessCall Statements.doCreate Statements.doStart Statements.choose Statements.chosen Statements.doOpener Statements.doEnd Statements.doWrite Statements.doBlockEnd Statements.perform Step.settled Step.inRange Step.answers Step.performs Step.proceeds Step.exists Step.turn Step.step Run.begin Run.onDone Run.before Run.run Values.someBelow Values.typeHolds Values.holdsAt Values.nowhere Values.holds Values.partIn Values.partAt Values.part Values.partOfVariable Values.partOfBlock Rule.nextFirst Rule.liesIn Rule.calls Rule.isCreated Rule.owns Rule.lives Rule.moduleHolds Rule.modulesHold Rule.frameHolds Rule.framesHold Rule.frameOk Rule.chain Rule.moduleOk Rule.startedOk Rule.processOk Rule.failureOk Rule.rule Public.visible Public.look
 runOn T page schedule = Run.run T schedule (Run.begin T) page
+
+unfoldable pub answersOf : Run.Run → List ℕ
+answersOf (Run.ran l m page) = l
+answersOf Run.stuck = []
+
+unfoldable pub stateOf : Run.Run → Memory.Memory
+stateOf (Run.ran l m page) = m
+stateOf Run.stuck = Memory.zeros
+
+unfoldable pub pageOf : Run.Run → Memory.Memory
+pageOf (Run.ran l m page) = page
+pageOf Run.stuck = Memory.zeros
+
+-- the answers of a run from begin over zeroed device words; a run that is stuck has none
+unfoldable pub answers : Table → List ℕ → List ℕ
+unfolding runOn answersOf
+answers T schedule = answersOf (runOn T Memory.zeros schedule)
+
+-- the device word that such a run leaves at an address, where d is 8,192 more than it, halved
+unfoldable pub device : Table → List ℕ → ℕ → ℕ
+unfolding runOn pageOf
+device T schedule d = pageOf (runOn T Memory.zeros schedule) d
+
+-- what look gives after such a run
+unfoldable pub looks : Table → List ℕ → ℕ → ℕ → ℕ → ℕ
+unfolding runOn stateOf
+looks T schedule p v k = Public.look T (stateOf (runOn T Memory.zeros schedule)) p v k
+
+-- the state that such a run leaves meets its rule
+unfoldable pub keeps : Table → List ℕ → Bool
+unfolding runOn stateOf
+keeps T schedule = Rule.rule T (stateOf (runOn T Memory.zeros schedule))

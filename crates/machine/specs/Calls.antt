@@ -1,6 +1,5 @@
 -- Procedure calls (11.3, 12): arguments, frames, and how a call begins and ends. Assumes nothing.
 use Prim.Native.Nat.{ℕ, zero, suc, _+_, _-_}
-use mathlib.Core.Bool.{Bool, true, false}
 use mathlib.Core.List.{List, [], _∷_, _++_}
 use lib.ListN.{length, replicate}
 use lib.Dec.{eqb, leb, ltb}
@@ -10,7 +9,7 @@ use Rattle.table.specs.Entries.{argCount, varCount, argNode, varMode, varType, 
 use Rattle.types.specs.Match.{matches}
 use Rattle.machine.specs.Memory.{Memory, update, store}
 use Rattle.machine.specs.Layout.{location, statementAt, frameAt, topAt, worksAt, holderAt, depthAt, callerFrame, callStatement, callerWorks}
-use Rattle.machine.specs.Outcomes.{Outcome, ok, fail, stuck, andThen, need, failWhere, Operand, onPlace, onValue}
+use Rattle.machine.specs.Outcomes.{Outcome, ok, stuck, andThen, need, failWhere, Operand, onPlace, onValue}
 use Rattle.machine.specs.Entries.{Statement, skip, assign, localCall, processCall, create, start, opener, arm, endArms, write, blockEnd, noStatement, stmtAt}
 use Rattle.machine.specs.Variables.{frameWords}
 use Rattle.machine.specs.Context.{Context}

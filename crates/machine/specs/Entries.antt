@@ -1,10 +1,10 @@
 -- The entries of a table as constructors (01, The table). An entry that does not exist, or of an unknown kind, is none. Assumes nothing.
-use Prim.Native.Nat.{ℕ, _+_}
+use Prim.Native.Nat.{ℕ}
 use mathlib.Core.Bool.{Bool, true, false}
 use lib.Dec.{eqb, ltb}
 use Rattle.basics.specs.Choice.{pick}
 use Rattle.table.specs.Table.{Table}
-use Rattle.table.specs.Entries.{typeCount, nodeCount, stmtCount, typeKind, typeP, typeQ, typeLow, typeHigh, nodeKind, nodeP, nodeQ, nodeV, stmtKind, stmtA, stmtB, stmtC, stmtD, stmtLink}
+use Rattle.table.specs.Entries.{nodeCount, stmtCount, typeKind, typeP, typeQ, typeLow, typeHigh, nodeKind, nodeP, nodeQ, nodeV, stmtKind, stmtA, stmtB, stmtC, stmtD, stmtLink}
 
 -- a record type has its first field and the number of fields, an array type its index type, element type and bounds,
 -- a process type its module

@@ -1,14 +1,14 @@
 -- Process variables (5.2), and the creation and starting of processes (11.4, 11.5, 13). Assumes nothing.
-use Prim.Native.Nat.{ℕ, _+_}
-use mathlib.Core.Bool.{Bool, true, false}
+use Prim.Native.Nat.{ℕ}
+use mathlib.Core.Bool.{Bool}
 use mathlib.Core.List.{List}
-use lib.Dec.{eqb, leb, ltb}
-use Rattle.basics.specs.Choice.{pick, both}
+use lib.Dec.{eqb, leb}
+use Rattle.basics.specs.Choice.{both}
 use Rattle.table.specs.Table.{Table}
 use Rattle.table.specs.Entries.{firstStmt}
 use Rattle.machine.specs.Memory.{Memory, update, store, clear}
 use Rattle.machine.specs.Layout.{location, recordAt, statusAt, moduleAt, holderAt, createdAt}
-use Rattle.machine.specs.Outcomes.{Outcome, ok, fail, stuck, need, failWhere, Operand, onPlace}
+use Rattle.machine.specs.Outcomes.{Outcome, stuck, need, failWhere, Operand, onPlace}
 use Rattle.machine.specs.Entries.{TypeEntry, integer, boolean, character, recordType, arrayType, processType, noType, typeAt}
 use Rattle.sizes.specs.Sizes.{moduleWords}
 use Rattle.machine.specs.Calls.{standing}

@@ -4,7 +4,7 @@ use mathlib.Core.Bool.{Bool}
 use mathlib.Core.List.{List, _++_}
 use lib.ListN.{length, drop}
 use lib.Dec.{eqb, leb, ltb}
-use Rattle.basics.specs.Choice.{pick, both, either}
+use Rattle.basics.specs.Choice.{pick, both}
 use Rattle.table.specs.Table.{Table, tableOf}
 use Rattle.table.specs.Entries.{varType}
 use Rattle.machine.specs.Memory.{Memory, memoryOf, bytesOf}

@@ -1,0 +1,103 @@
+-- Refused calls, and an empty schedule (01, The four calls; Verdicts and other refusals). Assumes nothing.
+use Prim.Native.Nat.{ℕ, _≤_}
+use mathlib.Core.Path.{_≡_}
+use mathlib.Core.Bool.{Bool, true, false}
+use mathlib.Core.List.{List, []}
+use native.Mathlib.Omega.{arith}
+use lib.ListN.{length}
+use lib.Dec.{eqb}
+use borrow.Author.Tests.{eq-eqb, ne-eqb, eqb-true, eqb-false, leb-true}
+use Rattle.basics.specs.Choice.{pick, cases}
+use Rattle.basics.proofs.Bools.{both-l, both-r, zero-test}
+use Rattle.words.specs.Memory.{Bytes}
+use Rattle.table.specs.Table.{tableOf}
+use Rattle.machine.specs.Memory.{memoryOf}
+use Rattle.machine.specs.Run.{run}
+use Rattle.machine.specs.Rule.{rule}
+use Rattle.machine.specs.Public.{refusal, begun, called, finished, runLengths, beginRefusal, beginCall, runRefusal, runCall}
+use Rattle.machine.proofs.Memories.{bytes-memory}
+
+-- ---- refusals, in the order of their numbers
+
+module _ (lengths : Bool) (v : ℕ) (state : Bool) where
+  pub refuses-lengths : lengths ≡ false → refusal lengths v state ≡ 1
+  unfolding refusal
+  refuses-lengths e = rw e
+
+  pub refuses-table : lengths ≡ true → (v ≡ 0 → ⊥) → refusal lengths v state ≡ v
+  unfolding refusal
+  refuses-table e h = rw (e, ne-eqb v 0 h)
+
+  pub refuses-state : lengths ≡ true → v ≡ 0 → state ≡ false → refusal lengths v state ≡ 10
+  unfolding refusal
+  refuses-state e h s = rw (e, eq-eqb v 0 h, s)
+
+  pub refuses-none : lengths ≡ true → v ≡ 0 → state ≡ true → refusal lengths v state ≡ 0
+  unfolding refusal
+  refuses-none e h s = rw (e, eq-eqb v 0 h, s)
+
+-- a verdict that is not 0 is refused
+verdict-none : (v k : ℕ) → pick (eqb v 0) k v ≡ 0 → (v ≡ 0) × (k ≡ 0)
+verdict-none v k e =
+    cases (eqb v 0)
+    (λ q. (eqb-true v 0 q, rw q at e))
+    (λ q. absurd (eqb-false v 0 q (rw q at e)))
+
+-- nothing is refused: the lengths are right, the table is accepted, the state meets its rule
+pub refused-none :
+    (lengths : Bool) (v : ℕ) (state : Bool) → refusal lengths v state ≡ 0 → (lengths ≡ true) × ((v ≡ 0) × (state ≡ true))
+unfolding refusal
+refused-none lengths v state e =
+    let a = zero-test lengths (pick (eqb v 0) (pick state 0 10) v) 1 (λ z. omega arith) e in
+    let b = verdict-none v (pick state 0 10) (a .1) in
+    let c = zero-test state 0 10 (λ z. omega arith) (b .1) in
+    (a .0, (b .0, c .0))
+
+-- ---- a refused call changes no lent byte
+
+module _ (verdict : List ℕ → ℕ) (table state : List ℕ) where
+  pub begin-refused :
+      (beginRefusal verdict table state ≡ 0 → ⊥) → beginCall verdict table state ≡ begun (beginRefusal verdict table state) state
+  unfolding beginCall
+  begin-refused h = rw (ne-eqb (beginRefusal verdict table state) 0 h)
+
+  module _ (page schedule answers : List ℕ) where
+    pub run-refused :
+        (runRefusal verdict table state page schedule answers ≡ 0 → ⊥)
+        → runCall verdict table state page schedule answers
+        ≡ called (runRefusal verdict table state page schedule answers) state page answers
+    unfolding runCall
+    run-refused h = rw (ne-eqb (runRefusal verdict table state page schedule answers) 0 h)
+
+    -- what a call that is not refused was lent
+    pub run-lengths :
+        runRefusal verdict table state page schedule answers ≡ 0
+        → (length state ≡ 35328) × ((length page ≡ 8192) × (length schedule ≤ length answers))
+    unfolding runRefusal runLengths
+    run-lengths e =
+        let h = refused-none _ _ _ e .0 in
+        let k = both-r (eqb (length state) 35328) _ h in
+        (eqb-true _ _ (both-l _ _ h), (eqb-true _ _ (both-l (eqb (length page) 8192) _ k), leb-true _ _ (both-r (eqb (length page) 8192) _ k)))
+
+    pub run-accepted : runRefusal verdict table state page schedule answers ≡ 0 → verdict table ≡ 0
+    unfolding runRefusal
+    run-accepted e = refused-none _ _ _ e .1 .0
+
+    pub run-ruled :
+        runRefusal verdict table state page schedule answers ≡ 0 → rule (tableOf 1 table) (memoryOf state) ≡ true
+    unfolding runRefusal
+    run-ruled e = refused-none _ _ _ e .1 .1
+
+  -- ---- an empty schedule changes nothing
+
+  pub run-empty :
+      (page answers : List ℕ) → Bytes state → Bytes page → runRefusal verdict table state page [] answers ≡ 0
+      → runCall verdict table state page [] answers ≡ called 0 state page answers
+  unfolding runCall run finished
+  run-empty page answers s d e =
+      let l = run-lengths page [] answers e in
+      rw (
+        eq-eqb (runRefusal verdict table state page [] answers) 0 e,
+        bytes-memory 17664 state s (l .0),
+        bytes-memory 4096 page d (l .1 .0),
+      )
