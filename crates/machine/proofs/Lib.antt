@@ -8,3 +8,4 @@ pub mod Courses
 pub mod Calling
 pub mod Copies
 pub mod Broken
+pub mod Lending

@@ -13,3 +13,4 @@ pub mod Run
 pub mod Values
 pub mod Rule
 pub mod Public
+pub mod Lent

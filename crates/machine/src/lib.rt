@@ -1,12 +1,75 @@
-// The machine is definitions; this function lets the crate exist.
+// Access to a lent state by word: areas, control records and frames (01, The four calls; docs/STATE.md).
 ghost use mathlib.Core.Path.{_≡_};
-ghost use Prim.Native.Nat.{ℕ, _≤_};
-ghost use Rattle.machine.specs.Layout.{location};
+ghost use Prim.Native.Nat.{ℕ, _*_, _≤_, _<_};
+ghost use lib.ListN.{length};
+ghost use Rattle.machine.specs.Memory.{memoryOf, update};
+ghost use Rattle.machine.specs.Layout.{location, recordAt};
+ghost use Rattle.machine.specs.Lent.{Lent, Changed};
 
 // Where word k of the area of process p stands.
 pub fn location_of(p: usize, k: usize) -> usize
     requires { ⌜ (1 ≤ p) × ((p ≤ 64) × (k ≤ 255)) ⌝ }
-    ensures { λ r. ⌜ r ≡ location p k ⌝ }
+    ensures { λ r. ⌜ (r ≡ location p k) × (r < 16384) ⌝ }
 {
     (p - 1) * 256 + k
+}
+
+// Where word k of the control record of process p stands.
+pub fn record_of(p: usize, k: usize) -> usize
+    requires { ⌜ (1 ≤ p) × ((p ≤ 64) × (k < 20)) ⌝ }
+    ensures { λ r. ⌜ (r ≡ recordAt p k) × (r < 17664) ⌝ }
+{
+    16384 + (p - 1) * 20 + k
+}
+
+// Word i of a memory of n words.
+pub fn word_of(s: &[u8], n: usize, i: usize) -> u16
+    requires { ⌜ Lent n (now s) ⌝ }
+    requires { ⌜ i < n ⌝ }
+    ensures { λ r. ⌜ r ≡ memoryOf (now (s .entry)) i ⌝ }
+{
+    words::memory::get(s, i)
+}
+
+// Makes word i of a memory of n words v.
+pub fn set_word(s: &mut [u8], n: usize, i: usize, v: u16)
+    requires { ⌜ Lent n (now s) ⌝ }
+    requires { ⌜ i < n ⌝ }
+    ensures { λ _. ⌜ Changed n (now (s .exit)) (update (memoryOf (now (s .entry))) i v) ⌝ }
+{
+    words::memory::put(s, i, v);
+}
+
+// Word k of the area of process p.
+pub fn area_word(state: &[u8], p: usize, k: usize) -> u16
+    requires { ⌜ Lent 17664 (now state) ⌝ }
+    requires { ⌜ (1 ≤ p) × ((p ≤ 64) × (k ≤ 255)) ⌝ }
+    ensures { λ r. ⌜ r ≡ memoryOf (now (state .entry)) (location p k) ⌝ }
+{
+    word_of(state, 17664, location_of(p, k))
+}
+
+pub fn set_area_word(state: &mut [u8], p: usize, k: usize, v: u16)
+    requires { ⌜ Lent 17664 (now state) ⌝ }
+    requires { ⌜ (1 ≤ p) × ((p ≤ 64) × (k ≤ 255)) ⌝ }
+    ensures { λ _. ⌜ Changed 17664 (now (state .exit)) (update (memoryOf (now (state .entry))) (location p k) v) ⌝ }
+{
+    set_word(state, 17664, location_of(p, k), v);
+}
+
+// Word k of the control record of process p.
+pub fn record_word(state: &[u8], p: usize, k: usize) -> u16
+    requires { ⌜ Lent 17664 (now state) ⌝ }
+    requires { ⌜ (1 ≤ p) × ((p ≤ 64) × (k < 20)) ⌝ }
+    ensures { λ r. ⌜ r ≡ memoryOf (now (state .entry)) (recordAt p k) ⌝ }
+{
+    word_of(state, 17664, record_of(p, k))
+}
+
+pub fn set_record_word(state: &mut [u8], p: usize, k: usize, v: u16)
+    requires { ⌜ Lent 17664 (now state) ⌝ }
+    requires { ⌜ (1 ≤ p) × ((p ≤ 64) × (k < 20)) ⌝ }
+    ensures { λ _. ⌜ Changed 17664 (now (state .exit)) (update (memoryOf (now (state .entry))) (recordAt p k) v) ⌝ }
+{
+    set_word(state, 17664, record_of(p, k), v);
 }

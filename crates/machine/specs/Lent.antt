@@ -1,0 +1,15 @@
+-- Memories in lent slices of bytes. Assumes nothing.
+use Prim.Native.Nat.{ℕ, _*_}
+use mathlib.Core.Path.{_≡_}
+use mathlib.Core.List.{List}
+use lib.ListN.{length}
+use Rattle.machine.specs.Memory.{Memory, memoryOf}
+
+-- s has n words
+pub record Lent (n : ℕ) (s : List ℕ) : Type 0 where
+  pub long : length s ≡ n * 2
+
+-- s still has n words, and is the memory m
+pub record Changed (n : ℕ) (s : List ℕ) (m : Memory) : Type 0 where
+  pub long : length s ≡ n * 2
+  pub is : memoryOf s ≡ m
