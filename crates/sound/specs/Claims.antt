@@ -82,6 +82,3 @@ pub record Sound (T : Table) (s : Step) : Type 0 where
   pub words : Small state
   pub devices : Small page
   pub byte : answer < 256
-
-pub StepSound : Table → Type 0
-StepSound T = (m page : Memory) (p : ℕ) → rule T m ≡ true → Small m → Small page → Sound T (step T m page p)

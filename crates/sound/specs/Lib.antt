@@ -1,2 +1,8 @@
-pub mod Accepted
 pub mod Claims
+pub mod Ruled
+pub mod Claims3
+pub mod Histories
+pub mod Reached
+pub mod InUse
+pub mod Rows
+pub mod Demand

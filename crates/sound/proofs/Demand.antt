@@ -1,0 +1,162 @@
+-- DEMAND 3 is met (01, A run, for demand 3; Agreement). Assumes nothing.
+use Prim.Native.Nat.{ℕ, _≤_}
+use mathlib.Core.Path.{_≡_, refl, sym, ap, _∙_}
+use mathlib.Core.Bool.{true}
+use mathlib.Core.List.{List, [], _∷_}
+use lib.ListN.{length}
+use lib.Dec.{eqb}
+use borrow.Author.Tests.{eqb-true, eqb-false, eq-eqb}
+use Rattle.basics.specs.Choice.{cases}
+use Rattle.basics.proofs.Bools.{zero-test}
+use Rattle.table.specs.Table.{Table, tableOf}
+use mathlib.Core.Logic.{inl, inr}
+use Rattle.machine.specs.Memory.{Memory, memoryOf, update}
+use Rattle.machine.specs.Layout.{failureAt}
+use native.Mathlib.Omega.{arith}
+use Rattle.machine.specs.Step.{Step, done, step}
+use Rattle.machine.specs.Run.{begin}
+use Rattle.machine.specs.Rule.{rule}
+use Rattle.machine.specs.Public.{beginRefusal, beginCall}
+use Rattle.verdict.specs.Accepted.{Accepted}
+use Rattle.sound.specs.Reached.{Reached, WordTable, StepLaws, BeginLaw}
+use Rattle.sound.specs.Histories.{Seen, asked, told, Threaded, Every, Lasting, Calls, begunResult, History, first, steps}
+use Rattle.sound.specs.InUse.{ValuesHold}
+use Rattle.sound.specs.Rows.{Changes, failureMark, nothing, givesUp, absent, others}
+use Rattle.sound.specs.Demand.{StepHolds, Demand3}
+use Rattle.sound.proofs.HistoriesBegin.{word-table, begin-reached}
+use Rattle.sound.proofs.Histories.{StepOf, At, at-memory, follows, served, handed, same-told, begun-at, at-begin}
+use Rattle.sound.proofs.HistoriesValues.{rule-values}
+use Rattle.sound.proofs.Rows.{rows-hold, same-failure}
+
+every-map : (P Q : Seen → Type 0) → ((e : Seen) → P e → Q e) → (es : List Seen) → Every P es → Every Q es
+unfolding Every
+every-map P Q f [] h = tt
+every-map P Q f (e ∷ es) h = (f e (h .0), every-map P Q f es (h .1))
+
+reached-values : (T : Table) (m : Memory) → Reached T m → ValuesHold T m
+reached-values T m h = rule-values T m (h .words) (h .ruled)
+
+not-stuck : (a : ℕ) (s d : Memory) → done a s d ≡ Step.stuck → ⊥
+not-stuck a s d e = let z : _≡_ {A = ℕ} 0 1 = cc in absurd (omega arith)
+
+step-holds : (T : Table) (e : Seen) → StepOf T e → StepHolds T e
+step-holds T e h =
+    let free : step T (memoryOf (e .before)) (memoryOf (e .given)) (e .process) ≡ Step.stuck → ⊥ = λ q. not-stuck _ _ _ (sym (h .is) ∙ q) in
+    record {
+      is = h .is;
+      values = reached-values T _ (h .reached);
+      row = λ z. rows-hold T _ _ _ z free .given (e .answer) (record { state = memoryOf (e .after); devices = memoryOf (e .left); is = h .is });
+      rows = λ z. rows-hold T _ _ _ z free;
+      failed = λ n. same-failure T _ _ _ n free;
+    }
+
+-- ---- failures last
+
+mark-at : (m : Memory) (n : ℕ) → update m failureAt n failureAt ≡ n
+unfolding update
+mark-at m n = rw (eq-eqb failureAt failureAt refl)
+
+changes-mark : (T : Table) (m page : Memory) (p n : ℕ) (s d : Memory) → 16 ≤ n → Changes T m page p n s d → s failureAt ≡ n
+changes-mark T m page p n _ _ h (failureMark f) = mark-at m n
+changes-mark T m page p _ _ _ h nothing = absurd (omega arith)
+changes-mark T m page p _ _ _ h (givesUp e w) = absurd (omega arith)
+changes-mark T m page p _ _ _ h absent = absurd (omega arith)
+changes-mark T m page p n s d h (others (inl e)) = absurd (omega arith)
+changes-mark T m page p n s d h (others (inr e)) = absurd (omega arith)
+
+-- a step of a failed run: its number, and the mark stays
+failed-step : (T : Table) (e : Seen) → StepHolds T e → (f : ℕ) → 16 ≤ f → memoryOf (e .before) failureAt ≡ f → (e .answer ≡ f) × (memoryOf (e .after) failureAt ≡ f)
+failed-step T e h f l k =
+    let n : memoryOf (e .before) failureAt ≡ 0 → ⊥ = λ z. omega arith in
+    let q = sym (h .is) ∙ h .failed n in
+    go q
+  where
+    go : done (e .answer) (memoryOf (e .after)) (memoryOf (e .left)) ≡ done (memoryOf (e .before) failureAt) (memoryOf (e .before)) (memoryOf (e .given)) → (e .answer ≡ f) × (memoryOf (e .after) failureAt ≡ f)
+    go q =
+        let a : e .answer ≡ memoryOf (e .before) failureAt = cc in
+        let b : memoryOf (e .after) ≡ memoryOf (e .before) = cc in
+        (a ∙ k, ap (λ (m : Memory). m failureAt) b ∙ k)
+
+all-failed : (T : Table) (s : List ℕ) (es : List Seen) (f : ℕ) → 16 ≤ f → memoryOf s failureAt ≡ f → Threaded s es → Every (StepHolds T) es → Every (λ e. e .answer ≡ f) es
+unfolding Threaded Every
+all-failed T s [] f l k t h = tt
+all-failed T s (e ∷ es) f l k t h =
+    let u = failed-step T e (h .0) f l (ap (λ (b : List ℕ). memoryOf b failureAt) (t .0) ∙ k) in
+    (u .0, all-failed T (e .after) es f l (u .1) (t .1) (h .1))
+
+step-mark : (T : Table) (e : Seen) → StepHolds T e → 16 ≤ e .answer → memoryOf (e .after) failureAt ≡ e .answer
+step-mark T e h l =
+    cases (eqb (memoryOf (e .before) failureAt) 0)
+    (λ z. changes-mark T (memoryOf (e .before)) (memoryOf (e .given)) (e .process) (e .answer) (memoryOf (e .after)) (memoryOf (e .left)) l
+    (h .rows (eqb-true _ 0 z) .changes (e .answer) (memoryOf (e .after)) (memoryOf (e .left)) (h .is)))
+    (λ z. same-mark (sym (h .is) ∙ h .failed (eqb-false _ 0 z)))
+  where
+    same-mark : done (e .answer) (memoryOf (e .after)) (memoryOf (e .left)) ≡ done (memoryOf (e .before) failureAt) (memoryOf (e .before)) (memoryOf (e .given)) → memoryOf (e .after) failureAt ≡ e .answer
+    same-mark q =
+        let a : e .answer ≡ memoryOf (e .before) failureAt = cc in
+        let b : memoryOf (e .after) ≡ memoryOf (e .before) = cc in
+        ap (λ (m : Memory). m failureAt) b ∙ sym a
+
+lasts : (T : Table) (s : List ℕ) (es : List Seen) → Threaded s es → Every (StepHolds T) es → Lasting es
+unfolding Lasting Threaded Every
+lasts T s [] t h = tt
+lasts T s (e ∷ es) t h =
+    (λ l. all-failed T (e .after) es (e .answer) l (step-mark T e (h .0) l) (t .1) (h .1), lasts T (e .after) es (t .1) (h .1))
+
+module _ (verdict : List ℕ → ℕ)
+    (accepted : (t : List ℕ) → verdict t ≡ 0 → Accepted (tableOf 1 t))
+    (sound : (T : Table) → Accepted T → WordTable T → StepLaws T)
+    (begun : (T : Table) → Accepted T → rule T (begin T) ≡ true) where
+  -- a begin that is not refused has an accepted table
+  begun-verdict : (t slice : List ℕ) → begunResult (beginCall verdict t slice) ≡ 0 → verdict t ≡ 0
+  unfolding beginCall begunResult beginRefusal
+  begun-verdict t slice e =
+      cases (eqb (beginRefusal verdict t slice) 0)
+      (λ z. zero-test (eqb (length slice) 35328) (verdict t) 1 (λ x. omega-one x) (eqb-true _ 0 z) .1)
+      (λ z. absurd (eqb-false _ 0 z (rw z at e)))
+    where
+      omega-one : _≡_ {A = ℕ} 1 0 → ⊥
+      omega-one x = absurd (eqb-false 1 0 refl x)
+
+  module _ (h : History verdict) where
+    good : Accepted (tableOf 1 (h .table))
+    good = accepted (h .table) (begun-verdict (h .table) (h .slice) (h .begins))
+
+    laws : StepLaws (tableOf 1 (h .table))
+    laws = sound (tableOf 1 (h .table)) good (word-table 1 (h .table) (h .bytes))
+
+    begin-law : BeginLaw (tableOf 1 (h .table))
+    begin-law = begin-reached (tableOf 1 (h .table)) good (word-table 1 (h .table) (h .bytes)) (begun (tableOf 1 (h .table)) good)
+
+    at-first : At (tableOf 1 (h .table)) (first verdict h)
+    at-first = at-begin verdict (h .table) laws (h .slice) begin-law (h .begins)
+
+    -- runs begun alike begin with the same state, whatever slices they fill
+    same-first : (k : History verdict) → k .table ≡ h .table → first verdict k ≡ first verdict h
+    same-first k e =
+        begun-at verdict (k .table) (rw e laws) (k .slice) (rw e begin-law) (k .begins)
+        ∙ rw e (sym (begun-at verdict (h .table) laws (h .slice) begin-law (h .begins)))
+
+    agree : (k : History verdict) → k .table ≡ h .table → asked (steps verdict k) ≡ asked (steps verdict h) → told (steps verdict k) ≡ told (steps verdict h)
+    agree k e q =
+        let s = same-first k e in
+        let c : Calls verdict (h .table) (first verdict h) (k .calls) = rw (s, e) at (k .fits) in
+        rw s (same-told verdict (h .table) laws (first verdict h) (k .calls) (h .calls) at-first c (h .fits) (rw s at q))
+
+    -- THE THEOREM
+    pub demand3 : Demand3 verdict h
+    demand3 =
+        let f = follows verdict (h .table) laws (first verdict h) (h .calls) at-first (h .fits) in
+        let every = every-map _ _ (step-holds (tableOf 1 (h .table))) _ (f .course .every) in
+        record {
+          begins = reached-values _ _ (at-memory _ _ at-first);
+          served = served verdict (h .table) laws (first verdict h) (h .calls) (begun-verdict (h .table) (h .slice) (h .begins)) at-first (h .fits);
+          named = f .named;
+          answered = f .answered;
+          threaded = f .course .threaded;
+          handed = handed verdict (h .table) laws (first verdict h) (h .calls) at-first (h .fits);
+          holds = every;
+          lasting = lasts (tableOf 1 (h .table)) _ _ (f .course .threaded) every;
+          last = f .course .last;
+          agrees = agree;
+        }

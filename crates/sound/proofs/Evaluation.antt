@@ -1,0 +1,87 @@
+-- EVALUATION, in the form of the claims: operands are good, arguments fill a frame, and the statement of a started process is not stuck. Assumes nothing.
+use Prim.Native.Nat.{ℕ, _≤_, _<_}
+use mathlib.Core.Path.{_≡_}
+use mathlib.Core.Bool.{true}
+use mathlib.Core.List.{List}
+use native.Mathlib.Omega.{arith}
+use native.Mathlib.Nat.{zero-add}
+use lib.ListN.{getD}
+use lib.Dec.{eqb, leb}
+use borrow.Author.Tests.{eqb-true, eqb-false, leb-true, leb-false}
+use Rattle.basics.specs.Choice.{cases}
+use Rattle.table.specs.Table.{Table}
+use Rattle.table.specs.Entries.{blockCount, nodeCount, firstVar, params, nodeKind}
+use Rattle.types.specs.Types.{typeOf}
+use Rattle.scopes.specs.Scopes.{nodeScoped, scoped}
+use Rattle.machine.specs.Memory.{Memory}
+use Rattle.machine.specs.Layout.{statementAt, createdAt}
+use Rattle.machine.specs.Outcomes.{Outcome, Operand}
+use Rattle.machine.specs.Entries.{stmtAt}
+use Rattle.machine.specs.Variables.{firstWords}
+use Rattle.machine.specs.Context.{contextOf, blockOf}
+use Rattle.machine.specs.Operands.{operand}
+use Rattle.machine.specs.Statements.{perform}
+use Rattle.verdict.specs.Accepted.{Accepted}
+use Rattle.sound.specs.Claims.{PlaceLaws, Started, Good, selects, yields, Small}
+use Rattle.sound.specs.Claims as claims
+use Rattle.sound.specs.Ruled.{Ruled, Fills}
+use Rattle.sound.specs.Claims3.{SmallTable, GoodPlace, at-place, no-place, GoodValue, a-value, no-value, GoodNode, Bound, Performed}
+use Rattle.sound.proofs.Ruled.{ruled, stands}
+use Rattle.sound.proofs.StoresChains.{created-low, created-high}
+use Rattle.sound.proofs.EvaluationNodes.{node-good}
+use Rattle.sound.proofs.EvaluationArguments.{bound-length, bound-value, bound-place}
+use Rattle.sound.proofs.EvaluationPerforms.{performs}
+use Rattle.sound.proofs.EvaluationScopes.{node-scoping, all-scoped}
+
+-- a good place and a good value are good
+module _ (T : Table) (m : Memory) (p τ : ℕ) where
+  place-is-good : (o : Outcome Operand) → GoodPlace T m p τ o → Good T m p τ o
+  place-is-good _ (at-place a l) = selects a (l .alive)
+  place-is-good _ (no-place n l h) = claims.fails n l h
+
+  value-is-good : (o : Outcome Operand) → GoodValue T m τ o → Good T m p τ o
+  value-is-good _ (a-value ws v s) = yields ws v
+  value-is-good _ (no-value n l h) = claims.fails n l h
+
+-- the words of arguments fill the parameters of block b
+pub fills : (T : Table) (m : Memory) (p b : ℕ) (ws : List ℕ) → Bound T m p (params T b) (firstVar T b) ws → Fills T m p b ws
+unfolding firstWords
+fills T m p b ws h =
+    record {
+      long = bound-length T m p (params T b) (firstVar T b) ws h;
+      values = λ i l e n a k s. bound-value T m p n k (params T b) (firstVar T b) a i ws h (record { at = s }) l e;
+      places = λ i l e. rw zero-add at (bound-place T m p (λ j. getD ws j 0) (params T b) (firstVar T b) 0 i ws h (record { at = λ j g. rw zero-add }) l e .alive);
+    }
+
+module _ (T : Table) (acc : Accepted T) (inner : scoped T ≡ true) (L : PlaceLaws T) (W : SmallTable T) (m page : Memory) (p : ℕ) (S : Started T m p) (ms : Small m) (ps : Small page) where
+  R : Ruled T m
+  R = ruled T m (S .ruled)
+
+  some : 1 ≤ p
+  some = created-low T m p (S .created)
+
+  made : p ≤ m createdAt
+  made = created-high T m p (S .created)
+
+  there : blockOf m p < blockCount T
+  there = stands T acc m p some made (R .process p some made) (S .started) .there
+
+  -- EVALUATION of a node, by its sort
+  pub evaluates : (n : ℕ) → n < nodeCount T → nodeScoped T (blockOf m p) n ≡ true → GoodNode T m p n (operand T m page (contextOf m p) n)
+  evaluates n l c = node-good T acc L W m R ms page ps p some made (S .started) (λ k. nodeScoped T (blockOf m p) k ≡ true) (node-scoping T acc (blockOf m p) there) n l c
+
+  -- and as the claims have it
+  pub good : (n : ℕ) → n < nodeCount T → nodeScoped T (blockOf m p) n ≡ true → Good T m p (typeOf T n) (operand T m page (contextOf m p) n)
+  good n l c =
+      let g = evaluates n l c in
+      cases (eqb (nodeKind T n) 0)
+      (λ q. let e = eqb-true (nodeKind T n) 0 q in value-is-good T m p (typeOf T n) (operand T m page (contextOf m p) n) (g .expression (λ z. omega arith)))
+      (λ q.
+      let e = eqb-false (nodeKind T n) 0 q in
+      cases (leb (nodeKind T n) 3)
+      (λ u. place-is-good T m p (typeOf T n) (operand T m page (contextOf m p) n) (g .variable (omega arith) (leb-true (nodeKind T n) 3 u)))
+      (λ u. value-is-good T m p (typeOf T n) (operand T m page (contextOf m p) n) (g .expression (λ z. leb-false (nodeKind T n) 3 u))))
+
+  -- THE STATEMENT of a started process is not stuck, and this is what it comes to
+  pub performed : Performed T m page p (perform T m page (contextOf m p) (stmtAt T (m (statementAt p))))
+  performed = performs T acc L W m R ms page ps p some made (S .started) (λ k. nodeScoped T (blockOf m p) k ≡ true) (all-scoped T acc (blockOf m p) there inner)

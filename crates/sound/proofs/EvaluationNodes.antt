@@ -1,0 +1,193 @@
+-- Evaluation: each node in scope comes to a live place of its type or a value of it, by its sort, or to a listed failure. Assumes nothing.
+use Prim.Native.Nat.{ℕ, zero, suc, _+_, _-_, _*_, _≤_, _<_}
+use mathlib.Core.Path.{_≡_}
+use mathlib.Core.Bool.{false}
+use native.Mathlib.Omega.{arith}
+use native.Mathlib.Nat.{not-suc-le-zero}
+use lib.Dec.{eqb, ltb}
+use borrow.Author.Tests.{eqb-true, eqb-false, lt-ltb}
+use Rattle.basics.specs.Choice.{both, cases}
+use Rattle.basics.specs.Course.{upto, course}
+use Rattle.basics.proofs.Bools.{both-i}
+use Rattle.basics.proofs.Courses.{upto-below}
+use Rattle.table.specs.Table.{Table}
+use Rattle.table.specs.Entries.{nodeCount, typeKind, typeP, typeQ, typeLow, typeHigh, fieldType, nodeKind, nodeP, nodeQ, nodeV}
+use Rattle.types.specs.Types.{fieldOf, elementOf, unaryType, binaryType, typeOf}
+use Rattle.types.specs.Match.{offset}
+use Rattle.entries.proofs.Promise as known
+use Rattle.numbers.specs.Sorts.{Variable, Expression}
+use Rattle.numbers.proofs.OperandPromise as ranged
+use Rattle.typing.proofs.Promise as typing
+use Rattle.sizes.specs.Sizes.{wordsOf, offsetIn}
+use Rattle.sizes.proofs.Counting.{index-in}
+use Rattle.machine.specs.Memory.{Memory, wordsAt}
+use Rattle.machine.specs.Layout.{statusAt, createdAt}
+use Rattle.machine.specs.Outcomes.{Outcome, stuck, Operand, value, wordOf}
+use Rattle.machine.specs.Entries.{whole, nodeOf, nodeAt}
+use Rattle.machine.specs.Context.{contextOf, blockOf}
+use Rattle.machine.specs.Operands.{onRecord, onArray, outside, placeAt, fieldPlace, elementPlace, nodeOperand, operandAt, operand}
+use Rattle.verdict.specs.Accepted.{Accepted}
+use Rattle.sound.specs.Claims.{PlaceLaws, Small}
+use Rattle.sound.specs.Ruled.{Ruled}
+use Rattle.sound.specs.Claims3.{SmallTable, Live, GoodPlace, no-place, GoodValue, a-value, no-value, GoodNode, Scoping}
+use Rattle.sound.proofs.EvaluationBasics.{on-need, on-fail, on-place, on-value, on-word}
+use Rattle.sound.proofs.ValueTypes.{at-record, at-array}
+use Rattle.sound.proofs.EvaluationTypes.{node-is, constant-type, whole-type, transfer-type, field-type, element-type, value-type, unary-type, binary-type, word-small, words-small, declared-small}
+use Rattle.sound.proofs.EvaluationVariables.{whole-good, place-good}
+use Rattle.sound.proofs.EvaluationOperators.{constant-good, transfer-good, unary-good, binary-good, index-low, index-high}
+use Rattle.sound.proofs.EvaluationParts.{further-field, further-element, live-part}
+
+module _ (T : Table) (acc : Accepted T) (L : PlaceLaws T) (W : SmallTable T) (m : Memory) (R : Ruled T m) (ms : Small m) (page : Memory) (ps : Small page) (p : ℕ) (some : 1 ≤ p) (made : p ≤ m createdAt) (s : m (statusAt p) ≡ 2) where
+  -- a field of a live place
+  field-good : (a σ i : ℕ) → typeKind T σ ≡ 1 → i < typeQ T σ → Live T m p σ a → GoodPlace T m p (fieldType T (typeP T σ + i)) (fieldPlace T a σ i)
+  unfolding fieldPlace onRecord
+  field-good a σ i k l v =
+      rw (at-record T σ k)
+      (on-need (GoodPlace T m p (fieldType T (typeP T σ + i))) no-place (ltb i (typeQ T σ)) _ (lt-ltb i (typeQ T σ) l)
+      (place-good T acc L m R p some made s (fieldType T (typeP T σ + i)) (a + offsetIn T σ i)
+      (live-part T acc L σ (fieldType T (typeP T σ + i)) (offsetIn T σ i) (v .type) (further-field T L σ (typeP T σ) (typeQ T σ) i (at-record T σ k) l) m R p some made s a v)))
+
+  -- an element of a live place
+  element-good : (a σ : ℕ) (o : Outcome Operand) → typeKind T σ ≡ 2 → GoodValue T m (typeP T σ) o → Live T m p σ a → GoodPlace T m p (typeQ T σ) (elementPlace T a σ o)
+  unfolding elementPlace onArray
+  element-good a σ o k g v =
+      rw (at-array T σ k)
+      (on-word (GoodPlace T m p (typeQ T σ)) no-place T m (typeP T σ) o _ g (λ ws u t.
+      on-fail (GoodPlace T m p (typeQ T σ)) no-place (outside (typeLow T σ) (typeHigh T σ) (wordOf ws)) 18 _ (omega arith) (omega arith) (λ e. found (wordOf ws) (word-small ws t) e)))
+    where
+      found : (i : ℕ) → i < 65536 → outside (typeLow T σ) (typeHigh T σ) i ≡ false → GoodPlace T m p (typeQ T σ) (placeAt T (a + (offset i - offset (typeLow T σ)) * wordsOf T (typeQ T σ)) (typeQ T σ))
+      found i l e =
+          let j : ℕ = offset i - offset (typeLow T σ) in
+          let low = index-low (typeLow T σ) (typeHigh T σ) i (declared-small T W σ 3) (declared-small T W σ 4) l e in
+          let high = index-high (typeLow T σ) (typeHigh T σ) i (declared-small T W σ 3) (declared-small T W σ 4) l e in
+          place-good T acc L m R p some made s (typeQ T σ) (a + j * wordsOf T (typeQ T σ))
+          (live-part T acc L σ (typeQ T σ) (j * wordsOf T (typeQ T σ)) (v .type)
+          (further-element T L σ (typeP T σ) (typeQ T σ) (typeLow T σ) (typeHigh T σ) j (at-array T σ k) (index-in T σ i low high))
+          m R p some made s a v)
+
+  module _ (scope : ℕ → Type 0) (S : Scoping T (blockOf m p) scope) where
+    -- one node, where r gives the outcomes of those before it
+    module _ (n : ℕ) (l : n < nodeCount T) (c : scope n) (r : ℕ → Outcome Operand) (h : (k : ℕ) → k < n → scope k → GoodNode T m p k (r k)) where
+      variable-before : 2 ≤ nodeKind T n → Variable T n (nodeP T n) → GoodPlace T m p (typeOf T (nodeP T n)) (r (nodeP T n))
+      variable-before k v = h (nodeP T n) (v .below) (S .first n c k) .variable (v .low) (v .high)
+
+      expression-before : 2 ≤ nodeKind T n → Expression T n (nodeP T n) → GoodValue T m (typeOf T (nodeP T n)) (r (nodeP T n))
+      expression-before k v = h (nodeP T n) (v .below) (S .first n c k) .expression (v .sort)
+
+      constant-node : nodeKind T n ≡ 0 → GoodValue T m (typeOf T n) (nodeOperand T m page (contextOf m p) r (nodeAt T n))
+      unfolding nodeOf nodeOperand
+      constant-node e =
+          let t = ranged.constant-type T (acc .numbers) n l e in
+          rw (constant-type T n l e, node-is T n 0 l e)
+          (on-need (GoodValue T m (nodeP T n)) no-value (ltb (nodeP T n) 3) _ (lt-ltb (nodeP T n) 3 (omega arith))
+          (constant-good T m (nodeP T n) (nodeV T n) t (W .cells 5 n 3) (typing.boolean-constant T (acc .types) n l e) (typing.character-constant T (acc .types) n l e)))
+
+      whole-node : nodeKind T n ≡ 1 → GoodPlace T m p (typeOf T n) (nodeOperand T m page (contextOf m p) r (nodeAt T n))
+      unfolding nodeOf nodeOperand
+      whole-node e =
+          rw (whole-type T n l e, node-is T n 1 l e)
+          (whole-good T acc L m R p some made s (nodeP T n) page (ranged.whole-variable T (acc .numbers) n l e) (S .whole n c e))
+
+      field-node : nodeKind T n ≡ 2 → GoodPlace T m p (typeOf T n) (nodeOperand T m page (contextOf m p) r (nodeAt T n))
+      unfolding nodeOf nodeOperand fieldOf
+      field-node e =
+          let v = ranged.field-variable T (acc .numbers) n l e in
+          let k = typing.field-of-record T (acc .types) n l e in
+          let q = ranged.field-place T (acc .numbers) n l e k in
+          rw (field-type T n l (v .below) e, node-is T n 2 l e, k, lt-ltb (nodeQ T n) (typeQ T (typeOf T (nodeP T n))) q)
+          (on-place (GoodPlace T m p (fieldType T (typeP T (typeOf T (nodeP T n)) + nodeQ T n))) no-place T m p (typeOf T (nodeP T n)) (r (nodeP T n)) _
+          (variable-before (omega arith) v)
+          (λ a w. field-good a (typeOf T (nodeP T n)) (nodeQ T n) k q w))
+
+      element-node : nodeKind T n ≡ 3 → GoodPlace T m p (typeOf T n) (nodeOperand T m page (contextOf m p) r (nodeAt T n))
+      unfolding nodeOf nodeOperand elementOf
+      element-node e =
+          let v = ranged.element-variable T (acc .numbers) n l e in
+          let i = ranged.element-index T (acc .numbers) n l e in
+          let k = typing.element-of-array T (acc .types) n l e in
+          let g : GoodValue T m (typeP T (typeOf T (nodeP T n))) (r (nodeQ T n)) = rw (typing.index-type T (acc .types) n l e) at (h (nodeQ T n) (i .below) (S .index n c e) .expression (i .sort)) in
+          rw (element-type T n l (v .below) e, node-is T n 3 l e, k)
+          (on-place (GoodPlace T m p (typeQ T (typeOf T (nodeP T n)))) no-place T m p (typeOf T (nodeP T n)) (r (nodeP T n)) _
+          (variable-before (omega arith) v)
+          (λ a w. element-good a (typeOf T (nodeP T n)) (r (nodeQ T n)) k g w))
+
+      value-node : nodeKind T n ≡ 4 → GoodValue T m (typeOf T n) (nodeOperand T m page (contextOf m p) r (nodeAt T n))
+      unfolding nodeOf nodeOperand
+      value-node e =
+          let v = ranged.value-variable T (acc .numbers) n l e in
+          let σ : ℕ = typeOf T (nodeP T n) in
+          rw (value-type T n l (v .below) e, node-is T n 4 l e)
+          (on-place (GoodValue T m (typeOf T (nodeP T n))) no-value T m p (typeOf T (nodeP T n)) (r (nodeP T n)) _
+          (variable-before (omega arith) v)
+          (λ a w. a-value (wordsAt m a (wordsOf T σ)) (L .retrieved m σ a (w .type) (w .value)) (words-small m (ms .small) a (wordsOf T σ))))
+
+      unary-node : nodeKind T n ≡ 5 → GoodValue T m (typeOf T n) (nodeOperand T m page (contextOf m p) r (nodeAt T n))
+      unfolding nodeOf nodeOperand
+      unary-node e =
+          let v = ranged.unary-operand T (acc .numbers) n l e in
+          let σ : ℕ = typeOf T (nodeP T n) in
+          let q = known.unary-operator T (acc .kinds) n l e in
+          rw (unary-type T n l (v .below) e, node-is T n 5 l e)
+          (on-value (GoodValue T m (unaryType (nodeQ T n) σ)) no-value T m σ (r (nodeP T n)) _
+          (expression-before (omega arith) v)
+          (λ ws u t. unary-good T m page ps (wordOf ws) (word-small ws t) (nodeQ T n) σ (q .0) (q .1) (typing.not-operand T (acc .types) n l e) (typing.integer-operand T (acc .types) n l e)))
+
+      binary-node : nodeKind T n ≡ 6 → GoodValue T m (typeOf T n) (nodeOperand T m page (contextOf m p) r (nodeAt T n))
+      unfolding nodeOf nodeOperand
+      binary-node e =
+          let v = ranged.binary-left T (acc .numbers) n l e in
+          let w = ranged.binary-right T (acc .numbers) n l e in
+          let σ : ℕ = typeOf T (nodeP T n) in
+          let τ : ℕ = typeOf T (nodeQ T n) in
+          let q = known.binary-operator T (acc .kinds) n l e in
+          rw (binary-type T n l (v .below) e, node-is T n 6 l e)
+          (on-value (GoodValue T m (binaryType (nodeV T n) σ)) no-value T m σ (r (nodeP T n)) _
+          (expression-before (omega arith) v)
+          (λ us a t. on-value (GoodValue T m (binaryType (nodeV T n) σ)) no-value T m τ (r (nodeQ T n)) _
+          (h (nodeQ T n) (w .below) (S .second n c e) .expression (w .sort))
+          (λ vs b u. binary-good T m σ τ us vs a t u (nodeV T n) (q .0) (q .1)
+          (typing.equality-operands T (acc .types) n l e) (typing.same-operands T (acc .types) n l e) (typing.order-operands T (acc .types) n l e)
+          (typing.arithmetic-operands T (acc .types) n l e) (typing.logic-operands T (acc .types) n l e))))
+
+      transfer-node : nodeKind T n ≡ 7 → GoodValue T m (typeOf T n) (nodeOperand T m page (contextOf m p) r (nodeAt T n))
+      unfolding nodeOf nodeOperand
+      transfer-node e =
+          let v = ranged.transfer-operand T (acc .numbers) n l e in
+          let σ : ℕ = typeOf T (nodeP T n) in
+          let a = typing.transfer-operand T (acc .types) n l e in
+          let b = ranged.transfer-type T (acc .numbers) n l e in
+          rw (transfer-type T n l e, node-is T n 7 l e)
+          (on-value (GoodValue T m (nodeQ T n)) no-value T m σ (r (nodeP T n)) _
+          (expression-before (omega arith) v)
+          (λ ws u t. on-need (GoodValue T m (nodeQ T n)) no-value (both (ltb σ 3) (ltb (nodeQ T n) 3)) _ (both-i _ _ (lt-ltb σ 3 (omega arith)) (lt-ltb (nodeQ T n) 3 (omega arith)))
+          (transfer-good T m (nodeQ T n) (wordOf ws) b (word-small ws t))))
+
+      one-node : GoodNode T m p n (nodeOperand T m page (contextOf m p) r (nodeAt T n))
+      one-node =
+          record {
+            variable = λ a b.
+                cases (eqb (nodeKind T n) 1) (λ q. whole-node (eqb-true (nodeKind T n) 1 q))
+                (λ q. cases (eqb (nodeKind T n) 2) (λ u. field-node (eqb-true (nodeKind T n) 2 u))
+                (λ u. element-node (omega (arith, eqb-false (nodeKind T n) 1 q, eqb-false (nodeKind T n) 2 u))));
+            expression = λ a.
+                cases (eqb (nodeKind T n) 0) (λ q. constant-node (eqb-true (nodeKind T n) 0 q))
+                (λ q.
+                let z = eqb-false (nodeKind T n) 0 q in
+                let b : 4 ≤ nodeKind T n = a (omega arith) in
+                let k = known.node-kind T (acc .kinds) n l in
+                cases (eqb (nodeKind T n) 4) (λ u. value-node (eqb-true (nodeKind T n) 4 u))
+                (λ u. cases (eqb (nodeKind T n) 5) (λ v. unary-node (eqb-true (nodeKind T n) 5 v))
+                (λ v. cases (eqb (nodeKind T n) 6) (λ w. binary-node (eqb-true (nodeKind T n) 6 w))
+                (λ w. transfer-node (omega (arith, eqb-false (nodeKind T n) 4 u, eqb-false (nodeKind T n) 5 v, eqb-false (nodeKind T n) 6 w))))));
+          }
+
+    below : (k n : ℕ) → n < k → n < nodeCount T → scope n → GoodNode T m p n (operand T m page (contextOf m p) n)
+    unfolding operand course operandAt
+    below zero n g l c = absurd (not-suc-le-zero g)
+    below (suc k) n g l c =
+        one-node n l c (upto stuck (operandAt T m page (contextOf m p)) n)
+        (λ j b d. rw (upto-below stuck (operandAt T m page (contextOf m p)) n j b) (below k j (omega arith) (omega arith) d))
+
+    -- EVALUATION of a node in scope
+    pub node-good : (n : ℕ) → n < nodeCount T → scope n → GoodNode T m p n (operand T m page (contextOf m p) n)
+    node-good n l c = below (suc n) n (omega arith) l c

@@ -1,0 +1,132 @@
+-- Evaluation: the types of nodes, types that match, and words. Assumes nothing.
+use Prim.Native.Nat.{ℕ, zero, suc, _+_, _-_, _*_, _<_}
+use mathlib.Core.Path.{_≡_, sym}
+use mathlib.Core.Bool.{Bool, true, false}
+use mathlib.Core.List.{List, [], _∷_}
+use native.Mathlib.Omega.{arith}
+use lib.ListN.{getD}
+use lib.Dec.{eqb, ltb}
+use borrow.Author.Tests.{eqb-true, eqb-false, lt-ltb, eq-eqb, ne-eqb}
+use Rattle.basics.specs.Choice.{pick, cases}
+use Rattle.basics.specs.Course.{course}
+use Rattle.basics.proofs.Courses.{upto-below}
+use Rattle.table.specs.Bytes.{num, rowSize, fieldAt, fieldWidth, begins}
+use Rattle.table.specs.Table.{Table, countAt, cellAt, tableOf}
+use Rattle.table.specs.Entries.{declared, nodeCount, varType, nodeKind, nodeP, nodeQ, nodeV}
+use Rattle.types.specs.Types.{fieldOf, elementOf, unaryType, binaryType, operandType, nodeType, typeOf}
+use Rattle.types.specs.Match.{elements, isString, matches}
+use Rattle.words.specs.Memory.{Bytes}
+use Rattle.machine.specs.Memory.{Memory, wordsAt}
+use Rattle.machine.specs.Outcomes.{wordOf}
+use Rattle.machine.specs.Entries.{nodeOf, nodeAt}
+use Rattle.sound.specs.Claims3.{SmallTable, SmallWords}
+
+-- ---- nodes
+
+pub node-is : (T : Table) (n k : ℕ) → n < nodeCount T → nodeKind T n ≡ k → nodeAt T n ≡ nodeOf k (nodeP T n) (nodeQ T n) (nodeV T n)
+unfolding nodeAt
+node-is T n k l e = rw (lt-ltb n (nodeCount T) l, e)
+
+-- ---- the type of a node
+
+module _ (T : Table) (n : ℕ) (l : n < nodeCount T) where
+  pub constant-type : nodeKind T n ≡ 0 → typeOf T n ≡ nodeP T n
+  unfolding typeOf course nodeType
+  constant-type e = rw (lt-ltb n (nodeCount T) l, e)
+
+  pub whole-type : nodeKind T n ≡ 1 → typeOf T n ≡ varType T (nodeP T n)
+  unfolding typeOf course nodeType
+  whole-type e = rw (lt-ltb n (nodeCount T) l, e)
+
+  pub transfer-type : nodeKind T n ≡ 7 → typeOf T n ≡ nodeQ T n
+  unfolding typeOf course nodeType
+  transfer-type e = rw (lt-ltb n (nodeCount T) l, e)
+
+  module _ (b : nodeP T n < n) where
+    pub field-type : nodeKind T n ≡ 2 → typeOf T n ≡ fieldOf T (typeOf T (nodeP T n)) (nodeQ T n)
+    unfolding typeOf course nodeType operandType
+    field-type e = rw (lt-ltb n (nodeCount T) l, e, upto-below 65535 (nodeType T) n (nodeP T n) b)
+
+    pub element-type : nodeKind T n ≡ 3 → typeOf T n ≡ elementOf T (typeOf T (nodeP T n))
+    unfolding typeOf course nodeType operandType
+    element-type e = rw (lt-ltb n (nodeCount T) l, e, upto-below 65535 (nodeType T) n (nodeP T n) b)
+
+    pub value-type : nodeKind T n ≡ 4 → typeOf T n ≡ typeOf T (nodeP T n)
+    unfolding typeOf course nodeType operandType
+    value-type e = rw (lt-ltb n (nodeCount T) l, e, upto-below 65535 (nodeType T) n (nodeP T n) b)
+
+    pub unary-type : nodeKind T n ≡ 5 → typeOf T n ≡ unaryType (nodeQ T n) (typeOf T (nodeP T n))
+    unfolding typeOf course nodeType operandType
+    unary-type e = rw (lt-ltb n (nodeCount T) l, e, upto-below 65535 (nodeType T) n (nodeP T n) b)
+
+    pub binary-type : nodeKind T n ≡ 6 → typeOf T n ≡ binaryType (nodeV T n) (typeOf T (nodeP T n))
+    unfolding typeOf course nodeType operandType
+    binary-type e = rw (lt-ltb n (nodeCount T) l, e, upto-below 65535 (nodeType T) n (nodeP T n) b)
+
+-- types that match do so either way
+pub matches-sym : (T : Table) (τ σ : ℕ) → matches T τ σ ≡ true → matches T σ τ ≡ true
+unfolding matches
+matches-sym T τ σ h =
+    cases (eqb τ σ)
+    (λ e. rw (eq-eqb σ τ (sym (eqb-true τ σ e))))
+    (λ e.
+    rw (ne-eqb σ τ (λ q. eqb-false τ σ e (sym q)))
+    (strings (isString T τ) (isString T σ) (elements T τ) (elements T σ) (rw e at h)))
+  where
+    strings : (a b : Bool) (k l : ℕ) → pick a (pick b (eqb k l) false) false ≡ true → pick b (pick a (eqb l k) false) false ≡ true
+    strings true true k l e = eq-eqb l k (sym (eqb-true k l e))
+    strings true false k l e = e
+    strings false true k l e = e
+    strings false false k l e = e
+
+-- ---- small words
+
+-- one word is small where it is
+pub one-small : (w : ℕ) → w < 65536 → SmallWords (w ∷ [])
+one-small w l = record { words = go }
+  where
+    go : (i : ℕ) → getD (w ∷ []) i 0 < 65536
+    go zero = l
+    go (suc i) = omega arith
+
+pub word-small : (ws : List ℕ) → SmallWords ws → wordOf ws < 65536
+unfolding wordOf
+word-small ws s = s .words 0
+
+each-small : (m : Memory) → ((i : ℕ) → m i < 65536) → (n a i : ℕ) → getD (wordsAt m a n) i 0 < 65536
+unfolding wordsAt
+each-small m h zero a i = omega arith
+each-small m h (suc n) a zero = h a
+each-small m h (suc n) a (suc i) = each-small m h n (a + 1) i
+
+pub words-small : (m : Memory) → ((i : ℕ) → m i < 65536) → (a n : ℕ) → SmallWords (wordsAt m a n)
+words-small m h a n = record { words = each-small m h n a }
+
+-- ---- words of a table
+
+pub declared-small : (T : Table) → SmallTable T → (τ f : ℕ) → declared T τ f < 65536
+unfolding declared
+declared-small T W τ f = cases (ltb τ 3) (λ e. rw e (omega arith)) (λ e. rw e (W .cells 0 (τ - 3) f))
+
+num-small : (t : List ℕ) (p k : ℕ) → Bytes t → num t p k < 65536
+num-small t p k b =
+    let x = b .small p in
+    let y = b .small (p + 1) in
+    cases (eqb k 2) (λ e. rw e (omega arith)) (λ e. rw e (omega arith))
+
+-- the table that bytes hold
+module _ (w : ℕ) (t : List ℕ) (b : Bytes t) where
+  count-small : (k : ℕ) → countAt w t k < 65536
+  unfolding countAt
+  count-small k = num-small t (begins w t k) w b
+
+  cell-small : (k i f : ℕ) → cellAt w t k i f < 65536
+  unfolding cellAt
+  cell-small k i f =
+      cases (ltb i (countAt w t k))
+      (λ e. rw e (num-small t (begins w t k + w + i * rowSize w k + fieldAt w k f) (fieldWidth w k f) b))
+      (λ e. rw e (omega arith))
+
+  pub small-table : SmallTable (tableOf w t)
+  unfolding tableOf
+  small-table = record { counts = count-small; cells = cell-small }

@@ -1,0 +1,381 @@
+-- Lists of run calls: the steps of a run are threaded, none is stuck, and what is told depends on what is asked alone. Assumes nothing.
+use Prim.Native.Nat.{ℕ, suc, _≤_, _<_}
+use mathlib.Core.Path.{_≡_, refl, sym, ap, _∙_}
+use mathlib.Core.Bool.{Bool, true, false}
+use mathlib.Core.List.{List, [], _∷_, _++_}
+use native.Mathlib.Omega.{arith}
+use lib.ListN.{length, take, drop}
+use lib.Dec.{eqb}
+use borrow.Author.Tests.{eqb-true, eqb-false, eq-eqb, leb-true, le-leb}
+use Rattle.basics.specs.Choice.{pick, cases, both}
+use Rattle.basics.proofs.Bools.{both-l, both-r, no-true}
+use Rattle.words.specs.Memory.{Bytes}
+use Rattle.table.specs.Table.{Table, tableOf}
+use Rattle.machine.specs.Memory.{Memory, memoryOf, bytesOf}
+use Rattle.machine.specs.Step.{done, step}
+use Rattle.machine.specs.Run.{Run, ran, onDone, before, run, begin}
+use Rattle.machine.specs.Rule.{rule}
+use Rattle.machine.specs.Public.{Called, called, refusal, finished, runLengths, beginRefusal, beginCall, runRefusal, runCall}
+use Rattle.sound.specs.Reached.{Reached, Page, StepLaws, BeginLaw}
+use Rattle.sound.specs.Histories.{Seen, stateBytes, pageBytes, seen, trace, asked, told, processes, answers, finally, Threaded, Seeing, Every, begunResult, begunState, result, stateLeft, answersLeft, Ask, callOf, refused, stepsOf, orderOf, writtenOf, history, order, written, Served, Handed, stateAfter, Fits, Calls, begunWith, steps}
+use Rattle.sound.proofs.HistoriesSized.{step-sized}
+use Rattle.sound.proofs.HistoriesBytes.{bytes-memory, memory-bytes, length-bytes, memory-small, memory-sized}
+
+-- the steps by themselves: what is told, from what is asked
+unfoldable pub feed : Table → List ℕ → List (ℕ × List ℕ) → List (ℕ × List ℕ × List ℕ)
+feed T s [] = []
+feed T s (x ∷ xs) = onDone (step T (memoryOf s) (memoryOf (x .1)) (x .0)) [] λ a m d. (a, stateBytes m, pageBytes d) ∷ feed T (stateBytes m) xs
+
+-- the bytes of a state that steps reach, and of a page
+pub state-memory : (T : Table) (m : Memory) → Reached T m → memoryOf (stateBytes m) ≡ m
+unfolding stateBytes
+state-memory T m h = bytes-memory m 17664 (h .words) (h .sized)
+
+pub page-memory : (page : Memory) → Page page → memoryOf (pageBytes page) ≡ page
+unfolding pageBytes
+page-memory page h = bytes-memory page 4096 (h .words) (h .sized)
+
+-- a list of steps from state s that leaves state s', as the definitions say
+pub record Course (T : Table) (P : Seen → Type 0) (s s' : List ℕ) (es : List Seen) : Type 0 where
+  pub threaded : Threaded s es
+  pub every : Every P es
+  pub last : finally s es ≡ s'
+  pub fed : (r : List Seen) → told r ≡ feed T s' (asked r) → told (es ++ r) ≡ feed T s (asked (es ++ r))
+
+threaded-append : (s : List ℕ) (es fs : List Seen) → Threaded s es → Threaded (finally s es) fs → Threaded s (es ++ fs)
+unfolding Threaded finally
+threaded-append s [] fs h k = k
+threaded-append s (e ∷ es) fs h k = (h .0, threaded-append (e .after) es fs (h .1) k)
+
+every-append : (P : Seen → Type 0) (es fs : List Seen) → Every P es → Every P fs → Every P (es ++ fs)
+unfolding Every
+every-append P [] fs h k = k
+every-append P (e ∷ es) fs h k = (h .0, every-append P es fs (h .1) k)
+
+finally-append : (s : List ℕ) (es fs : List Seen) → finally s (es ++ fs) ≡ finally (finally s es) fs
+unfolding finally
+finally-append s [] fs = refl
+finally-append s (e ∷ es) fs = finally-append (e .after) es fs
+
+append-assoc : (es fs gs : List Seen) → (es ++ fs) ++ gs ≡ es ++ (fs ++ gs)
+append-assoc [] fs gs = refl
+append-assoc (e ∷ es) fs gs = ap (λ (l : List Seen). e ∷ l) (append-assoc es fs gs)
+
+module _ (T : Table) (P : Seen → Type 0) where
+  pub course-none : (s : List ℕ) → Course T P s s []
+  unfolding Threaded Every finally
+  course-none s = record { threaded = tt; every = tt; last = refl; fed = λ r h. h }
+
+  pub course-append : (s s' s'' : List ℕ) (es fs : List Seen) → Course T P s s' es → Course T P s' s'' fs → Course T P s s'' (es ++ fs)
+  course-append s s' s'' es fs h k = record {
+    threaded = threaded-append s es fs (h .threaded) (rw (h .last) (k .threaded));
+    every = every-append P es fs (h .every) (k .every);
+    last = finally-append s es fs ∙ rw (h .last) (k .last);
+    fed = λ r e. rw (append-assoc es fs r) (h .fed (fs ++ r) (k .fed r e));
+  }
+
+  pub told-feed : (s s' : List ℕ) (es : List Seen) → Course T P s s' es → told es ≡ feed T s (asked es)
+  unfolding told asked feed
+  told-feed s s' es h = rw (append-nil es) at (h .fed [] refl)
+    where
+      append-nil : (l : List Seen) → l ++ [] ≡ l
+      append-nil [] = refl
+      append-nil (e ∷ l) = ap (λ (k : List Seen). e ∷ k) (append-nil l)
+
+-- a step as it was seen: it is carried out, from a state that meets the rule to one that does
+pub record StepOf (T : Table) (e : Seen) : Type 0 where
+  pub start : Reached T (memoryOf (e .before))
+  pub devices : Page (memoryOf (e .given))
+  pub is : step T (memoryOf (e .before)) (memoryOf (e .given)) (e .process) ≡ done (e .answer) (memoryOf (e .after)) (memoryOf (e .left))
+  pub reached : Reached T (memoryOf (e .after))
+  pub byte : e .answer < 256
+
+module _ (T : Table) (m page : Memory) (p : ℕ) (a : ℕ) (s d : Memory) (e : step T m page p ≡ done a s d) where
+  trace-done : (q : List ℕ) → trace T (p ∷ q) m page ≡ seen p m page a s d ∷ trace T q s d
+  unfolding trace onDone
+  trace-done q = rw e
+
+  run-done : (q : List ℕ) → run T (p ∷ q) m page ≡ before a (run T q s d)
+  unfolding run onDone
+  run-done q = rw e
+
+  module _ (h : Reached T m) (g : Page page) (h' : Reached T s) (g' : Page d) where
+    feed-done : (r : List Seen) → told r ≡ feed T (stateBytes s) (asked r) → told (seen p m page a s d ∷ r) ≡ feed T (stateBytes m) (asked (seen p m page a s d ∷ r))
+    unfolding told asked feed onDone seen
+    feed-done r k = rw (state-memory T m h, page-memory page g, e, k)
+
+    step-of : a < 256 → StepOf T (seen p m page a s d)
+    unfolding seen
+    step-of b = record {
+      start = rw (state-memory T m h) h;
+      devices = rw (page-memory page g) g;
+      is = rw (state-memory T m h, page-memory page g, state-memory T s h', page-memory d g') e;
+      reached = rw (state-memory T s h') h';
+      byte = b;
+    }
+
+    one-step : a < 256 → Course T (StepOf T) (stateBytes m) (stateBytes s) (seen p m page a s d ∷ [])
+    unfolding Threaded Every finally seen
+    one-step b = record {
+      threaded = (refl, tt);
+      every = (step-of b, tt);
+      last = refl;
+      fed = λ r k. feed-done r k;
+    }
+
+-- a run from a state that meets the rule
+pub record Traced (T : Table) (q : List ℕ) (m page : Memory) : Type 0 where
+  pub given : List ℕ
+  pub state : Memory
+  pub devices : Memory
+  pub is : run T q m page ≡ ran given state devices
+  pub reached : Reached T state
+  pub paged : Page devices
+  pub course : Course T (StepOf T) (stateBytes m) (stateBytes state) (trace T q m page)
+  pub named : processes (trace T q m page) ≡ q
+  pub answered : answers (trace T q m page) ≡ given
+  pub long : length given ≡ length q
+  pub seeing : Seeing (pageBytes page) (trace T q m page)
+
+module _ (T : Table) (laws : StepLaws T) where
+  traced-none : (m page : Memory) → Reached T m → Page page → Traced T [] m page
+  unfolding run trace processes answers Seeing
+  traced-none m page h g = record {
+    given = [];
+    state = m;
+    devices = page;
+    is = refl;
+    reached = h;
+    paged = g;
+    course = course-none T (StepOf T) (stateBytes m);
+    named = refl;
+    answered = refl;
+    long = refl;
+    seeing = tt;
+  }
+
+  traced-more : (p : ℕ) (q : List ℕ) (m page : Memory) → Reached T m → Page page → (a : ℕ) (s d : Memory) → step T m page p ≡ done a s d
+      → a < 256 → Reached T s → Page d → Traced T q s d → Traced T (p ∷ q) m page
+  unfolding before processes answers seen Seeing
+  traced-more p q m page h g a s d e b h' g' t = record {
+    given = a ∷ t .given;
+    state = t .state;
+    devices = t .devices;
+    is = run-done T m page p a s d e q ∙ rw (t .is);
+    reached = t .reached;
+    paged = t .paged;
+    course = rw (trace-done T m page p a s d e q) (course-append T (StepOf T) _ _ _ _ _ (one-step T m page p a s d e h g h' g' b) (t .course));
+    named = rw (trace-done T m page p a s d e q, t .named);
+    answered = rw (trace-done T m page p a s d e q, t .answered);
+    long = ap suc (t .long);
+    seeing = rw (trace-done T m page p a s d e q) (refl, t .seeing);
+  }
+
+  -- NO STEP OF A RUN IS STUCK
+  pub traced : (q : List ℕ) (m page : Memory) → Reached T m → Page page → Traced T q m page
+  traced [] m page h g = traced-none m page h g
+  traced (p ∷ q) m page h g =
+      let u = laws .sound m page p (h .ruled) (h .words) (g .words) in
+      let z = step-sized T m page p (h .sized) (g .sized) (u .answer) (u .state) (u .page) (u .is) in
+      let h' : Reached T (u .state) = record { ruled = u .ruled; words = u .words; sized = z .state } in
+      let g' : Page (u .page) = record { words = u .devices; sized = z .page } in
+      traced-more p q m page h g (u .answer) (u .state) (u .page) (u .is) (u .byte) h' g' (traced q (u .state) (u .page) h' g')
+
+-- ---- calls
+
+-- a call's outcome, by its refusal and its run
+module _ (s d out : List ℕ) where
+  shape : Bool → ℕ → Run → Called
+  shape b n r = pick b (finished r (called 10 s d out) out) (called n s d out)
+
+  shape-refused : (b : Bool) (n : ℕ) (r : Run) → pick (eqb (result (shape b n r)) 0) false true ≡ true → stateLeft (shape b n r) ≡ s
+  unfolding shape finished result stateLeft
+  shape-refused true n (ran l m page) e = no-true e
+  shape-refused true n Run.stuck e = refl
+  shape-refused false n r e = refl
+
+  shape-open : (b : Bool) (n : ℕ) (r : Run) → eqb n 0 ≡ b → pick (eqb (result (shape b n r)) 0) false true ≡ false → b ≡ true
+  unfolding shape finished result
+  shape-open true n r h e = refl
+  shape-open false n r h e = no-true (sym e ∙ ap (λ (z : Bool). pick z false true) h)
+
+record Lengths (x : Ask) : Type 0 where
+  pages : length (x .page) ≡ 8192
+  room : length (x .schedule) ≤ length (x .answers)
+
+lengths-of : (L : Bool) (v : ℕ) (b : Bool) → refusal L v b ≡ 0 → L ≡ true
+unfolding refusal
+lengths-of true v b e = refl
+lengths-of false v b e = absurd (omega (arith, e))
+
+-- what is written where a run's answers are
+written-answers : (l out : List ℕ) (n : ℕ) → length l ≡ n → take n (l ++ drop (length l) out) ≡ l
+written-answers l out n e = rw (← e) (go l (drop (length l) out))
+  where
+    go : (u w : List ℕ) → take (length u) (u ++ w) ≡ u
+    go [] w = refl
+    go (y ∷ u) w = ap (λ (z : List ℕ). y ∷ z) (go u w)
+
+-- the bytes of a state that steps reach
+pub record At (T : Table) (s : List ℕ) : Type 0 where
+  pub memory : Memory
+  pub is : s ≡ stateBytes memory
+  pub reached : Reached T memory
+
+pub at-memory : (T : Table) (s : List ℕ) → At T s → Reached T (memoryOf s)
+at-memory T s h = rw (h .is, state-memory T (h .memory) (h .reached)) (h .reached)
+
+module _ (verdict : List ℕ → ℕ) where
+  refused-same : (s : List ℕ) (x : Ask) → refused verdict s x ≡ true → stateLeft (callOf verdict s x) ≡ s
+  unfolding refused callOf runCall shape
+  refused-same s x e = shape-refused s (x .page) (x .answers) (eqb (runRefusal verdict (x .table) s (x .page) (x .schedule) (x .answers)) 0) (runRefusal verdict (x .table) s (x .page) (x .schedule) (x .answers)) (run (tableOf 1 (x .table)) (x .schedule) (memoryOf s) (memoryOf (x .page))) e
+
+  open-zero : (s : List ℕ) (x : Ask) → refused verdict s x ≡ false → eqb (runRefusal verdict (x .table) s (x .page) (x .schedule) (x .answers)) 0 ≡ true
+  unfolding refused callOf runCall shape
+  open-zero s x e = shape-open s (x .page) (x .answers) (eqb (runRefusal verdict (x .table) s (x .page) (x .schedule) (x .answers)) 0) (runRefusal verdict (x .table) s (x .page) (x .schedule) (x .answers)) (run (tableOf 1 (x .table)) (x .schedule) (memoryOf s) (memoryOf (x .page))) refl e
+
+  open-lengths : (s : List ℕ) (x : Ask) → refused verdict s x ≡ false → Lengths x
+  unfolding runRefusal runLengths
+  open-lengths s x e =
+      let l = lengths-of (runLengths (length s) (length (x .page)) (length (x .schedule)) (length (x .answers))) (verdict (x .table)) (rule (tableOf 1 (x .table)) (memoryOf s)) (eqb-true _ 0 (open-zero s x e)) in
+      let r = both-r _ _ l in
+      record { pages = eqb-true _ _ (both-l _ _ r); room = leb-true _ _ (both-r _ _ r) }
+
+  -- a call that is not refused comes to its run
+  open-call : (s : List ℕ) (x : Ask) (l : List ℕ) (m d : Memory) → refused verdict s x ≡ false → run (tableOf 1 (x .table)) (x .schedule) (memoryOf s) (memoryOf (x .page)) ≡ ran l m d
+      → callOf verdict s x ≡ called 0 (stateBytes m) (pageBytes d) (l ++ drop (length l) (x .answers))
+  unfolding callOf runCall finished stateBytes pageBytes
+  open-call s x l m d e k = rw (open-zero s x e, k)
+
+  -- the steps of a call or of a list of calls, from state s: their state, order and answers
+  pub record Follows (T : Table) (s s' q l : List ℕ) (es : List Seen) : Type 0 where
+    pub course : Course T (StepOf T) s s' es
+    pub next : At T s'
+    pub named : processes es ≡ q
+    pub answered : answers es ≡ l
+
+  module _ (t : List ℕ) (laws : StepLaws (tableOf 1 t)) where
+    call-refused : (s : List ℕ) (x : Ask) → At (tableOf 1 t) s → refused verdict s x ≡ true
+        → Follows (tableOf 1 t) s (stateLeft (callOf verdict s x)) (orderOf verdict s x) (writtenOf verdict s x) (stepsOf verdict s x)
+    unfolding orderOf writtenOf stepsOf processes answers
+    call-refused s x h e = rw (e, refused-same s x e) (record { course = course-none (tableOf 1 t) (StepOf (tableOf 1 t)) s; next = h; named = refl; answered = refl })
+
+    call-run : (s : List ℕ) (x : Ask) (m : Memory) → s ≡ stateBytes m → Reached (tableOf 1 t) m → refused verdict s x ≡ false → x .table ≡ t → Page (memoryOf (x .page))
+        → Follows (tableOf 1 t) s (stateLeft (callOf verdict s x)) (orderOf verdict s x) (writtenOf verdict s x) (stepsOf verdict s x)
+    unfolding orderOf writtenOf stepsOf stateLeft answersLeft
+    call-run s x m i h e k g =
+        let back : memoryOf s ≡ m = ap memoryOf i ∙ state-memory (tableOf 1 t) m h in
+        let r = traced (tableOf 1 t) laws (x .schedule) m (memoryOf (x .page)) h g in
+        let is : run (tableOf 1 (x .table)) (x .schedule) (memoryOf s) (memoryOf (x .page)) ≡ ran (r .given) (r .state) (r .devices) = rw (k, back) (r .is) in
+        let c = open-call s x (r .given) (r .state) (r .devices) e is in
+        rw (e, c, k, back) (record {
+          course = rw i (r .course);
+          next = record { memory = r .state; is = refl; reached = r .reached };
+          named = r .named;
+          answered = r .answered ∙ sym (written-answers (r .given) (x .answers) (length (x .schedule)) (r .long));
+        })
+
+    call-follows : (s : List ℕ) (x : Ask) → At (tableOf 1 t) s → Fits verdict t s x
+        → Follows (tableOf 1 t) s (stateLeft (callOf verdict s x)) (orderOf verdict s x) (writtenOf verdict s x) (stepsOf verdict s x)
+    call-follows s x h f =
+        cases (refused verdict s x)
+        (λ e. call-refused s x h e)
+        (λ e. call-run s x (h .memory) (h .is) (h .reached) e (f .same e)
+        (record { words = memory-small (x .page) (f .bytes); sized = memory-sized (x .page) 4096 (open-lengths s x e .pages) }))
+
+    processes-append : (es fs : List Seen) → processes (es ++ fs) ≡ processes es ++ processes fs
+    unfolding processes
+    processes-append [] fs = refl
+    processes-append (e ∷ es) fs = ap (λ (z : List ℕ). e .process ∷ z) (processes-append es fs)
+
+    answers-append : (es fs : List Seen) → answers (es ++ fs) ≡ answers es ++ answers fs
+    unfolding answers
+    answers-append [] fs = refl
+    answers-append (e ∷ es) fs = ap (λ (z : List ℕ). e .answer ∷ z) (answers-append es fs)
+
+    follows-append : (s s' s'' q q' l l' : List ℕ) (es fs : List Seen) → Follows (tableOf 1 t) s s' q l es → Follows (tableOf 1 t) s' s'' q' l' fs
+        → Follows (tableOf 1 t) s s'' (q ++ q') (l ++ l') (es ++ fs)
+    follows-append s s' s'' q q' l l' es fs h k = record {
+      course = course-append (tableOf 1 t) (StepOf (tableOf 1 t)) s s' s'' es fs (h .course) (k .course);
+      next = k .next;
+      named = rw (processes-append es fs, h .named, k .named);
+      answered = rw (answers-append es fs, h .answered, k .answered);
+    }
+
+    -- A LIST OF CALLS, those refused among them
+    pub follows : (s : List ℕ) (xs : List Ask) → At (tableOf 1 t) s → Calls verdict t s xs
+        → Follows (tableOf 1 t) s (stateAfter verdict s xs) (order verdict s xs) (written verdict s xs) (history verdict s xs)
+    unfolding Calls history order written stateAfter processes answers
+    follows s [] h c = record { course = course-none (tableOf 1 t) (StepOf (tableOf 1 t)) s; next = h; named = refl; answered = refl }
+    follows s (x ∷ xs) h c =
+        let f = call-follows s x h (c .0) in
+        follows-append _ _ _ _ _ _ _ _ _ f (follows (stateLeft (callOf verdict s x)) xs (f .next) (c .1))
+
+    page-handed : (x : Ask) → Bytes (x .page) → length (x .page) ≡ 8192 → pageBytes (memoryOf (x .page)) ≡ x .page
+    unfolding pageBytes
+    page-handed x b e = memory-bytes 4096 (x .page) b e
+
+    call-seeing : (s : List ℕ) (x : Ask) → At (tableOf 1 t) s → Fits verdict t s x → Seeing (x .page) (stepsOf verdict s x)
+    unfolding stepsOf Seeing
+    call-seeing s x h f =
+        cases (refused verdict s x)
+        (λ e. rw e tt)
+        (λ e.
+        let back : memoryOf s ≡ h .memory = ap memoryOf (h .is) ∙ state-memory (tableOf 1 t) (h .memory) (h .reached) in
+        let g : Page (memoryOf (x .page)) = record { words = memory-small (x .page) (f .bytes); sized = memory-sized (x .page) 4096 (open-lengths s x e .pages) } in
+        let r = traced (tableOf 1 t) laws (x .schedule) (h .memory) (memoryOf (x .page)) (h .reached) g in
+        rw (e, f .same e, back) (rw (page-handed x (f .bytes) (open-lengths s x e .pages)) at (r .seeing)))
+
+    -- what the steps see of the devices
+    pub handed : (s : List ℕ) (xs : List Ask) → At (tableOf 1 t) s → Calls verdict t s xs → Handed verdict s xs
+    unfolding Calls Handed
+    handed s [] h c = tt
+    handed s (x ∷ xs) h c =
+        (call-seeing s x h (c .0), handed (stateLeft (callOf verdict s x)) xs (call-follows s x h (c .0) .next) (c .1))
+
+    state-long : (m : Memory) → length (stateBytes m) ≡ 35328
+    unfolding stateBytes bytesOf
+    state-long m = length-bytes m 0 17664
+
+    zero-refusal : (s : List ℕ) (x : Ask) → At (tableOf 1 t) s → verdict t ≡ 0 → x .table ≡ t → length (x .page) ≡ 8192 → length (x .schedule) ≤ length (x .answers)
+        → runRefusal verdict (x .table) s (x .page) (x .schedule) (x .answers) ≡ 0
+    unfolding runRefusal refusal runLengths both
+    zero-refusal s x h v e p l =
+        let g : length s ≡ 35328 = ap length (h .is) ∙ state-long (h .memory) in
+        rw (eq-eqb (length s) 35328 g, eq-eqb (length (x .page)) 8192 p, le-leb (length (x .schedule)) (length (x .answers)) l, e, v, at-memory (tableOf 1 t) s h .ruled)
+
+    call-served : (s : List ℕ) (x : Ask) → At (tableOf 1 t) s → verdict t ≡ 0 → Bytes (x .page) → x .table ≡ t → length (x .page) ≡ 8192 → length (x .schedule) ≤ length (x .answers)
+        → refused verdict s x ≡ false
+    unfolding refused callOf runCall finished result
+    call-served s x h v b e p l =
+        let back : memoryOf s ≡ h .memory = ap memoryOf (h .is) ∙ state-memory (tableOf 1 t) (h .memory) (h .reached) in
+        let g : Page (memoryOf (x .page)) = record { words = memory-small (x .page) b; sized = memory-sized (x .page) 4096 p } in
+        let r = traced (tableOf 1 t) laws (x .schedule) (h .memory) (memoryOf (x .page)) (h .reached) g in
+        let is : run (tableOf 1 (x .table)) (x .schedule) (memoryOf s) (memoryOf (x .page)) ≡ ran (r .given) (r .state) (r .devices) = rw (e, back) (r .is) in
+        rw (zero-refusal s x h v e p l, is)
+
+    -- no call is refused for its state
+    pub served : (s : List ℕ) (xs : List Ask) → verdict t ≡ 0 → At (tableOf 1 t) s → Calls verdict t s xs → Served verdict t s xs
+    unfolding Calls Served
+    served s [] v h c = tt
+    served s (x ∷ xs) v h c =
+        (λ e p l. call-served s x h v (c .0 .bytes) e p l, served (stateLeft (callOf verdict s x)) xs v (call-follows s x h (c .0) .next) (c .1))
+
+    -- AGREEMENT: two lists of calls from one state of which the same is asked tell the same, wherever the calls begin and end
+    pub same-told : (s : List ℕ) (xs ys : List Ask) → At (tableOf 1 t) s → Calls verdict t s xs → Calls verdict t s ys
+        → asked (history verdict s xs) ≡ asked (history verdict s ys) → told (history verdict s xs) ≡ told (history verdict s ys)
+    same-told s xs ys h c k e =
+        told-feed (tableOf 1 t) (StepOf (tableOf 1 t)) _ _ _ (follows s xs h c .course)
+        ∙ ap (feed (tableOf 1 t) s) e
+        ∙ sym (told-feed (tableOf 1 t) (StepOf (tableOf 1 t)) _ _ _ (follows s ys h k .course))
+
+    -- begin
+    pub begun-at : (slice : List ℕ) → BeginLaw (tableOf 1 t) → begunResult (beginCall verdict t slice) ≡ 0 → begunWith verdict t slice ≡ stateBytes (begin (tableOf 1 t))
+    unfolding begunWith begunState beginCall begunResult stateBytes
+    begun-at slice l e =
+        cases (eqb (beginRefusal verdict t slice) 0)
+        (λ z. rw z)
+        (λ z. absurd (eqb-false _ 0 z (rw z at e)))
+
+    pub at-begin : (slice : List ℕ) → BeginLaw (tableOf 1 t) → begunResult (beginCall verdict t slice) ≡ 0 → At (tableOf 1 t) (begunWith verdict t slice)
+    at-begin slice l e = record { memory = begin (tableOf 1 t); is = begun-at slice l e; reached = l .reached }

@@ -1,0 +1,51 @@
+-- Begin's state is one of 17,664 words, and the numbers of a table of bytes are words. Assumes nothing.
+use Prim.Native.Nat.{ℕ, _+_, _*_, _<_}
+use mathlib.Core.Path.{_≡_}
+use mathlib.Core.Bool.{true}
+use mathlib.Core.List.{List}
+use native.Mathlib.Omega.{arith}
+use lib.Dec.{eqb, ltb}
+use Rattle.basics.specs.Choice.{cases}
+use Rattle.words.specs.Memory.{Bytes}
+use Rattle.table.specs.Bytes.{num, begins, rowSize, fieldAt, fieldWidth}
+use Rattle.table.specs.Table.{Table, countAt, cellAt, tableOf}
+use Rattle.table.specs.Entries.{firstStmt}
+use Rattle.sizes.specs.Sizes.{moduleWords}
+use Rattle.sizes.proofs.Promise.{module-most}
+use Rattle.numbers.proofs.BlockPromise.{program-there, program-kind}
+use Rattle.machine.specs.Memory.{Memory, update, zeros}
+use Rattle.machine.specs.Calls.{standing}
+use Rattle.machine.specs.Run.{begin}
+use Rattle.machine.specs.Rule.{rule}
+use Rattle.verdict.specs.Accepted.{Accepted}
+use Rattle.sound.specs.Claims.{Small}
+use Rattle.sound.specs.Reached.{WordTable, BeginLaw}
+use Rattle.sound.proofs.HistoriesSized.{begin-sized}
+
+num-word : (t : List ℕ) (p w : ℕ) → Bytes t → num t p w < 65536
+num-word t p w b = cases (eqb w 2) (λ e. rw e (omega (arith, b .small p, b .small (p + 1)))) (λ e. rw e (omega (arith, b .small p)))
+
+pub word-table : (w : ℕ) (t : List ℕ) → Bytes t → WordTable (tableOf w t)
+unfolding tableOf countAt cellAt
+word-table w t b = record {
+  counts = λ k. num-word t (begins w t k) w b;
+  cells = λ k i f. cases (ltb i (countAt w t k)) (λ e. rw e (num-word t (begins w t k + w + i * rowSize w k + fieldAt w k f) (fieldWidth w k f) b)) (λ e. rw e (omega arith));
+}
+
+update-word : (m : Memory) (i v : ℕ) → Small m → v < 65536 → Small (update m i v)
+unfolding update
+update-word m i v h l = record { small = λ j. cases (eqb j i) (λ e. rw e l) (λ e. rw e (h .small j)) }
+
+begin-small : (T : Table) → firstStmt T 0 < 65536 → moduleWords T 0 < 65536 → Small (begin T)
+unfolding begin standing zeros
+begin-small T f w =
+    update-word _ _ _ (update-word _ _ _ (update-word _ _ _ (update-word _ _ _ (update-word _ _ _
+    (update-word _ _ _ (update-word _ _ _ (update-word zeros _ _ (record { small = λ i. omega arith }) (omega arith)) (omega arith)) (omega arith))
+    f) (omega arith)) w) (omega arith)) (omega arith)
+
+pub begin-reached : (T : Table) → Accepted T → WordTable T → rule T (begin T) ≡ true → BeginLaw T
+begin-reached T ok words ruled =
+    let there = program-there T (ok .numbers) in
+    let kind = program-kind T (ok .numbers) in
+    let most = module-most T (ok .sizes) 0 there (omega arith) in
+    record { reached = record { ruled = ruled; words = begin-small T (words .cells 3 0 5) (omega arith); sized = begin-sized T } }

@@ -1,0 +1,292 @@
+-- The failures of nodes: the rules say when an evaluation fails, and by which number. Assumes nothing.
+use Prim.Native.Nat.{ℕ, zero, suc, _+_, _<_}
+use mathlib.Core.Path.{_≡_, refl, sym, _∙_}
+use mathlib.Core.Bool.{Bool, true, false}
+use mathlib.Core.Bool as bool
+use mathlib.Core.List.{List}
+use native.Mathlib.Omega.{arith}
+use native.Mathlib.Nat.{not-suc-le-zero}
+use lib.Dec.{eqb, ltb}
+use lib.IntN.{ℤ, pos, negsuc}
+use borrow.Author.Tests.{eqb-true, eqb-false, ne-eqb, ltb-true}
+use Rattle.basics.specs.Choice.{pick, cases}
+use Rattle.basics.proofs.Bools.{no-true}
+use Rattle.basics.proofs.Courses.{course-is}
+use Rattle.words.specs.Numbers.{between}
+use Rattle.words.specs.Types.{inType, transferW}
+use Rattle.words.specs.Operators.{ranged, addW, subW, negW, mulW, divW, modW}
+use Rattle.words.specs.Outcomes as words
+use Rattle.table.specs.Table.{Table}
+use Rattle.table.specs.Entries.{varMode, varType, owner}
+use Rattle.machine.specs.Memory.{Memory}
+use Rattle.machine.specs.Outcomes.{Outcome, ok, fail, stuck, need, Operand, value, wordOf}
+use Rattle.machine.specs.Entries.{arrayType, typeAt, Unary, minus, not, val, noUnary, Binary, equal, notEqual, less, notGreater, greater, notLess, add, subtract, multiply, divide, modulus, and, or, noBinary}
+use Rattle.machine.specs.Entries.{Node, constant, whole, field, element, retrieve, unary, binary, transfer, noNode, nodeAt}
+use Rattle.machine.specs.Context.{Context}
+use Rattle.machine.specs.Variables.{belongs, offsetOf}
+use Rattle.machine.specs.Operands.{simple, truth, given, unaryValue, ordered, integral, logical, binaryValue, outside, placeAt, fieldPlace, elementPlace, moduleVariable, frameVariable, wholePlace, nodeOperand, operandAt, operand}
+use Rattle.sound.specs.Rows.{OutOfRange, Exact, sum, difference, product, quotient, remainder, Divides, byDivide, byModulus, Yields, NodeFails, result, inverted, divisor, index, device, transferred, inRecord, inArray, inIndex, inVariable, inUnary, inTransfer, inLeft, inRight}
+use Rattle.sound.proofs.RowsOutcomes.{g-need, g-where, g-pick, g-place, g-value, g-word, g-record, g-array, Near, same, lost, n-need, n-where, n-place-fails, n-place, n-value-fails, n-value, n-word-fails, n-word, n-array}
+
+-- a failure of this outcome meets F
+pub data Met {A : Type 0} (F : ℕ → Type 0) : Outcome A → Type 0 where
+  is-ok : {y : A} → Met F (ok y)
+  is-fail : {f : ℕ} → F f → Met F (fail f)
+  is-stuck : Met F stuck
+
+pub met-fail : {A : Type 0} (F : ℕ → Type 0) (o : Outcome A) (f : ℕ) → Met F o → o ≡ fail f → F f
+met-fail F _ f is-ok e = let z : _≡_ {A = ℕ} 0 1 = cc in absurd (omega arith)
+met-fail F _ f (is-fail {f = i} h) e = let z : i ≡ f = cc in rw z at h
+met-fail F _ f is-stuck e = let z : _≡_ {A = ℕ} 0 1 = cc in absurd (omega arith)
+
+-- ---- operators
+
+ranged-out : (z : ℤ) → OutOfRange z → ranged z ≡ words.fail 16
+unfolding ranged
+ranged-out z h = rw h
+
+not-true : (b : Bool) → bool.not b ≡ true → b ≡ false
+not-true true e = no-true e
+not-true false e = refl
+
+not-false : (b : Bool) → b ≡ false → bool.not b ≡ true
+not-false b e = rw e
+
+module _ (F : ℕ → Type 0) where
+  met-simple : (τ w : ℕ) → Met F (simple τ w)
+  unfolding simple
+  met-simple τ w = is-ok
+
+  met-truth : (b : Bool) → Met F (truth b)
+  unfolding truth
+  met-truth b = met-simple 1 _
+
+  met-given : (τ : ℕ) (o : words.Outcome) → ((f : ℕ) → o ≡ words.fail f → F f) → Met F (given τ o)
+  unfolding given
+  met-given τ (words.word w) h = met-simple τ w
+  met-given τ (words.fail n) h = is-fail (h n refl)
+
+  -- an operator's word, or its failure
+  met-tested : (τ : ℕ) (b : Bool) (w n : ℕ) → (b ≡ false → F n) → Met F (given τ (pick b (words.word w) (words.fail n)))
+  unfolding given
+  met-tested τ true w n h = met-simple τ w
+  met-tested τ false w n h = is-fail (h refl)
+
+  met-ranged : (τ : ℕ) (z : ℤ) → (OutOfRange z → F 16) → Met F (given τ (ranged z))
+  unfolding ranged
+  met-ranged τ z h = met-tested τ (between (negsuc 32767) (pos 32767) z) _ 16 h
+
+  -- with a divisor
+  met-divided : (τ v : ℕ) (z : ℤ) → (v ≡ 0 → F 17) → ((v ≡ 0 → ⊥) → OutOfRange z → F 16) → Met F (given τ (pick (eqb v 0) (words.fail 17) (ranged z)))
+  unfolding given
+  met-divided τ v z f g = cases (eqb v 0) (λ e. rw e (is-fail (f (eqb-true v 0 e)))) (λ e. rw e (met-ranged τ z (g (eqb-false v 0 e))))
+
+  met-place : (T : Table) (a τ : ℕ) → Met F (placeAt T a τ)
+  unfolding placeAt
+  met-place T a τ = g-need (Met F) is-stuck _ _ is-ok
+
+  met-integral : (τ σ : ℕ) (o : words.Outcome) → Met F (given 0 o) → Met F (integral τ σ o)
+  unfolding integral
+  met-integral τ σ o h = g-need (Met F) is-stuck _ _ h
+
+  met-ordered : (τ σ : ℕ) (b : Bool) → Met F (ordered τ σ b)
+  unfolding ordered
+  met-ordered τ σ b = g-need (Met F) is-stuck _ _ (met-truth b)
+
+  met-logical : (τ σ i b : ℕ) → Met F (logical τ σ i b)
+  unfolding logical
+  met-logical τ σ i b =
+      g-need (Met F) is-stuck _ _
+      (g-pick (Met F) is-stuck (eqb τ 0) _ _ (λ e. met-simple 0 i) (λ e. g-need (Met F) is-stuck _ _ (met-simple 1 b)))
+
+module _ (T : Table) (m page : Memory) (x : Context) where
+  -- what a node's operands are evaluated by
+  unfoldable pub below : ℕ → ℕ → Outcome Operand
+  below n a = pick (ltb a n) (operand T m page x a) stuck
+
+  pub operand-is : (n : ℕ) → operand T m page x n ≡ nodeOperand T m page x (below n) (nodeAt T n)
+  unfolding operand operandAt below
+  operand-is n = course-is stuck (operandAt T m page x) n
+
+  near-below : {R : Outcome Operand} (n a : ℕ) → Near R (operand T m page x a) → Near R (below n a)
+  unfolding below
+  near-below n a h = cases (ltb a n) (λ e. rw e h) (λ e. rw e lost)
+
+  below-fail : (n a f : ℕ) → below n a ≡ fail f → (a < n) × (operand T m page x a ≡ fail f)
+  unfolding below
+  below-fail n a f e =
+      cases (ltb a n)
+      (λ h. (ltb-true a n h, rw h at e))
+      (λ h. let z : _≡_ {A = Outcome Operand} stuck (fail f) = rw h at e in let y : _≡_ {A = ℕ} 0 1 = cc in absurd (omega arith))
+
+  below-ok : (n a : ℕ) (y : Operand) → below n a ≡ ok y → operand T m page x a ≡ ok y
+  unfolding below
+  below-ok n a y e =
+      cases (ltb a n)
+      (λ h. rw h at e)
+      (λ h. let z : _≡_ {A = Outcome Operand} stuck (ok y) = rw h at e in let w : _≡_ {A = ℕ} 0 1 = cc in absurd (omega arith))
+
+  -- ---- an evaluation that fails has its rule
+
+  module _ (n : ℕ) (F : (a f : ℕ) → a < n → operand T m page x a ≡ fail f → NodeFails T m page x f a) where
+    G : ℕ → Type 0
+    G f = NodeFails T m page x f n
+
+    first-fails : (a f : ℕ) → below n a ≡ fail f → NodeFails T m page x f a
+    first-fails a f e = let h = below-fail n a f e in F a f (h .0) (h .1)
+
+    met-unary : (o : Unary) (a τ : ℕ) (us : List ℕ) → nodeAt T n ≡ unary o a → Yields T m page x a τ us → Met G (unaryValue page o τ (wordOf us))
+    unfolding unaryValue negW G
+    met-unary minus a τ us e y = g-need (Met G) is-stuck _ _ (met-ranged G 0 _ (λ r. inverted e y r))
+    met-unary not a τ us e y = g-pick (Met G) is-stuck (eqb τ 0) _ _ (λ _. met-simple G 0 _) (λ _. g-need (Met G) is-stuck _ _ (met-simple G 1 _))
+    met-unary val a τ us e y = g-need (Met G) is-stuck _ _ (g-where (Met G) is-stuck _ 21 _ (λ h. is-fail (device e y (not-true _ h))) (λ h. met-simple G 0 _))
+    met-unary noUnary a τ us e y = is-stuck
+
+    met-binary : (o : Binary) (a b τ : ℕ) (us : List ℕ) (σ : ℕ) (vs : List ℕ) → nodeAt T n ≡ binary o a b → Yields T m page x a τ us → Yields T m page x b σ vs
+        → Met G (binaryValue T o τ us σ vs)
+    unfolding binaryValue G addW subW mulW divW modW
+    met-binary equal a b τ us σ vs e y z = g-need (Met G) is-stuck _ _ (met-truth G _)
+    met-binary notEqual a b τ us σ vs e y z = g-need (Met G) is-stuck _ _ (met-truth G _)
+    met-binary less a b τ us σ vs e y z = met-ordered G τ σ _
+    met-binary notGreater a b τ us σ vs e y z = met-ordered G τ σ _
+    met-binary greater a b τ us σ vs e y z = met-ordered G τ σ _
+    met-binary notLess a b τ us σ vs e y z = met-ordered G τ σ _
+    met-binary add a b τ us σ vs e y z = met-integral G τ σ _ (met-ranged G 0 _ (λ r. result e y z sum r))
+    met-binary subtract a b τ us σ vs e y z = met-integral G τ σ _ (met-ranged G 0 _ (λ r. result e y z difference r))
+    met-binary multiply a b τ us σ vs e y z = met-integral G τ σ _ (met-ranged G 0 _ (λ r. result e y z product r))
+    met-binary divide a b τ us σ vs e y z =
+        met-integral G τ σ _ (met-divided G 0 _ _ (λ h. divisor e y z byDivide h) (λ h r. result e y z (quotient h) r))
+    met-binary modulus a b τ us σ vs e y z =
+        met-integral G τ σ _ (met-divided G 0 _ _ (λ h. divisor e y z byModulus h) (λ h r. result e y z (remainder h) r))
+    met-binary and a b τ us σ vs e y z = met-logical G τ σ _ _
+    met-binary or a b τ us σ vs e y z = met-logical G τ σ _ _
+    met-binary noBinary a b τ us σ vs e y z = is-stuck
+
+    met-module : (k τ : ℕ) → Met G (moduleVariable T m page x k τ)
+    unfolding moduleVariable
+    met-module k τ = g-need (Met G) is-stuck _ _ (met-place G T _ _)
+
+    met-frame : (k mode τ : ℕ) → Met G (frameVariable T m page x k mode τ)
+    unfolding frameVariable
+    met-frame k mode τ = g-need (Met G) is-stuck _ _ (met-place G T _ _)
+
+    met-whole : (v : ℕ) → Met G (wholePlace T m page x v)
+    unfolding wholePlace
+    met-whole v =
+        g-need (Met G) is-stuck _ _
+        (g-pick (Met G) is-stuck (belongs T (owner T (x .block)) v)
+        (moduleVariable T m page x (offsetOf T (owner T (x .block)) v) (varType T v))
+        (need (belongs T (x .block) v) (frameVariable T m page x (x .frame + 4 + offsetOf T (x .block) v) (varMode T v) (varType T v)))
+        (λ e. met-module _ _)
+        (λ e. g-need (Met G) is-stuck _ _ (met-frame _ _ _)))
+
+    met-node : (N : Node) → nodeAt T n ≡ N → Met G (nodeOperand T m page x (below n) N)
+    unfolding nodeOperand fieldPlace elementPlace G transferW
+    met-node (constant τ v) e = g-need (Met G) is-stuck _ _ (met-simple G τ v)
+    met-node (whole v) e = met-whole v
+    met-node (field a i) e =
+        g-place (Met G) is-stuck (below n a) _ (λ f q. is-fail (inRecord e (first-fails a f q)))
+        (λ l τ q. g-record (Met G) is-stuck _ _ (λ first count. g-need (Met G) is-stuck _ _ (met-place G T _ _)))
+    met-node (element a k) e =
+        g-place (Met G) is-stuck (below n a) _ (λ f q. is-fail (inArray e (first-fails a f q)))
+        (λ l τ q. g-array (Met G) is-stuck _ _ (λ ι σ low high t.
+        g-word (Met G) is-stuck (below n k) ι _ (λ f u. is-fail (inIndex e (below-ok n a _ q) (first-fails k f u)))
+        (λ ρ ws u. g-where (Met G) is-stuck _ 18 _ (λ h. is-fail (index e (below-ok n a _ q) t (below-ok n k _ u) h)) (λ h. met-place G T _ _))))
+    met-node (retrieve a) e = g-place (Met G) is-stuck (below n a) _ (λ f q. is-fail (inVariable e (first-fails a f q))) (λ l τ q. is-ok)
+    met-node (unary o a) e =
+        g-value (Met G) is-stuck (below n a) _ (λ f q. is-fail (inUnary e (first-fails a f q))) (λ τ us q. met-unary o a τ us e (below-ok n a _ q))
+    met-node (binary o a b) e =
+        g-value (Met G) is-stuck (below n a) _ (λ f q. is-fail (inLeft e (first-fails a f q)))
+        (λ τ us q. g-value (Met G) is-stuck (below n b) _ (λ f u. is-fail (inRight e (below-ok n a _ q) (first-fails b f u)))
+        (λ σ vs u. met-binary o a b τ us σ vs e (below-ok n a _ q) (below-ok n b _ u)))
+    met-node (transfer a τ) e =
+        g-value (Met G) is-stuck (below n a) _ (λ f q. is-fail (inTransfer e (first-fails a f q)))
+        (λ σ us q. g-need (Met G) is-stuck _ _ (met-tested G τ (inType τ (wordOf us)) _ 23 (λ h. transferred e (below-ok n a _ q) h)))
+    met-node noNode e = is-stuck
+
+  met-upto : (k n f : ℕ) → n < k → operand T m page x n ≡ fail f → NodeFails T m page x f n
+  unfolding G
+  met-upto zero n f h e = absurd (not-suc-le-zero h)
+  met-upto (suc k) n f h e =
+      met-fail (λ i. NodeFails T m page x i n) _ f (met-node n (λ a i l q. met-upto k a i (omega arith) q) (nodeAt T n) refl) (sym (operand-is n) ∙ e)
+
+  -- an evaluation that fails has its rule
+  pub node-fails : (n f : ℕ) → operand T m page x n ≡ fail f → NodeFails T m page x f n
+  node-fails n f e = met-upto (suc n) n f (omega arith) e
+
+  -- ---- a rule that holds says how the evaluation fails, where it is not stuck
+
+  integral-near : (τ σ n : ℕ) (o : words.Outcome) → o ≡ words.fail n → Near (fail n) (integral τ σ o)
+  unfolding integral given
+  integral-near τ σ n o e = n-need (fail n) _ _ (rw e (same refl))
+
+  exact-near : (o : Binary) (u v : ℕ) (z : ℤ) (τ σ : ℕ) (us vs : List ℕ) → Exact o u v z → OutOfRange z → u ≡ wordOf us → v ≡ wordOf vs → Near (fail 16) (binaryValue T o τ us σ vs)
+  unfolding binaryValue addW subW mulW divW modW
+  exact-near _ u v _ τ σ us vs sum r e h = integral-near τ σ 16 _ (rw (← e, ← h) (ranged-out _ r))
+  exact-near _ u v _ τ σ us vs difference r e h = integral-near τ σ 16 _ (rw (← e, ← h) (ranged-out _ r))
+  exact-near _ u v _ τ σ us vs product r e h = integral-near τ σ 16 _ (rw (← e, ← h) (ranged-out _ r))
+  exact-near _ u v _ τ σ us vs (quotient q) r e h = integral-near τ σ 16 _ (rw (← e, ← h, ne-eqb v 0 q) (ranged-out _ r))
+  exact-near _ u v _ τ σ us vs (remainder q) r e h = integral-near τ σ 16 _ (rw (← e, ← h, ne-eqb v 0 q) (ranged-out _ r))
+
+  divides-near : (o : Binary) (τ σ : ℕ) (us vs : List ℕ) → Divides o → wordOf vs ≡ 0 → Near (fail 17) (binaryValue T o τ us σ vs)
+  unfolding binaryValue divW modW
+  divides-near _ τ σ us vs byDivide e = integral-near τ σ 17 _ (rw e)
+  divides-near _ τ σ us vs byModulus e = integral-near τ σ 17 _ (rw e)
+
+  -- an index that fails
+  index-near : (f l τ : ℕ) (o : Outcome Operand) → Near (fail f) o → Near (fail f) (elementPlace T l τ o)
+  unfolding elementPlace
+  index-near f l τ o h = g-array (Near (fail f)) lost (typeAt T τ) _ (λ ι σ low high t. n-word-fails (fail f) f o ι _ refl h)
+
+  outside-near : (l τ ι σ low high ρ : ℕ) (ws : List ℕ) (o : Outcome Operand) → typeAt T τ ≡ arrayType ι σ low high → Near (ok (value ρ ws)) o
+      → outside low high (wordOf ws) ≡ true → Near (fail 18) (elementPlace T l τ o)
+  unfolding elementPlace
+  outside-near l τ ι σ low high ρ ws o t y h =
+      n-array (fail 18) (typeAt T τ) _ ι σ low high t (n-word (fail 18) ρ ws o ι _ y (n-where (fail 18) _ 18 _ refl h))
+
+  -- where the operands are evaluated
+  at-node : (n : ℕ) (N : Node) {R : Outcome Operand} → nodeAt T n ≡ N → Near R (nodeOperand T m page x (below n) N) → Near R (operand T m page x n)
+  at-node n N e h = rw (operand-is n, e) h
+
+  pub fails-near : (f n : ℕ) → NodeFails T m page x f n → Near (fail f) (operand T m page x n)
+  unfolding nodeOperand unaryValue negW given transferW
+  fails-near _ n (result {o = o} {a = a} {b = b} {τ = τ} {σ = σ} {us = us} {vs = vs} e y w q r) =
+      at-node n _ e
+      (n-value (fail 16) τ us (below n a) _ (near-below n a (same y))
+      (n-value (fail 16) σ vs (below n b) _ (near-below n b (same w))
+      (exact-near o _ _ _ τ σ us vs q r refl refl)))
+  fails-near _ n (inverted {a = a} {τ = τ} {us = us} e y r) =
+      at-node n _ e
+      (n-value (fail 16) τ us (below n a) _ (near-below n a (same y))
+      (n-need (fail 16) _ _ (rw (ranged-out _ r) (same refl))))
+  fails-near _ n (divisor {o = o} {a = a} {b = b} {τ = τ} {σ = σ} {us = us} {vs = vs} e y w q r) =
+      at-node n _ e
+      (n-value (fail 17) τ us (below n a) _ (near-below n a (same y))
+      (n-value (fail 17) σ vs (below n b) _ (near-below n b (same w))
+      (divides-near o τ σ us vs q r)))
+  fails-near _ n (index {a = a} {k = k} {l = l} {τ = τ} {ι = ι} {σ = σ} {low = low} {high = high} {ρ = ρ} {ws = ws} e y t w h) =
+      at-node n _ e
+      (n-place (fail 18) l τ (below n a) _ (near-below n a (same y))
+      (outside-near l τ ι σ low high ρ ws (below n k) t (near-below n k (same w)) h))
+  fails-near _ n (device {a = a} {τ = τ} {us = us} e y h) =
+      at-node n _ e
+      (n-value (fail 21) τ us (below n a) _ (near-below n a (same y))
+      (n-need (fail 21) _ _ (n-where (fail 21) _ 21 _ refl (not-false _ h))))
+  fails-near _ n (transferred {a = a} {σ = σ} {us = us} e y h) =
+      at-node n _ e
+      (n-value (fail 23) σ us (below n a) _ (near-below n a (same y))
+      (n-need (fail 23) _ _ (rw h (same refl))))
+  fails-near f n (inRecord {a = a} e h) = at-node n _ e (n-place-fails (fail f) f (below n a) _ refl (near-below n a (fails-near f a h)))
+  fails-near f n (inArray {a = a} e h) = at-node n _ e (n-place-fails (fail f) f (below n a) _ refl (near-below n a (fails-near f a h)))
+  fails-near f n (inIndex {a = a} {k = k} {l = l} {τ = τ} e y h) =
+      at-node n _ e
+      (n-place (fail f) l τ (below n a) _ (near-below n a (same y))
+      (index-near f l τ (below n k) (near-below n k (fails-near f k h))))
+  fails-near f n (inVariable {a = a} e h) = at-node n _ e (n-place-fails (fail f) f (below n a) _ refl (near-below n a (fails-near f a h)))
+  fails-near f n (inUnary {a = a} e h) = at-node n _ e (n-value-fails (fail f) f (below n a) _ refl (near-below n a (fails-near f a h)))
+  fails-near f n (inTransfer {a = a} e h) = at-node n _ e (n-value-fails (fail f) f (below n a) _ refl (near-below n a (fails-near f a h)))
+  fails-near f n (inLeft {a = a} e h) = at-node n _ e (n-value-fails (fail f) f (below n a) _ refl (near-below n a (fails-near f a h)))
+  fails-near f n (inRight {a = a} {b = b} {τ = τ} {us = us} e y h) =
+      at-node n _ e
+      (n-value (fail f) τ us (below n a) _ (near-below n a (same y))
+      (n-value-fails (fail f) f (below n b) _ refl (near-below n b (fails-near f b h))))

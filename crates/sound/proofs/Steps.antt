@@ -1,0 +1,25 @@
+-- THE STEP of any process, from any state that meets the rule and any page, is sound; the first state meets the rule. Assumes nothing.
+use mathlib.Core.Path.{_≡_}
+use mathlib.Core.Bool.{true}
+use Rattle.table.specs.Table.{Table}
+use Rattle.machine.specs.Run.{begin}
+use Rattle.machine.specs.Rule.{rule}
+use Rattle.verdict.specs.Accepted.{Accepted}
+use Rattle.sound.specs.Reached.{WordTable, StepLaws, BeginLaw}
+use Rattle.sound.proofs.ValueStores.{place-laws}
+use Rattle.sound.proofs.EvaluationSteps as evaluation
+use Rattle.sound.proofs.HistoriesBegin.{begin-reached}
+use Rattle.sound.proofs.StepsBegin as first
+
+module _ (T : Table) (acc : Accepted T) where
+  pub begin-ruled : rule T (begin T) ≡ true
+  begin-ruled = first.begin-ruled T acc (place-laws T acc)
+
+  module _ (words : WordTable T) where
+    pub begin-law : BeginLaw T
+    begin-law = begin-reached T acc words begin-ruled
+
+    -- THE STEP
+    pub step-laws : StepLaws T
+    step-laws =
+        record { sound = evaluation.step-sound T acc (acc .scopes) (record { counts = words .counts; cells = words .cells }) }

@@ -1,0 +1,151 @@
+-- A chain of calls stays where its words do, and the processes and their modules. Assumes nothing.
+use Prim.Native.Nat.{ℕ, suc, _+_, _-_, _/_, _%_, _≤_, _<_}
+use mathlib.Core.Path.{_≡_}
+use mathlib.Core.Bool.{true}
+use native.Mathlib.Omega.{arith}
+use lib.Dec.{eqb, leb}
+use borrow.Author.Tests.{leb-true, le-leb}
+use Rattle.basics.specs.Choice.{both}
+use Rattle.basics.proofs.Bools.{no-true, both-l, both-r, both-i}
+use Rattle.table.specs.Table.{Table}
+use Rattle.table.specs.Entries.{varMode, varType, firstVar, vars}
+use Rattle.sizes.specs.Sizes.{wordsOf, moduleWords}
+use Rattle.machine.specs.Memory.{Memory}
+use Rattle.machine.specs.Layout.{location, linkAt, moduleAt, createdAt, callerFrame, callStatement, callerWorks, calledBlock}
+use Rattle.machine.specs.Variables.{offsetOf}
+use Rattle.machine.specs.Processes.{refers}
+use Rattle.machine.specs.Values.{holds, partOfBlock}
+use Rattle.machine.specs.Rule.{isCreated, owns, lives}
+use Rattle.sound.specs.Claims.{Keeps, PlaceLaws}
+use Rattle.sound.specs.Ruled.{Bottom, Framed, Chained, bottom, called, Carries}
+use Rattle.sound.proofs.Ruled.{either-l, either-r, either-case, range-low, range-high, range-i}
+use Rattle.sound.proofs.StoresBlocks.{variable-in, plain-words, bound-words}
+use Rattle.sound.proofs.StoresMemory.{location-add}
+
+-- references stay references
+pub carries-keeps : (m n : Memory) → Carries m n → Keeps m n
+unfolding refers
+carries-keeps m n c =
+    record {
+      refs = λ μ r e.
+          let l = leb-true 2 r (both-l _ _ (both-l _ _ e)) in
+          let h = leb-true r (m createdAt) (both-r _ _ (both-l _ _ e)) in
+          let g = c .grows in
+          both-i _ _ (both-i _ _ (le-leb 2 r l) (le-leb r (n createdAt) (omega arith))) (rw (c .modules r (omega arith) h) (both-r _ _ e));
+    }
+
+pub created-low : (T : Table) (m : Memory) (p : ℕ) → isCreated T m p ≡ true → 1 ≤ p
+unfolding isCreated
+created-low T m p e = range-low 1 (m createdAt) p e
+
+pub created-high : (T : Table) (m : Memory) (p : ℕ) → isCreated T m p ≡ true → p ≤ m createdAt
+unfolding isCreated
+created-high T m p e = range-high 1 (m createdAt) p e
+
+pub created-i : (T : Table) (m : Memory) (p : ℕ) → 1 ≤ p → p ≤ m createdAt → isCreated T m p ≡ true
+unfolding isCreated
+created-i T m p l h = range-i 1 (m createdAt) p l h
+
+-- the frames lie above the module's variables
+pub chain-over : (T : Table) (m : Memory) (p : ℕ) {d f w c top : ℕ} → Chained T m p d f w c top → moduleWords T (m (moduleAt p)) ≤ top
+chain-over T m p (bottom b) = let e = b .ends in omega arith
+chain-over T m p (called k r) = let x = chain-over T m p r in let e = k .ends in omega arith
+
+-- one more call, by the links of its frame
+pub called-by : (T : Table) (m : Memory) (p : ℕ) {d f w c top q g x s : ℕ} → m (linkAt p f 0) ≡ g → m (linkAt p f 1) ≡ s → m (linkAt p f 2) ≡ x → m (linkAt p f 3) ≡ q → Framed T m p d f w c top q → Chained T m p d g x s f → Chained T m p (suc d) f w c top
+called-by T m p {d = d} {f = f} {w = w} {c = c} {top = top} e0 e1 e2 e3 r k =
+    called {d = d} {f = f} {w = w} {c = c} {top = top} (rw e3 r) (rw (e0, e1, e2) k)
+
+module _ (T : Table) (m n : Memory) (cs : Carries m n) (p : ℕ) where
+  -- a live variable stays one
+  pub lives-part : (d f f' τ a : ℕ) → ((k : ℕ) → owns T m p d f τ k ≡ true → owns T n p d f' τ k ≡ true) → lives T m p d f τ a ≡ true → lives T n p d f' τ a ≡ true
+  unfolding lives
+  lives-part d f f' τ a h e =
+      either-case (both (isCreated T m (a / 256 + 1)) (partOfBlock T (m (moduleAt (a / 256 + 1))) τ (a % 256))) (both (eqb (a / 256 + 1) p) (owns T m p d f τ (a % 256))) e
+      (λ x. let l = created-low T m (a / 256 + 1) (both-l _ _ x) in let g = created-high T m (a / 256 + 1) (both-l _ _ x) in let u = cs .grows in
+      either-l _ _ (both-i _ _ (created-i T n (a / 256 + 1) l (omega arith)) (rw (cs .modules (a / 256 + 1) l g) (both-r _ _ x))))
+      (λ x. either-r _ _ (both-i _ _ (both-l _ _ x) (h (a % 256) (both-r _ _ x))))
+
+  -- the words of the area of p from base on below top are the same
+  unfoldable pub Same : ℕ → ℕ → Type 0
+  Same base top = (j : ℕ) → base ≤ j → j < top → n (location p j) ≡ m (location p j)
+
+  pub link-same : (base top f k : ℕ) → Same base top → base ≤ f → f + k < top → n (linkAt p f k) ≡ m (linkAt p f k)
+  unfolding Same linkAt
+  link-same base top f k h l g = h (f + k) (omega arith) g
+
+  pub same-below : (base top f : ℕ) → Same base top → f ≤ top → Same base f
+  unfolding Same
+  same-below base top f h l j a b = h j a (omega arith)
+
+  pub owns-same : {d f w c top : ℕ} → Chained T m p d f w c top → Same (moduleWords T (m (moduleAt p))) top → (τ k : ℕ) → owns T m p d f τ k ≡ true → owns T n p d f τ k ≡ true
+  unfolding owns
+  owns-same (bottom b) s τ k e = no-true e
+  owns-same {d = suc d} {f = f} {top = top} (called q r) s τ k e =
+      let x = chain-over T m p r in
+      let g = q .ends in
+      let e0 = link-same (moduleWords T (m (moduleAt p))) top f 0 s x (omega arith) in
+      let e3 = link-same (moduleWords T (m (moduleAt p))) top f 3 s x (omega arith) in
+      either-case (both (leb (f + 4) k) (partOfBlock T (calledBlock m p f) τ (k - (f + 4)))) (owns T m p d (callerFrame m p f) τ k) e
+      (λ y. either-l _ _ (both-i _ _ (both-l _ _ y) (rw e3 (both-r _ _ y))))
+      (λ y. either-r _ _ (rw e0 (owns-same r (same-below (moduleWords T (m (moduleAt p))) top f s (omega arith)) τ k y)))
+
+  -- a frame whose links and bound locations stay, and whose values are values
+  module _ {d f w c top q : ℕ} (r : Framed T m p d f w c top q) where
+    pub frame-new :
+        n (linkAt p f 0) ≡ m (linkAt p f 0)
+        → n (linkAt p f 1) ≡ m (linkAt p f 1)
+        → ((τ k : ℕ) → owns T m p d (callerFrame m p f) τ k ≡ true → owns T n p d (callerFrame m p f) τ k ≡ true)
+        → ((i : ℕ) → i < vars T q → (varMode T (firstVar T q + i) ≡ 2 → ⊥) → holds T n (varType T (firstVar T q + i)) (location p (f + 4 + offsetOf T q (firstVar T q + i))) ≡ true)
+        → ((i : ℕ) → i < vars T q → varMode T (firstVar T q + i) ≡ 2 → n (location p (f + 4 + offsetOf T q (firstVar T q + i))) ≡ m (location p (f + 4 + offsetOf T q (firstVar T q + i))))
+        → Framed T n p d f w c top q
+    frame-new e0 e1 o v b =
+        record {
+          room = r .room;
+          some-works = r .some-works;
+          works = let g = cs .grows in let x = r .works in omega arith;
+          there = r .there;
+          procedure = r .procedure;
+          owned = rw (cs .modules w (r .some-works) (r .works)) (r .owned);
+          ends = r .ends;
+          fits = r .fits;
+          from = r .from;
+          to = r .to;
+          values = v;
+          bound = λ i l g. rw (e0, b i l g) (lives-part d (callerFrame m p f) (callerFrame m p f) (varType T (firstVar T q + i)) (m (location p (f + 4 + offsetOf T q (firstVar T q + i)))) (λ k. o (varType T (firstVar T q + i)) k) (r .bound i l g));
+          calling = rw e1 (r .calling);
+        }
+
+-- THE CHAIN stays where its words, the processes and their modules stay
+module _ (T : Table) (L : PlaceLaws T) (m n : Memory) (cs : Carries m n) (p : ℕ) (some : 1 ≤ p) (made : p ≤ m createdAt) where
+  -- a value stays where its words stay
+  pub value-same : (τ j : ℕ) → ((k : ℕ) → k < wordsOf T τ → n (location p (j + k)) ≡ m (location p (j + k))) → holds T m τ (location p j) ≡ true → holds T n τ (location p j) ≡ true
+  value-same τ j h e = L .holds-same m n τ (location p j) (carries-keeps m n cs) (λ k l. rw (location-add p j k) (h k l)) e
+
+  pub frame-same : {d f w c top q : ℕ} → Framed T m p d f w c top q → Chained T m p d (callerFrame m p f) (callerWorks m p f) (callStatement m p f) f → Same T m n cs p (moduleWords T (m (moduleAt p))) top → Framed T n p d f w c top q
+  unfolding Same
+  frame-same {f = f} {top = top} {q = q} r k s =
+      let x = chain-over T m p k in
+      let g = r .ends in
+      frame-new T m n cs p r
+      (link-same T m n cs p (moduleWords T (m (moduleAt p))) top f 0 s x (omega arith))
+      (link-same T m n cs p (moduleWords T (m (moduleAt p))) top f 1 s x (omega arith))
+      (owns-same T m n cs p k (same-below T m n cs p (moduleWords T (m (moduleAt p))) top f s (omega arith)))
+      (λ i l h. let u = variable-in T q i l in let v = plain-words T (firstVar T q + i) h in value-same (varType T (firstVar T q + i)) (f + 4 + offsetOf T q (firstVar T q + i)) (λ j y. s (f + 4 + offsetOf T q (firstVar T q + i) + j) (omega arith) (omega arith)) (r .values i l h))
+      (λ i l h. let u = variable-in T q i l in let v = bound-words T (firstVar T q + i) h in s (f + 4 + offsetOf T q (firstVar T q + i)) (omega arith) (omega arith))
+
+  bottom-same : {f w c top : ℕ} → Bottom T m p f w c top → Bottom T n p f w c top
+  bottom-same b =
+      let e = cs .modules p some made in
+      record { no-frame = b .no-frame; own = b .own; ends = rw e (b .ends); from = rw e (b .from); to = rw e (b .to) }
+
+  pub chain-same : {d f w c top : ℕ} → Chained T m p d f w c top → Same T m n cs p (moduleWords T (m (moduleAt p))) top → Chained T n p d f w c top
+  chain-same (bottom b) s = bottom (bottom-same b)
+  chain-same {f = f} {top = top} (called r k) s =
+      let x = chain-over T m p k in
+      let g = r .ends in
+      let e0 = link-same T m n cs p (moduleWords T (m (moduleAt p))) top f 0 s x (omega arith) in
+      let e1 = link-same T m n cs p (moduleWords T (m (moduleAt p))) top f 1 s x (omega arith) in
+      let e2 = link-same T m n cs p (moduleWords T (m (moduleAt p))) top f 2 s x (omega arith) in
+      let e3 = link-same T m n cs p (moduleWords T (m (moduleAt p))) top f 3 s x (omega arith) in
+      called-by T n p e0 e1 e2 e3 (frame-same r k s) (chain-same k (same-below T m n cs p (moduleWords T (m (moduleAt p))) top f s (omega arith)))

@@ -1,0 +1,149 @@
+-- THE RULE is kept where a process stands elsewhere, on a chain of calls. Assumes nothing.
+use Prim.Native.Nat.{ℕ, _+_, _≤_, _<_}
+use mathlib.Core.Path.{_≡_, refl, _∙_}
+use mathlib.Core.Bool.{true}
+use native.Mathlib.Omega.{arith}
+use lib.Dec.{eqb, ltb}
+use borrow.Author.Tests.{eqb-true, eqb-false}
+use Rattle.basics.specs.Choice.{cases}
+use Rattle.basics.proofs.Bools.{no-true}
+use Rattle.table.specs.Table.{Table}
+use Rattle.table.specs.Entries.{blockCount, stmtCount, firstStmt, stmtKind}
+use Rattle.nesting.specs.Nest.{stmtLimit}
+use Rattle.nesting.proofs.Promise.{begins, goes-on}
+use Rattle.machine.specs.Memory.{Memory}
+use Rattle.machine.specs.Layout.{location, recordAt, statementAt, frameAt, topAt, worksAt, depthAt, createdAt}
+use Rattle.machine.specs.Entries.{stmtAt, statementOf}
+use Rattle.machine.specs.Calls.{standing}
+use Rattle.machine.specs.Rule.{nextFirst, calls}
+use Rattle.verdict.specs.Accepted.{Accepted}
+use Rattle.sound.specs.Claims.{PlaceLaws, Small}
+use Rattle.sound.specs.Ruled.{Chained, Process, Ruled, Carries}
+use Rattle.sound.proofs.StoresMemory.{location-low, location-up, record-high, records-apart, words-apart, update-same, update-other, update-small}
+use Rattle.sound.proofs.StoresProcesses.{process-by, variables-same, chain-stays, process-same, base-fits}
+
+-- each block has a first statement, and after a statement of a block that is not its end stands another
+module _ (T : Table) (ok : Accepted T) (b : ℕ) (l : b < blockCount T) where
+  pub block-begins : firstStmt T b < nextFirst T b
+  unfolding nextFirst stmtLimit
+  block-begins = begins T (ok .nesting) b l .below
+
+  pub block-goes : (c : ℕ) → firstStmt T b ≤ c → c < nextFirst T b → (stmtKind T c ≡ 13 → ⊥) → c + 1 < nextFirst T b
+  unfolding nextFirst stmtLimit
+  block-goes c x y n = goes-on T (ok .nesting) b l c (record { from = x; below = y }) n .below
+
+-- a call is no block end
+pub call-kind : (T : Table) (q c : ℕ) → calls q (stmtAt T c) ≡ true → stmtKind T c ≡ 13 → ⊥
+unfolding stmtAt statementOf calls
+call-kind T q c e k =
+    cases (ltb c (stmtCount T))
+    (λ x. no-true (rw (x, k) at e))
+    (λ x. no-true (rw x at e))
+
+module _ (s : Memory) (p c f top w d : ℕ) where
+  standing-else : (j : ℕ) → (j ≡ statementAt p → ⊥) → (j ≡ frameAt p → ⊥) → (j ≡ topAt p → ⊥) → (j ≡ worksAt p → ⊥) → (j ≡ depthAt p → ⊥) → standing s p c f top w d j ≡ s j
+  unfolding standing
+  standing-else j a b x y z =
+      update-other _ (depthAt p) d j z ∙ update-other _ (worksAt p) w j y ∙ update-other _ (topAt p) top j x ∙ update-other _ (frameAt p) f j b ∙ update-other s (statementAt p) c j a
+
+  pub stand-word : (k : ℕ) → (k ≡ 2 → ⊥) → (k ≡ 3 → ⊥) → (k ≡ 4 → ⊥) → (k ≡ 5 → ⊥) → (k ≡ 7 → ⊥) → standing s p c f top w d (recordAt p k) ≡ s (recordAt p k)
+  stand-word k a b x y z = standing-else (recordAt p k) (words-apart p k 2 a) (words-apart p k 3 b) (words-apart p k 4 x) (words-apart p k 5 y) (words-apart p k 7 z)
+
+  pub stand-depth : standing s p c f top w d (depthAt p) ≡ d
+  unfolding standing
+  stand-depth = update-same _ (depthAt p) d (depthAt p) refl
+
+  pub stand-works : standing s p c f top w d (worksAt p) ≡ w
+  unfolding standing
+  stand-works = update-other _ (depthAt p) d (worksAt p) (words-apart p 5 7 (λ z. omega arith)) ∙ update-same _ (worksAt p) w (worksAt p) refl
+
+  pub stand-top : standing s p c f top w d (topAt p) ≡ top
+  unfolding standing
+  stand-top =
+      update-other _ (depthAt p) d (topAt p) (words-apart p 4 7 (λ z. omega arith))
+      ∙ update-other _ (worksAt p) w (topAt p) (words-apart p 4 5 (λ z. omega arith))
+      ∙ update-same _ (topAt p) top (topAt p) refl
+
+  pub stand-frame : standing s p c f top w d (frameAt p) ≡ f
+  unfolding standing
+  stand-frame =
+      update-other _ (depthAt p) d (frameAt p) (words-apart p 3 7 (λ z. omega arith))
+      ∙ update-other _ (worksAt p) w (frameAt p) (words-apart p 3 5 (λ z. omega arith))
+      ∙ update-other _ (topAt p) top (frameAt p) (words-apart p 3 4 (λ z. omega arith))
+      ∙ update-same _ (frameAt p) f (frameAt p) refl
+
+  pub stand-statement : standing s p c f top w d (statementAt p) ≡ c
+  unfolding standing
+  stand-statement =
+      update-other _ (depthAt p) d (statementAt p) (words-apart p 2 7 (λ z. omega arith))
+      ∙ update-other _ (worksAt p) w (statementAt p) (words-apart p 2 5 (λ z. omega arith))
+      ∙ update-other _ (topAt p) top (statementAt p) (words-apart p 2 4 (λ z. omega arith))
+      ∙ update-other _ (frameAt p) f (statementAt p) (words-apart p 2 3 (λ z. omega arith))
+      ∙ update-same _ (statementAt p) c (statementAt p) refl
+
+  pub stand-small : Small s → c < 65536 → f < 65536 → top < 65536 → w < 65536 → d < 65536 → Small (standing s p c f top w d)
+  unfolding standing
+  stand-small m a b x y z = update-small _ (depthAt p) d (update-small _ (worksAt p) w (update-small _ (topAt p) top (update-small _ (frameAt p) f (update-small s (statementAt p) c m a) b) x) y) z
+
+  module _ (a : 1 ≤ p) where
+    pub stand-other : (q k : ℕ) → 1 ≤ q → k < 20 → (q ≡ p → ⊥) → standing s p c f top w d (recordAt q k) ≡ s (recordAt q k)
+    stand-other q k b l n =
+        standing-else (recordAt q k) (records-apart q p k 2 b a l (omega arith) n) (records-apart q p k 3 b a l (omega arith) n) (records-apart q p k 4 b a l (omega arith) n) (records-apart q p k 5 b a l (omega arith) n) (records-apart q p k 7 b a l (omega arith) n)
+
+    pub stand-same : (q k : ℕ) → 1 ≤ q → k < 20 → (k ≡ 2 → ⊥) → (k ≡ 3 → ⊥) → (k ≡ 4 → ⊥) → (k ≡ 5 → ⊥) → (k ≡ 7 → ⊥) → standing s p c f top w d (recordAt q k) ≡ s (recordAt q k)
+    stand-same q k b l h2 h3 h4 h5 h7 =
+        cases (eqb q p)
+        (λ e. rw (eqb-true q p e) (stand-word k h2 h3 h4 h5 h7))
+        (λ e. stand-other q k b l (eqb-false q p e))
+
+    pub stand-area : (q j : ℕ) → 1 ≤ q → q ≤ 64 → j < 256 → standing s p c f top w d (location q j) ≡ s (location q j)
+    stand-area q j b l h =
+        let y = location-up q j 256 h in
+        let z = location-low q 256 b l (omega arith) in
+        standing-else (location q j)
+        (λ e. let x = record-high p 2 in omega arith) (λ e. let x = record-high p 3 in omega arith) (λ e. let x = record-high p 4 in omega arith)
+        (λ e. let x = record-high p 5 in omega arith) (λ e. let x = record-high p 7 in omega arith)
+
+    pub stand-carries : Carries s (standing s p c f top w d)
+    stand-carries =
+        let e = stand-same 1 8 (omega arith) (omega arith) (λ z. omega arith) (λ z. omega arith) (λ z. omega arith) (λ z. omega arith) (λ z. omega arith) in
+        record { grows = omega arith; modules = λ q b l. stand-same q 1 b (omega arith) (λ z. omega arith) (λ z. omega arith) (λ z. omega arith) (λ z. omega arith) (λ z. omega arith) }
+
+    module _ (T : Table) (ok : Accepted T) (L : PlaceLaws T) (h : Ruled T s) (b : p ≤ s createdAt) (k : Chained T s p d f w c top) where
+      stand-process : Process T (standing s p c f top w d) p
+      stand-process =
+          let x = h .process p a b in
+          let u = h .most in
+          let g = stand-carries .grows in
+          let e0 = stand-word 0 (λ z. omega arith) (λ z. omega arith) (λ z. omega arith) (λ z. omega arith) (λ z. omega arith) in
+          let e6 = stand-word 6 (λ z. omega arith) (λ z. omega arith) (λ z. omega arith) (λ z. omega arith) (λ z. omega arith) in
+          let lo = x .low in
+          let hi = x .high in
+          let ho = x .holder in
+          process-by T s (standing s p c f top w d) p x
+          (stand-word 1 (λ z. omega arith) (λ z. omega arith) (λ z. omega arith) (λ z. omega arith) (λ z. omega arith))
+          (omega arith) (omega arith) (λ z. let y = x .first-status z in omega arith) (omega arith)
+          (variables-same T ok L s (standing s p c f top w d) stand-carries p a b x
+          (λ j l. let y = base-fits T ok L s (standing s p c f top w d) stand-carries p a b x in stand-area p j a (omega arith) (omega arith)))
+          (λ z. rw (stand-depth, stand-frame, stand-works, stand-statement, stand-top)
+          (chain-stays T ok L s (standing s p c f top w d) stand-carries p a b x (λ j l m. stand-area p j a (omega arith) m) k))
+
+      -- THE PROCESS STANDS on the chain k
+      pub stand-kept : Ruled T (standing s p c f top w d)
+      stand-kept =
+          let e8 = stand-same 1 8 (omega arith) (omega arith) (λ z. omega arith) (λ z. omega arith) (λ z. omega arith) (λ z. omega arith) (λ z. omega arith) in
+          let e9 = stand-same 1 9 (omega arith) (omega arith) (λ z. omega arith) (λ z. omega arith) (λ z. omega arith) (λ z. omega arith) (λ z. omega arith) in
+          let u = h .most in
+          let o = h .some in
+          record {
+            some = omega arith;
+            most = omega arith;
+            failed = rw e9 (h .failed);
+            process = λ q x y.
+                let y' : q ≤ s createdAt = omega arith in
+                cases (eqb q p)
+                (λ e. rw (eqb-true q p e) stand-process)
+                (λ e. process-same T ok L s (standing s p c f top w d) stand-carries q x y' (h .process q x y')
+                (λ i l. stand-other q i x (omega arith) (eqb-false q p e))
+                (λ j l. stand-area q j x (omega arith) l));
+          }

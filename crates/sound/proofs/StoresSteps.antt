@@ -1,0 +1,187 @@
+-- THE RULE is kept by an assignment, and where a process that holds variables goes on. Assumes nothing.
+use Prim.Native.Nat.{ℕ, suc, _+_, _-_, _/_, _%_, _≤_, _<_}
+use mathlib.Core.Path.{_≡_, refl, _∙_}
+use mathlib.Core.Bool.{true}
+use mathlib.Core.List.{List}
+use native.Mathlib.Omega.{arith}
+use lib.ListN.{length}
+use lib.Dec.{eqb, leb}
+use borrow.Author.Tests.{eqb-true, eqb-false, leb-true}
+use Rattle.basics.specs.Choice.{cases, both}
+use Rattle.basics.proofs.Bools.{both-l, both-r}
+use Rattle.table.specs.Table.{Table}
+use Rattle.sizes.specs.Sizes.{wordsOf, moduleWords}
+use Rattle.sizes.proofs.Promise.{module-most}
+use Rattle.machine.specs.Memory.{Memory, store, update}
+use Rattle.machine.specs.Layout.{location, linkAt, recordAt, statusAt, moduleAt, statementAt, frameAt, topAt, worksAt, holderAt, depthAt, createdAt, callerFrame, calledBlock}
+use Rattle.machine.specs.Context.{blockOf}
+use Rattle.machine.specs.Values.{partOfBlock}
+use Rattle.machine.specs.Rule.{isCreated, owns, lives, liesIn, rule}
+use Rattle.verdict.specs.Accepted.{Accepted}
+use Rattle.sound.specs.Claims.{IsValue, PlaceLaws, Started}
+use Rattle.sound.specs.Ruled.{Chained, bottom, called, Ruled}
+use Rattle.sound.proofs.Ruled.{either-case, ruled, rules, block-there, block-kind, stands}
+use Rattle.sound.proofs.StoresBlocks.{part-of, module-variables, module-fits}
+use Rattle.sound.proofs.StoresMemory.{location-of, area-before, area-after, area-other, area-record}
+use Rattle.sound.proofs.StoresChains.{created-low, created-high, chain-over}
+use Rattle.sound.proofs.StoresProcesses.{chain-fits}
+use Rattle.sound.proofs.StoresValues.{part-most, owns-in}
+use Rattle.sound.proofs.StoresRule.{store-kept}
+use Rattle.sound.proofs.StoresRecords.{set-unlike, set-area, goto-kept, holder-kept}
+
+-- a process executes the same block where its record and the links of its frame stay
+pub block-same : (m n : Memory) (p : ℕ) → n (depthAt p) ≡ m (depthAt p) → n (moduleAt p) ≡ m (moduleAt p) → n (frameAt p) ≡ m (frameAt p)
+    → ((m (depthAt p) ≡ 0 → ⊥) → n (linkAt p (m (frameAt p)) 3) ≡ m (linkAt p (m (frameAt p)) 3)) → blockOf n p ≡ blockOf m p
+unfolding blockOf
+block-same m n p e7 e1 e3 l =
+    cases (eqb (m (depthAt p)) 0)
+    (λ x. rw (e7, x, e1))
+    (λ x. rw (e7, x, e3) (l (eqb-false (m (depthAt p)) 0 x)))
+
+-- ws stand in an area when they are stored at i, and not on the link of p's frame that names its procedure
+record Inside (m : Memory) (p i : ℕ) (ws : List ℕ) : Type 0 where
+  r : ℕ
+  k : ℕ
+  is : location r k ≡ i
+  low : 1 ≤ r
+  high : r ≤ 64
+  fits : k + length ws ≤ 256
+  link : (m (depthAt p) ≡ 0 → ⊥) → store m (location r k) ws (linkAt p (m (frameAt p)) 3) ≡ m (linkAt p (m (frameAt p)) 3)
+
+module _ (T : Table) (good : Accepted T) (L : PlaceLaws T) (m : Memory) (h : Ruled T m) (p : ℕ) (a : 1 ≤ p) (b : p ≤ m createdAt) (st : m (statusAt p) ≡ 2) where
+  top-fits : m (topAt p) ≤ 256
+  top-fits =
+      let x = h .process p a b in
+      chain-fits T m p (module-most T (good .sizes) (m (moduleAt p)) (block-there T good m p x) (block-kind T good m p x)) (x .chain st)
+
+  link-low : {d f w c top : ℕ} → Chained T m p d f w c top → (d ≡ 0 → ⊥) → f + 3 < 256
+  link-low (bottom x) n = absurd (n refl)
+  link-low (called x r) n = let u = x .room in omega arith
+
+  -- a process whose record and area stay executes the same block
+  pub area-block : (n : Memory) → ((i : ℕ) → i < 8 → n (recordAt p i) ≡ m (recordAt p i)) → ((j : ℕ) → j < 256 → n (location p j) ≡ m (location p j)) → blockOf n p ≡ blockOf m p
+  unfolding linkAt
+  area-block n s w =
+      block-same m n p (s 7 (omega arith)) (s 1 (omega arith)) (s 3 (omega arith)) (λ d. w (m (frameAt p) + 3) (link-low (h .process p a b .chain st) d))
+
+  -- what is stored in a live variable leaves where the process stands
+  module _ (τ : ℕ) (ws : List ℕ) (v : IsValue T m τ ws) where
+    own-link : {d f w c top : ℕ} → Chained T m p d f w c top → (d ≡ 0 → ⊥) → (k : ℕ) → owns T m p d f τ k ≡ true → store m (location p k) ws (linkAt p f 3) ≡ m (linkAt p f 3)
+    unfolding owns linkAt
+    own-link (bottom x) n k e = absurd (n refl)
+    own-link {d = suc d} {f = f} (called x r) n k e =
+        let g = v .long in
+        either-case (both (leb (f + 4) k) (partOfBlock T (calledBlock m p f) τ (k - (f + 4)))) (owns T m p d (callerFrame m p f) τ k) e
+        (λ y. let u = leb-true (f + 4) k (both-l _ _ y) in area-before m p k ws (f + 3) (omega arith))
+        (λ y. let z = owns-in T good L m p r τ k y .1 in area-after m p k ws (f + 3) (omega arith))
+
+    module-link : {d f w c top : ℕ} → Chained T m p d f w c top → (d ≡ 0 → ⊥) → (k : ℕ) → k + wordsOf T τ ≤ moduleWords T (m (moduleAt p)) → store m (location p k) ws (linkAt p f 3) ≡ m (linkAt p f 3)
+    unfolding linkAt
+    module-link (bottom x) n k e = absurd (n refl)
+    module-link {f = f} (called x r) n k e = let g = v .long in let u = chain-over T m p r in area-after m p k ws (f + 3) (omega arith)
+
+    other-link : (r k : ℕ) → 1 ≤ r → (p ≡ r → ⊥) → k + length ws ≤ 256 → (m (depthAt p) ≡ 0 → ⊥) → store m (location r k) ws (linkAt p (m (frameAt p)) 3) ≡ m (linkAt p (m (frameAt p)) 3)
+    unfolding linkAt
+    other-link r k r1 n q d = area-other m r k ws p (m (frameAt p) + 3) r1 a n (link-low (h .process p a b .chain st) d) q
+
+    in-module : (r k : ℕ) → 1 ≤ r → r ≤ m createdAt → partOfBlock T (m (moduleAt r)) τ k ≡ true → Inside m p (location r k) ws
+    in-module r k r1 r2 e =
+        let x = h .process r r1 r2 in
+        let t = block-there T good m r x in
+        let z = part-most T good L (m (moduleAt r)) τ k t (part-of T (m (moduleAt r)) τ k e) in
+        let w = module-variables T good (m (moduleAt r)) t (block-kind T good m r x) in
+        let f = module-fits T good (m (moduleAt r)) t (block-kind T good m r x) in
+        let n = v .long in
+        let u = h .most in
+        let q : k + length ws ≤ 256 = omega arith in
+        record {
+          r = r;
+          k = k;
+          is = refl;
+          low = r1;
+          high = omega arith;
+          fits = q;
+          link = λ d. cases (eqb p r)
+              (λ y. let i : p ≡ r = eqb-true p r y in rw (← i) (module-link (h .process p a b .chain st) d k (rw i (omega arith))))
+              (λ y. other-link r k r1 (eqb-false p r y) q d);
+        }
+
+    in-own : (k : ℕ) → owns T m p (m (depthAt p)) (m (frameAt p)) τ k ≡ true → Inside m p (location p k) ws
+    in-own k e =
+        let c = h .process p a b .chain st in
+        let u = h .most in
+        let o = owns-in T good L m p c τ k e .1 in
+        let n = v .long in
+        let f = top-fits in
+        record {
+          r = p;
+          k = k;
+          is = refl;
+          low = a;
+          high = omega arith;
+          fits = omega arith;
+          link = λ d. own-link c d k e;
+        }
+
+    inside : (i : ℕ) → lives T m p (m (depthAt p)) (m (frameAt p)) τ i ≡ true → Inside m p i ws
+    unfolding lives
+    inside i e =
+        rw (location-of i) at
+        (either-case (both (isCreated T m (i / 256 + 1)) (partOfBlock T (m (moduleAt (i / 256 + 1))) τ (i % 256))) (both (eqb (i / 256 + 1) p) (owns T m p (m (depthAt p)) (m (frameAt p)) τ (i % 256))) e
+        (λ x. in-module (i / 256 + 1) (i % 256) (created-low T m (i / 256 + 1) (both-l _ _ x)) (created-high T m (i / 256 + 1) (both-l _ _ x)) (both-r _ _ x))
+        (λ x. rw (eqb-true (i / 256 + 1) p (both-l _ _ x)) (in-own (i % 256) (both-r _ _ x))))
+
+    module _ (i : ℕ) (e : lives T m p (m (depthAt p)) (m (frameAt p)) τ i ≡ true) where
+      pub lives-record : (q j : ℕ) → store m i ws (recordAt q j) ≡ m (recordAt q j)
+      lives-record q j = let x = inside i e in rw (x .is) at (area-record m (x .r) (x .k) ws q j (x .low) (x .high) (x .fits))
+
+      pub lives-block : blockOf (store m i ws) p ≡ blockOf m p
+      lives-block =
+          let x = inside i e in
+          block-same m (store m i ws) p (lives-record p 7) (lives-record p 1) (lives-record p 3) (λ d. rw (x .is) at (x .link d))
+
+      -- THE ASSIGNMENT
+      pub assign-kept : (c : ℕ) → liesIn T (blockOf m p) c ≡ true → Ruled T (update (store m i ws) (statementAt p) c)
+      assign-kept c l =
+          let e8 = lives-record 1 8 in
+          goto-kept T good L (store m i ws) (store-kept T good L m h p τ i ws a b st e v) p c a (omega arith) (lives-record p 0 ∙ st) (rw lives-block l)
+
+  holder-block : (r v : ℕ) → 1 ≤ r → blockOf (update m (holderAt r) v) p ≡ blockOf m p
+  unfolding linkAt
+  holder-block r v r1 =
+      let u = h .most in
+      let w = set-unlike m r 6 v r1 (omega arith) (λ z. omega arith) (λ z. omega arith) p in
+      block-same m (update m (holderAt r) v) p (w 7 a (omega arith) (λ z. omega arith)) (w 1 a (omega arith) (λ z. omega arith)) (w 3 a (omega arith) (λ z. omega arith))
+      (λ d. set-area m r 6 v r1 (omega arith) (λ z. omega arith) (λ z. omega arith) p (m (frameAt p) + 3) a (omega arith) (link-low (h .process p a b .chain st) d))
+
+  -- a process goes on, and holds the variables that it works on
+  pub enter-kept : (r c : ℕ) → 1 ≤ r → r ≤ m createdAt → liesIn T (blockOf m p) c ≡ true → Ruled T (update (update m (holderAt r) p) (statementAt p) c)
+  enter-kept r c r1 r2 l =
+      let u = h .most in
+      let w = set-unlike m r 6 p r1 (omega arith) (λ z. omega arith) (λ z. omega arith) p in
+      let e8 = set-unlike m r 6 p r1 (omega arith) (λ z. omega arith) (λ z. omega arith) 1 8 (omega arith) (omega arith) (λ z. omega arith) in
+      goto-kept T good L (update m (holderAt r) p) (holder-kept T good L m h r p r1 r2 b) p c a (omega arith) (w 0 a (omega arith) (λ z. omega arith) ∙ st) (rw (holder-block r p r1) l)
+
+-- the same of the rule itself
+module _ (T : Table) (good : Accepted T) (L : PlaceLaws T) (m : Memory) (p : ℕ) (s : Started T m p) where
+  pub assign-rule : (τ i c : ℕ) (ws : List ℕ) → lives T m p (m (depthAt p)) (m (frameAt p)) τ i ≡ true → IsValue T m τ ws → liesIn T (blockOf m p) c ≡ true → rule T (update (store m i ws) (statementAt p) c) ≡ true
+  assign-rule τ i c ws e v l =
+      rules T (update (store m i ws) (statementAt p) c)
+      (assign-kept T good L m (ruled T m (s .ruled)) p (created-low T m p (s .created)) (created-high T m p (s .created)) (s .started) τ ws v i e c l)
+
+  pub enter-rule : (c : ℕ) → liesIn T (blockOf m p) c ≡ true → rule T (update (update m (holderAt (m (worksAt p))) p) (statementAt p) c) ≡ true
+  enter-rule c l =
+      let h = ruled T m (s .ruled) in
+      let a = created-low T m p (s .created) in
+      let b = created-high T m p (s .created) in
+      let k = stands T good m p a b (h .process p a b) (s .started) in
+      rules T (update (update m (holderAt (m (worksAt p))) p) (statementAt p) c)
+      (enter-kept T good L m h p a b (s .started) (m (worksAt p)) c (k .some-works) (k .works) l)
+
+  pub wait-rule : rule T (update m (holderAt (m (worksAt p))) 0) ≡ true
+  wait-rule =
+      let h = ruled T m (s .ruled) in
+      let a = created-low T m p (s .created) in
+      let b = created-high T m p (s .created) in
+      let k = stands T good m p a b (h .process p a b) (s .started) in
+      rules T (update m (holderAt (m (worksAt p))) 0) (holder-kept T good L m h (m (worksAt p)) 0 (k .some-works) (k .works) (omega arith))

@@ -1,0 +1,158 @@
+-- A value that is stored in a live variable keeps the rule. Assumes nothing.
+use Prim.Native.Nat.{ℕ, suc, _+_, _-_, _≤_, _<_}
+use mathlib.Core.Path.{_≡_}
+use mathlib.Core.Bool.{true}
+use mathlib.Core.List.{List}
+use native.Mathlib.Omega.{arith}
+use native.Mathlib.Nat.{zero-add}
+use lib.Dec.{eqb, leb, ltb}
+use borrow.Author.Tests.{eqb-true, eqb-false, leb-true, ltb-true, ltb-false}
+use Rattle.basics.specs.Choice.{cases, both, either}
+use Rattle.basics.proofs.Bools.{no-true, both-l, both-r}
+use Rattle.table.specs.Table.{Table}
+use Rattle.table.specs.Entries.{blockCount, varMode, varType, firstVar}
+use Rattle.sizes.specs.Sizes.{wordsOf, moduleWords}
+use Rattle.machine.specs.Memory.{Memory, store}
+use Rattle.machine.specs.Layout.{location, linkAt, moduleAt, createdAt, callerFrame, callStatement, callerWorks, calledBlock}
+use Rattle.machine.specs.Variables.{varWords, frameWords, offsetOf}
+use Rattle.machine.specs.Values.{holds, partOfBlock}
+use Rattle.machine.specs.Rule.{owns}
+use Rattle.verdict.specs.Accepted.{Accepted}
+use Rattle.sound.specs.Claims.{IsValue, PlaceLaws}
+use Rattle.sound.specs.Ruled.{Framed, Chained, bottom, called, PartOf, Carries}
+use Rattle.sound.proofs.Ruled.{either-l, either-r, either-case}
+use Rattle.sound.proofs.StoresBlocks.{variable-in, variables-apart, plain-words, bound-words, variable-type, part-of}
+use Rattle.sound.proofs.StoresMemory.{location-add, area-before, area-after}
+use Rattle.sound.proofs.StoresChains.{Same, carries-keeps, chain-over, called-by, owns-same, frame-new, value-same, chain-same}
+
+module _ (T : Table) (ok : Accepted T) (L : PlaceLaws T) where
+  -- where a part of a block ends
+  pub part-end : (b τ k : ℕ) → b < blockCount T → (x : PartOf T b τ k) → k + wordsOf T τ ≤ offsetOf T b (firstVar T b + x .i) + varWords T (firstVar T b + x .i)
+  part-end b τ k l x =
+      let h = L .part-in τ (varType T (firstVar T b + x .i)) (k - offsetOf T b (firstVar T b + x .i)) (variable-type T ok b l (x .i) (x .below)) (x .begins) in
+      let e = plain-words T (firstVar T b + x .i) (x .plain) in
+      let g = x .from in
+      omega arith
+
+  pub part-most : (b τ k : ℕ) → b < blockCount T → PartOf T b τ k → k + wordsOf T τ ≤ frameWords T b
+  part-most b τ k l x = let h = part-end b τ k l x in let g = variable-in T b (x .i) (x .below) in omega arith
+
+  -- the variables of block b from word o on, when a value is stored in a part of one
+  module _ (m : Memory) (p o b τ k : ℕ) (there : b < blockCount T) (x : PartOf T b τ k) (ws : List ℕ) (v : IsValue T m τ ws) (cs : Carries m (store m (location p (o + k)) ws)) where
+    pub other-word : (i : ℕ) → (i ≡ x .i → ⊥) → (j : ℕ) → j < varWords T (firstVar T b + i) → store m (location p (o + k)) ws (location p (o + offsetOf T b (firstVar T b + i) + j)) ≡ m (location p (o + offsetOf T b (firstVar T b + i) + j))
+    other-word i d j l =
+        let u = part-end b τ k there x in
+        let g = x .from in
+        let n = v .long in
+        cases (ltb i (x .i))
+        (λ q. let h = variables-apart T b i (x .i) (ltb-true i (x .i) q) in area-before m p (o + k) ws (o + offsetOf T b (firstVar T b + i) + j) (omega arith))
+        (λ q. let y = ltb-false i (x .i) q in
+        let h = variables-apart T b (x .i) i (omega arith) in
+        area-after m p (o + k) ws (o + offsetOf T b (firstVar T b + i) + j) (omega arith))
+
+    pub bound-kept : (i : ℕ) → varMode T (firstVar T b + i) ≡ 2 → store m (location p (o + k)) ws (location p (o + offsetOf T b (firstVar T b + i))) ≡ m (location p (o + offsetOf T b (firstVar T b + i)))
+    bound-kept i n =
+        let z : o + offsetOf T b (firstVar T b + i) + 0 ≡ o + offsetOf T b (firstVar T b + i) = omega arith in
+        let u = bound-words T (firstVar T b + i) n in
+        rw z at (other-word i (λ e. x .plain (rw e at n)) 0 (omega arith))
+
+    value-in : holds T m (varType T (firstVar T b + x .i)) (location p (o + offsetOf T b (firstVar T b + x .i))) ≡ true
+        → holds T (store m (location p (o + k)) ws) (varType T (firstVar T b + x .i)) (location p (o + offsetOf T b (firstVar T b + x .i))) ≡ true
+    value-in h =
+        let g = x .from in
+        let j : o + offsetOf T b (firstVar T b + x .i) + (k - offsetOf T b (firstVar T b + x .i)) ≡ o + k = omega arith in
+        let e : location p (o + offsetOf T b (firstVar T b + x .i)) + (k - offsetOf T b (firstVar T b + x .i)) ≡ location p (o + k) = rw (location-add, j) in
+        rw e at (L .stored m τ (varType T (firstVar T b + x .i)) (location p (o + offsetOf T b (firstVar T b + x .i))) (k - offsetOf T b (firstVar T b + x .i)) ws (variable-type T ok b there (x .i) (x .below)) h (x .begins) v (rw e (carries-keeps m (store m (location p (o + k)) ws) cs)))
+
+    pub value-kept : 1 ≤ p → p ≤ m createdAt → (i : ℕ) → (varMode T (firstVar T b + i) ≡ 2 → ⊥) → holds T m (varType T (firstVar T b + i)) (location p (o + offsetOf T b (firstVar T b + i))) ≡ true
+        → holds T (store m (location p (o + k)) ws) (varType T (firstVar T b + i)) (location p (o + offsetOf T b (firstVar T b + i))) ≡ true
+    value-kept y z i n h =
+        cases (eqb i (x .i))
+        (λ q. let e = eqb-true i (x .i) q in rw e (value-in (rw e at h)))
+        (λ q. value-same T L m (store m (location p (o + k)) ws) cs p y z (varType T (firstVar T b + i)) (o + offsetOf T b (firstVar T b + i))
+        (λ j l. other-word i (eqb-false i (x .i) q) j (let e = plain-words T (firstVar T b + i) n in omega arith)) h)
+
+  -- the same at the beginning of an area
+  pub module-kept : (m : Memory) (p b τ k : ℕ) → b < blockCount T → PartOf T b τ k → (ws : List ℕ) → IsValue T m τ ws → Carries m (store m (location p k) ws) → 1 ≤ p → p ≤ m createdAt
+      → (i : ℕ) → (varMode T (firstVar T b + i) ≡ 2 → ⊥) → holds T m (varType T (firstVar T b + i)) (location p (offsetOf T b (firstVar T b + i))) ≡ true
+      → holds T (store m (location p k) ws) (varType T (firstVar T b + i)) (location p (offsetOf T b (firstVar T b + i))) ≡ true
+  module-kept m p b τ k l x ws v cs y z i n h = simp zero-add at (value-kept m p 0 b τ k l x ws v (simp zero-add cs) y z i n (simp zero-add h))
+
+  -- what a process owns lies above its module's variables and below its top
+  pub owns-in : (m : Memory) (p : ℕ) {d f w c top : ℕ} → Chained T m p d f w c top → (τ k : ℕ) → owns T m p d f τ k ≡ true → (moduleWords T (m (moduleAt p)) ≤ k) × (k + wordsOf T τ ≤ top)
+  unfolding owns
+  owns-in m p (bottom b) τ k e = no-true e
+  owns-in m p {d = suc d} {f = f} {top = top} (called q r) τ k e =
+      let x = chain-over T m p r in
+      let g = q .ends in
+      either-case (both (leb (f + 4) k) (partOfBlock T (calledBlock m p f) τ (k - (f + 4)))) (owns T m p d (callerFrame m p f) τ k) e
+      (λ y. let u = leb-true (f + 4) k (both-l _ _ y) in
+      let z = part-most (calledBlock m p f) τ (k - (f + 4)) (q .there) (part-of T (calledBlock m p f) τ (k - (f + 4)) (both-r _ _ y)) in
+      (omega arith, omega arith))
+      (λ y. let z = owns-in m p r τ k y in (z .0, let u = z .1 in omega arith))
+
+  -- a value stored in a value parameter or local of a call
+  module _ (m : Memory) (p τ k : ℕ) (ws : List ℕ) (v : IsValue T m τ ws) (some : 1 ≤ p) (made : p ≤ m createdAt) (cs : Carries m (store m (location p k) ws)) where
+    link-before : (f i : ℕ) → f + i < k → store m (location p k) ws (linkAt p f i) ≡ m (linkAt p f i)
+    unfolding linkAt
+    link-before f i l = area-before m p k ws (f + i) l
+
+    link-after : (f i : ℕ) → k + wordsOf T τ ≤ f → store m (location p k) ws (linkAt p f i) ≡ m (linkAt p f i)
+    unfolding linkAt
+    link-after f i l = let e = v .long in area-after m p k ws (f + i) (omega arith)
+
+    below-same : (base f : ℕ) → f ≤ k → Same T m (store m (location p k) ws) cs p base f
+    unfolding Same
+    below-same base f l = λ j a b. area-before m p k ws j (omega arith)
+
+    store-owns : {d f w c top : ℕ} → Chained T m p d f w c top → owns T m p d f τ k ≡ true → (σ j : ℕ) → owns T m p d f σ j ≡ true → owns T (store m (location p k) ws) p d f σ j ≡ true
+    unfolding owns
+    store-owns (bottom b) e σ j g = no-true g
+    store-owns {d = suc d} {f = f} {top = top} (called q r) e σ j g =
+        either-case (both (leb (f + 4) k) (partOfBlock T (calledBlock m p f) τ (k - (f + 4)))) (owns T m p d (callerFrame m p f) τ k) e
+        (λ y. let u = leb-true (f + 4) k (both-l _ _ y) in
+        more (link-before f 0 (omega arith)) (link-before f 3 (omega arith)) (owns-same T m (store m (location p k) ws) cs p r (below-same (moduleWords T (m (moduleAt p))) f (omega arith)) σ j))
+        (λ y. let z = owns-in m p r τ k y .1 in more (link-after f 0 z) (link-after f 3 z) (store-owns r y σ j))
+      where
+        more : store m (location p k) ws (linkAt p f 0) ≡ m (linkAt p f 0) → store m (location p k) ws (linkAt p f 3) ≡ m (linkAt p f 3)
+            → (owns T m p d (callerFrame m p f) σ j ≡ true → owns T (store m (location p k) ws) p d (callerFrame m p f) σ j ≡ true)
+            → either (both (leb (f + 4) j) (partOfBlock T (calledBlock (store m (location p k) ws) p f) σ (j - (f + 4)))) (owns T (store m (location p k) ws) p d (callerFrame (store m (location p k) ws) p f) σ j) ≡ true
+        more e0 e3 h =
+            either-case (both (leb (f + 4) j) (partOfBlock T (calledBlock m p f) σ (j - (f + 4)))) (owns T m p d (callerFrame m p f) σ j) g
+            (λ y. either-l _ _ (rw e3 y))
+            (λ y. either-r _ _ (rw e0 (h y)))
+
+    -- the frame that has the variable
+    store-frame : {d f w c top q : ℕ} → Framed T m p d f w c top q → Chained T m p d (callerFrame m p f) (callerWorks m p f) (callStatement m p f) f → f + 4 ≤ k → partOfBlock T q τ (k - (f + 4)) ≡ true → Framed T (store m (location p k) ws) p d f w c top q
+    store-frame {f = f} {q = q} r h l e =
+        let x = part-of T q τ (k - (f + 4)) e in
+        let j : f + 4 + (k - (f + 4)) ≡ k = omega arith in
+        frame-new T m (store m (location p k) ws) cs p r
+        (link-before f 0 (omega arith)) (link-before f 1 (omega arith))
+        (owns-same T m (store m (location p k) ws) cs p h (below-same (moduleWords T (m (moduleAt p))) f (omega arith)))
+        (λ i u n. rw j at (value-kept m p (f + 4) q τ (k - (f + 4)) (r .there) x ws v (rw j cs) some made i n (r .values i u n)))
+        (λ i u n. rw j at (bound-kept m p (f + 4) q τ (k - (f + 4)) (r .there) x ws v (rw j cs) i n))
+
+    -- a frame above the variable
+    store-over : {d f w c top q : ℕ} → Framed T m p d f w c top q → Chained T m p d (callerFrame m p f) (callerWorks m p f) (callStatement m p f) f → owns T m p d (callerFrame m p f) τ k ≡ true → Framed T (store m (location p k) ws) p d f w c top q
+    store-over {f = f} {q = q} r h e =
+        let z = owns-in m p h τ k e .1 in
+        let g = v .long in
+        frame-new T m (store m (location p k) ws) cs p r
+        (link-after f 0 z) (link-after f 1 z)
+        (store-owns h e)
+        (λ i u n. value-same T L m (store m (location p k) ws) cs p some made (varType T (firstVar T q + i)) (f + 4 + offsetOf T q (firstVar T q + i)) (λ j y. area-after m p k ws (f + 4 + offsetOf T q (firstVar T q + i) + j) (omega arith)) (r .values i u n))
+        (λ i u n. area-after m p k ws (f + 4 + offsetOf T q (firstVar T q + i)) (omega arith))
+
+    pub store-chain : {d f w c top : ℕ} → Chained T m p d f w c top → owns T m p d f τ k ≡ true → Chained T (store m (location p k) ws) p d f w c top
+    unfolding owns
+    store-chain (bottom b) e = no-true e
+    store-chain {d = suc d} {f = f} (called q r) e =
+        either-case (both (leb (f + 4) k) (partOfBlock T (calledBlock m p f) τ (k - (f + 4)))) (owns T m p d (callerFrame m p f) τ k) e
+        (λ y. let u = leb-true (f + 4) k (both-l _ _ y) in
+        called-by T (store m (location p k) ws) p (link-before f 0 (omega arith)) (link-before f 1 (omega arith)) (link-before f 2 (omega arith)) (link-before f 3 (omega arith))
+        (store-frame q r u (both-r _ _ y))
+        (chain-same T L m (store m (location p k) ws) cs p some made r (below-same (moduleWords T (m (moduleAt p))) f (omega arith))))
+        (λ y. let z = owns-in m p r τ k y .1 in
+        called-by T (store m (location p k) ws) p (link-after f 0 z) (link-after f 1 z) (link-after f 2 z) (link-after f 3 z)
+        (store-over q r y) (store-chain r y))

@@ -1,0 +1,216 @@
+-- Words that are retrieved and stored: values of a type, and a value stored in a part of a variable. Assumes nothing.
+use Prim.Native.Nat.{ℕ, zero, suc, _+_, _*_, _≤_, _<_}
+use mathlib.Core.Path.{_≡_, refl, sym, ap, _∙_}
+use mathlib.Core.Bool.{true}
+use mathlib.Core.List.{List, [], _∷_}
+use native.Mathlib.Omega.{arith}
+use native.Mathlib.Nat.{add-zero, add-sub-cancel-left, mul-le-mul-right, suc-mul, not-suc-le-zero}
+use lib.ListN.{length, getD}
+use lib.Dec.{eqb, leb, ltb}
+use borrow.Author.Tests.{eqb-true, eqb-false, ltb-true, ltb-false, lt-leb, le-ltb}
+use Rattle.basics.specs.Choice.{cases}
+use Rattle.basics.proofs.Bools.{no-true, both-false-l, both-false-r}
+use Rattle.table.specs.Table.{Table}
+use Rattle.table.specs.Entries.{typeCount, typeKind, typeQ}
+use Rattle.types.specs.Match.{elements, isString, matches}
+use Rattle.sizes.specs.Sizes.{wordsOf, partWords, fieldsWords, offsetIn}
+use Rattle.sizes.proofs.Sums.{sum-up}
+use Rattle.sizes.proofs.Counting.{words-array, part-lower, offset-more}
+use Rattle.numbers.proofs.TypePromise.{declared-from}
+use Rattle.machine.specs.Memory.{Memory, within, store, wordsAt}
+use Rattle.machine.specs.Values.{part, holds}
+use Rattle.verdict.specs.Accepted.{Accepted}
+use Rattle.sound.specs.Claims.{Keeps, IsValue, PlaceLaws}
+use Rattle.sound.proofs.ValueTypes.{fieldAt, lower-field, lower-element, some-words}
+use Rattle.sound.proofs.Values.{Same, field-holds, record-holds, element-holds, array-holds, holds-moved, zero-holds}
+use Rattle.sound.proofs.ValueParts.{within-i, Part, whole, in-field, in-element, to-Part, Part-in, part-self, part-in, part-field, part-element, part-holds}
+
+-- ---- words of memories
+
+pub words-long : (m : Memory) (a n : ℕ) → length (wordsAt m a n) ≡ n
+unfolding wordsAt
+words-long m a zero = refl
+words-long m a (suc n) = ap suc (words-long m (a + 1) n)
+
+pub word-at : (m : Memory) (a n k : ℕ) → k < n → getD (wordsAt m a n) k 0 ≡ m (a + k)
+unfolding wordsAt
+word-at m a zero k l = absurd (not-suc-le-zero l)
+word-at m a (suc n) zero l = rw (add-zero a)
+word-at m a (suc n) (suc k) l = let e : a + 1 + k ≡ a + suc k = omega arith in rw (← e) (word-at m (a + 1) n k (omega arith))
+
+-- memories that have the same words
+pub words-same : (m n : Memory) (a b w : ℕ) → wordsAt n b w ≡ wordsAt m a w → Same w m a n b
+words-same m n a b w e k l = sym (word-at n b w k l) ∙ rw e (word-at m a w k l)
+
+pub words-are : (m : Memory) (a : ℕ) (ws : List ℕ) → ((k : ℕ) → k < length ws → m (a + k) ≡ getD ws k 0) → wordsAt m a (length ws) ≡ ws
+unfolding wordsAt
+words-are m a [] h = refl
+words-are m a (w ∷ ws) h =
+    let x : m (a + 0) ≡ w = h 0 (omega arith) in
+    let y : m a ≡ w = rw (add-zero a) at x in
+    let z : wordsAt m (a + 1) (length ws) ≡ ws = words-are m (a + 1) ws (λ k l. let e : a + 1 + k ≡ a + suc k = omega arith in rw e (h (suc k) (omega arith))) in
+    cc
+
+module _ (m : Memory) (a : ℕ) (ws : List ℕ) where
+  pub store-in : (k : ℕ) → k < length ws → store m a ws (a + k) ≡ getD ws k 0
+  unfolding store
+  store-in k l = rw (within-i a (length ws) (a + k) (omega arith) (omega arith), add-sub-cancel-left a k)
+
+  pub store-below : (j : ℕ) → j < a → store m a ws j ≡ m j
+  unfolding store within
+  store-below j l = rw (both-false-l (leb a j) (ltb j (a + length ws)) (lt-leb a j l))
+
+  pub store-above : (j : ℕ) → a + length ws ≤ j → store m a ws j ≡ m j
+  unfolding store within
+  store-above j l = rw (both-false-r (leb a j) (ltb j (a + length ws)) (le-ltb j (a + length ws) l))
+
+  pub words-stored : wordsAt (store m a ws) a (length ws) ≡ ws
+  words-stored = words-are (store m a ws) a ws store-in
+
+-- ---- a value stored in a part leaves the whole with one
+
+-- n is m but for the w words from p on
+pub record Else (w p : ℕ) (m n : Memory) : Type 0 where
+  pub below : (j : ℕ) → j < p → n j ≡ m j
+  pub above : (j : ℕ) → p + w ≤ j → n j ≡ m j
+
+pub store-else : (m : Memory) (a w : ℕ) (ws : List ℕ) → length ws ≡ w → Else w a m (store m a ws)
+store-else m a w ws e =
+    record { below = λ j d. store-below m a ws j d; above = λ j d. store-above m a ws j (omega arith) }
+
+offset-up : (T : Table) (τ i k : ℕ) → i ≤ k → offsetIn T τ i ≤ offsetIn T τ k
+unfolding offsetIn fieldsWords
+offset-up T τ i k l = sum-up (λ n. partWords T τ (fieldAt T τ n)) i k l
+
+-- a field ends where the next begins, or before
+field-apart : (T : Table) (τ i k : ℕ) → fieldAt T τ i < τ → i < k → offsetIn T τ i + wordsOf T (fieldAt T τ i) ≤ offsetIn T τ k
+field-apart T τ i k l g =
+    let e : offsetIn T τ (i + 1) ≡ offsetIn T τ i + wordsOf T (fieldAt T τ i) = offset-more T τ i ∙ rw (part-lower T τ (fieldAt T τ i) l) in
+    omega (arith, offset-up T τ (i + 1) k (omega arith))
+
+element-apart : (n i k : ℕ) → i < k → i * n + n ≤ k * n
+element-apart n i k l = let u : suc i * n ≤ k * n = mul-le-mul-right n l in omega (arith, suc-mul i n)
+
+module _ (T : Table) (ok : Accepted T) (m n : Memory) (keeps : Keeps m n) where
+  -- what lies before the stored words, or after them
+  before : (σ a w p : ℕ) → a + wordsOf T σ ≤ p → Else w p m n → holds T m σ a ≡ true → holds T n σ a ≡ true
+  before σ a w p l e h = holds-moved T m n keeps σ a a (λ k g. e .below (a + k) (omega arith)) h
+
+  after : (σ a w p : ℕ) → p + w ≤ a → Else w p m n → holds T m σ a ≡ true → holds T n σ a ≡ true
+  after σ a w p l e h = holds-moved T m n keeps σ a a (λ k g. e .above (a + k) (omega arith)) h
+
+  pub Part-stored : (a : ℕ) {τ σ k : ℕ} → σ < 3 + typeCount T → Part T τ σ k → Else (wordsOf T τ) (a + k) m n
+      → holds T m σ a ≡ true → holds T n τ (a + k) ≡ true → holds T n σ a ≡ true
+  Part-stored a l whole e h v = rw (add-zero a) at v
+  Part-stored a {τ} l (in-field σ i k t g p) e h v =
+      let x : a + (offsetIn T σ i + k) ≡ a + offsetIn T σ i + k = omega arith in
+      let s = Part-in T ok (let f = lower-field T ok σ l t i g in omega arith) p in
+      record-holds T n a σ t (λ j d.
+      let f = field-holds T m a σ t h j d in (
+        f .0,
+        cases (eqb j i)
+            (λ q. let y : j ≡ i = eqb-true j i q in
+            rw y (Part-stored (a + offsetIn T σ i) (let f = lower-field T ok σ l t i g in omega arith) p (rw x at e) (field-holds T m a σ t h i g .1) (rw x at v)))
+            (λ q. cases (ltb j i)
+            (λ r. before (fieldAt T σ j) (a + offsetIn T σ j) _ _ (omega (arith, field-apart T σ j i (f .0) (ltb-true j i r))) e (f .1))
+            (λ r. after (fieldAt T σ j) (a + offsetIn T σ j) _ _
+            (omega (arith, field-apart T σ i j (lower-field T ok σ l t i g) (let u = ltb-false j i r in omega (arith, eqb-false j i q)))) e (f .1))),
+      ))
+  Part-stored a {τ} l (in-element σ i k t g p) e h v =
+      let w = wordsOf T (typeQ T σ) in
+      let x : a + (i * w + k) ≡ a + i * w + k = omega arith in
+      let c = lower-element T ok σ l t in
+      let s = Part-in T ok (omega arith) p in
+      array-holds T n a σ t (λ j d.
+      let f = element-holds T m a σ t h j d in (
+        c,
+        cases (eqb j i)
+            (λ q. let y : j ≡ i = eqb-true j i q in
+            rw y (Part-stored (a + i * w) (omega arith) p (rw x at e) (element-holds T m a σ t h i g .1) (rw x at v)))
+            (λ q. cases (ltb j i)
+            (λ r. before (typeQ T σ) (a + j * w) _ _ (omega (arith, element-apart w j i (ltb-true j i r))) e (f .1))
+            (λ r. after (typeQ T σ) (a + j * w) _ _
+            (omega (arith, element-apart w i j (let u = ltb-false j i r in omega (arith, eqb-false j i q)))) e (f .1))),
+      ))
+
+-- ---- the laws
+
+module _ (T : Table) (m : Memory) where
+  pub retrieved : (τ a : ℕ) → holds T m τ a ≡ true → IsValue T m τ (wordsAt m a (wordsOf T τ))
+  retrieved τ a h =
+      record {
+        long = words-long m a (wordsOf T τ);
+        anywhere = λ n b keeps e. holds-moved T m n keeps τ a b (words-same m n a b (wordsOf T τ) e) h;
+      }
+
+  module _ (ok : Accepted T) where
+    pub stored : (τ σ a k : ℕ) (ws : List ℕ) → σ < 3 + typeCount T → holds T m σ a ≡ true → part T τ σ k ≡ true → IsValue T m τ ws
+        → Keeps m (store m (a + k) ws) → holds T (store m (a + k) ws) σ a ≡ true
+    stored τ σ a k ws l h p v keeps =
+        let n = store m (a + k) ws in
+        let g = v .long in
+        Part-stored T ok m n keeps a l (to-Part T τ σ k p)
+        (store-else m (a + k) (wordsOf T τ) ws g)
+        h (v .anywhere n (a + k) keeps (rw (← g) (words-stored m (a + k) ws)))
+
+-- strings of one length
+string-kind : (T : Table) (τ : ℕ) → isString T τ ≡ true → (typeKind T τ ≡ 2) × (typeQ T τ ≡ 2)
+unfolding isString
+string-kind T τ e =
+    cases (eqb (typeKind T τ) 2)
+    (λ q. (eqb-true (typeKind T τ) 2 q, eqb-true (typeQ T τ) 2 (rw q at e)))
+    (λ q. no-true (rw q at e))
+
+string-lower : (T : Table) (τ : ℕ) → isString T τ ≡ true → typeQ T τ < τ
+string-lower T τ e = let k = string-kind T τ e in let d = declared-from T τ 2 (k .0) (omega arith) in omega arith
+
+string-words : (T : Table) (τ : ℕ) → isString T τ ≡ true → wordsOf T τ ≡ elements T τ * wordsOf T 2
+string-words T τ e =
+    let k = string-kind T τ e in
+    words-array T τ (k .0) ∙ rw (part-lower T τ (typeQ T τ) (string-lower T τ e), k .1)
+
+module _ (T : Table) (τ σ : ℕ) (t : isString T τ ≡ true) (s : isString T σ ≡ true) (e : elements T τ ≡ elements T σ) where
+  string-holds : (m : Memory) (a : ℕ) → holds T m σ a ≡ true → holds T m τ a ≡ true
+  string-holds m a h =
+      let k = string-kind T τ t in
+      let c = string-kind T σ s in
+      array-holds T m a τ (k .0) (λ i l.
+      let f : holds T m 2 (a + i * wordsOf T 2) ≡ true = rw (c .1) at (element-holds T m a σ (c .0) h i (rw e at l) .1) in
+      (string-lower T τ t, rw (k .1) f))
+
+  string-value : (m : Memory) (ws : List ℕ) → IsValue T m σ ws → IsValue T m τ ws
+  string-value m ws v =
+      let w : wordsOf T τ ≡ wordsOf T σ = string-words T τ t ∙ rw e (sym (string-words T σ s)) in
+      record {
+        long = v .long ∙ sym w;
+        anywhere = λ n a keeps q. string-holds n a (v .anywhere n a keeps (rw w at q));
+      }
+
+-- a value of a type is one of each type that matches
+pub matching : (T : Table) (m : Memory) (τ σ : ℕ) (ws : List ℕ) → matches T τ σ ≡ true → IsValue T m σ ws → IsValue T m τ ws
+unfolding matches
+matching T m τ σ ws h v =
+    cases (eqb τ σ)
+    (λ q. rw (eqb-true τ σ q) v)
+    (λ q. cases (isString T τ)
+    (λ t. cases (isString T σ)
+    (λ s. string-value T τ σ t s (eqb-true (elements T τ) (elements T σ) (rw (q, t, s) at h)) m ws v)
+    (λ s. no-true (rw (q, t, s) at h)))
+    (λ t. no-true (rw (q, t) at h)))
+
+-- THE LAWS of values and places, of a table that keeps the rules
+pub place-laws : (T : Table) → Accepted T → PlaceLaws T
+place-laws T ok =
+    record {
+      holds-same = λ m n τ a keeps s h. holds-moved T m n keeps τ a a s h;
+      some-words = some-words T ok;
+      part-self = part-self T;
+      part-in = part-in T ok;
+      part-field = part-field T ok;
+      part-element = part-element T ok;
+      part-holds = λ m τ σ a k l h p. part-holds T m τ σ a k h p;
+      retrieved = λ m τ a l h. retrieved T m τ a h;
+      stored = λ m τ σ a k ws l h p v keeps. stored T m ok τ σ a k ws l h p v keeps;
+      matching = matching T;
+      zero-holds = λ m τ a l z. zero-holds T ok m τ a l z;
+    }

@@ -1,0 +1,44 @@
+-- Demand 3, one statement about a begin and a list of run calls (01, A run, for demand 3; Agreement). Assumes nothing.
+use Prim.Native.Nat.{ℕ}
+use mathlib.Core.Path.{_≡_}
+use mathlib.Core.List.{List}
+use Rattle.table.specs.Table.{Table, tableOf}
+use Rattle.machine.specs.Memory.{memoryOf}
+use Rattle.machine.specs.Layout.{failureAt}
+use Rattle.machine.specs.Step.{done, step}
+use Rattle.sound.specs.Histories.{Seen, asked, told, processes, answers, finally, Threaded, Every, Lasting, order, written, Served, Handed, stateAfter, History, first, steps}
+use Rattle.sound.specs.InUse.{ValuesHold}
+use Rattle.sound.specs.Rows.{Row, RowsHold, SameFailure}
+
+-- OF A STEP
+pub record StepHolds (T : Table) (e : Seen) : Type 0 where
+  -- it is not stuck: the written step gives this answer, state and device words
+  pub is : step T (memoryOf (e .before)) (memoryOf (e .given)) (e .process) ≡ done (e .answer) (memoryOf (e .after)) (memoryOf (e .left))
+  -- after it every variable in use holds a value of its type, and every var parameter is bound to one that does
+  pub values : ValuesHold T (memoryOf (e .after))
+  -- while the run has not failed, it advances, waits, ends, finds no such process or fails by a listed number exactly if its row's condition
+  -- holds, and changes what the row says; afterwards it gives the same number and changes nothing
+  pub row : memoryOf (e .before) failureAt ≡ 0 → Row T (memoryOf (e .before)) (memoryOf (e .given)) (e .process) (e .answer)
+  pub rows : memoryOf (e .before) failureAt ≡ 0 → RowsHold T (memoryOf (e .before)) (memoryOf (e .given)) (e .process)
+  pub failed : (memoryOf (e .before) failureAt ≡ 0 → ⊥) → SameFailure T (memoryOf (e .before)) (memoryOf (e .given)) (e .process)
+
+module _ (verdict : List ℕ → ℕ) where
+  -- OF A RUN
+  pub record Demand3 (h : History verdict) : Type 0 where
+    -- at the start every variable in use holds a value of its type
+    pub begins : ValuesHold (tableOf 1 (h .table)) (memoryOf (first verdict h))
+    -- no call with begin's table and the right lengths is refused
+    pub served : Served verdict (h .table) (first verdict h) (h .calls)
+    -- there is a step for each number of the order named, and its answer is the byte written for it
+    pub named : processes (steps verdict h) ≡ order verdict (first verdict h) (h .calls)
+    pub answered : answers (steps verdict h) ≡ written verdict (first verdict h) (h .calls)
+    -- each begins with the state that the last one left, sees the device words that it left or that the call was handed, and holds
+    pub threaded : Threaded (first verdict h) (steps verdict h)
+    pub handed : Handed verdict (first verdict h) (h .calls)
+    pub holds : Every (StepHolds (tableOf 1 (h .table))) (steps verdict h)
+    pub lasting : Lasting (steps verdict h)
+    -- the calls leave the state that the last step left
+    pub last : finally (first verdict h) (steps verdict h) ≡ stateAfter verdict (first verdict h) (h .calls)
+    -- a run begun alike that names the same order and sees the same device words gives the same answers, states and device words,
+    -- wherever the calls of the two begin and end
+    pub agrees : (k : History verdict) → k .table ≡ h .table → asked (steps verdict k) ≡ asked (steps verdict h) → told (steps verdict k) ≡ told (steps verdict h)

@@ -1,0 +1,42 @@
+-- What a step keeps besides the state rule: a memory has no words beyond its size. Assumes nothing.
+use Prim.Native.Nat.{ℕ, _≤_, _<_}
+use mathlib.Core.Path.{_≡_}
+use mathlib.Core.Bool.{true}
+use Rattle.table.specs.Table.{Table}
+use Rattle.machine.specs.Memory.{Memory}
+use Rattle.machine.specs.Step.{step}
+use Rattle.machine.specs.Run.{begin}
+use Rattle.machine.specs.Rule.{rule}
+use Rattle.sound.specs.Claims.{Small, Sound}
+
+-- the words from n on are 0
+pub record Sized (n : ℕ) (m : Memory) : Type 0 where
+  pub beyond : (i : ℕ) → n ≤ i → m i ≡ 0
+
+-- a state that meets the rule, of 17,664 words; a page of 4,096 words
+pub record Reached (T : Table) (m : Memory) : Type 0 where
+  pub ruled : rule T m ≡ true
+  pub words : Small m
+  pub sized : Sized 17664 m
+
+pub record Page (page : Memory) : Type 0 where
+  pub words : Small page
+  pub sized : Sized 4096 page
+
+-- a step writes inside the state and the page only
+pub record Kept (s d : Memory) : Type 0 where
+  pub state : Sized 17664 s
+  pub page : Sized 4096 d
+
+-- each number of the table is a word, so that a state can hold it
+pub record WordTable (T : Table) : Type 0 where
+  pub counts : (k : ℕ) → T .count k < 65536
+  pub cells : (k i f : ℕ) → T .cell k i f < 65536
+
+-- WHAT THE SOUNDNESS OF STEPS SAYS (Claims, StepSound): from a state that meets the rule none is stuck, and its state meets the rule
+pub record StepLaws (T : Table) : Type 0 where
+  pub sound : (m page : Memory) (p : ℕ) → rule T m ≡ true → Small m → Small page → Sound T (step T m page p)
+
+-- begin's state is one that steps reach
+pub record BeginLaw (T : Table) : Type 0 where
+  pub reached : Reached T (begin T)
