@@ -25,7 +25,8 @@ use Rattle.verdict.specs.Accepted.{Accepted}
 use Rattle.sound.specs.Claims.{PlaceLaws, Started, Good, selects, yields, Small}
 use Rattle.sound.specs.Claims as claims
 use Rattle.sound.specs.Ruled.{Ruled, Fills}
-use Rattle.sound.specs.Claims3.{SmallTable, GoodPlace, at-place, no-place, GoodValue, a-value, no-value, GoodNode, Bound, Performed}
+use Rattle.sound.specs.Reached.{WordTable}
+use Rattle.sound.specs.Evaluated.{GoodPlace, at-place, no-place, GoodValue, a-value, no-value, GoodNode, Bound, Performed}
 use Rattle.sound.proofs.Ruled.{ruled, stands}
 use Rattle.sound.proofs.StoresChains.{created-low, created-high}
 use Rattle.sound.proofs.EvaluationNodes.{node-good}
@@ -53,7 +54,7 @@ fills T m p b ws h =
       places = λ i l e. rw zero-add at (bound-place T m p (λ j. getD ws j 0) (params T b) (firstVar T b) 0 i ws h (record { at = λ j g. rw zero-add }) l e .alive);
     }
 
-module _ (T : Table) (acc : Accepted T) (inner : scoped T ≡ true) (L : PlaceLaws T) (W : SmallTable T) (m page : Memory) (p : ℕ) (S : Started T m p) (ms : Small m) (ps : Small page) where
+module _ (T : Table) (acc : Accepted T) (inner : scoped T ≡ true) (L : PlaceLaws T) (W : WordTable T) (m page : Memory) (p : ℕ) (S : Started T m p) (ms : Small m) (ps : Small page) where
   R : Ruled T m
   R = ruled T m (S .ruled)
 

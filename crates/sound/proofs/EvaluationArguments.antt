@@ -31,7 +31,8 @@ use Rattle.machine.specs.Calls.{valueArgument, varArgument, argument, argumentW
 use Rattle.verdict.specs.Accepted.{Accepted}
 use Rattle.sound.specs.Claims.{Keeps, IsValue, PlaceLaws, Small}
 use Rattle.sound.specs.Ruled.{Ruled}
-use Rattle.sound.specs.Claims3.{SmallTable, SmallWords, Live, GoodNode, Scoping, Bound, unbound, by-value, by-place, GoodArguments, the-words, no-words}
+use Rattle.sound.specs.Reached.{WordTable}
+use Rattle.sound.specs.Evaluated.{SmallWords, Live, GoodNode, Scoping, Bound, unbound, by-value, by-place, GoodArguments, the-words, no-words}
 use Rattle.sound.proofs.EvaluationBasics.{on-need, on-place, on-value}
 use Rattle.sound.proofs.EvaluationTypes.{matches-sym}
 use Rattle.sound.proofs.StoresBlocks.{plain-words, bound-words}
@@ -200,7 +201,7 @@ pub record Passes (T : Table) (scope : ℕ → Type 0) (v i : ℕ) : Type 0 wher
   pub suits : Suits T v (argNode T i)
   pub scoped : scope (argNode T i)
 
-module _ (T : Table) (acc : Accepted T) (L : PlaceLaws T) (W : SmallTable T) (m : Memory) (R : Ruled T m) (ms : Small m) (page : Memory) (ps : Small page) (p : ℕ) (some : 1 ≤ p) (made : p ≤ m createdAt) (s : m (statusAt p) ≡ 2)
+module _ (T : Table) (acc : Accepted T) (L : PlaceLaws T) (W : WordTable T) (m : Memory) (R : Ruled T m) (ms : Small m) (page : Memory) (ps : Small page) (p : ℕ) (some : 1 ≤ p) (made : p ≤ m createdAt) (s : m (statusAt p) ≡ 2)
     (scope : ℕ → Type 0) (S : Scoping T (blockOf m p) scope) where
   argument-node : (v i : ℕ) → Passes T scope v i → GoodNode T m p (argNode T i) (operand T m page (contextOf m p) (argNode T i))
   argument-node v i h = node-good T acc L W m R ms page ps p some made s scope S (argNode T i) (arg-node T (acc .numbers) i (h .number)) (h .scoped)

@@ -11,7 +11,7 @@ use Rattle.machine.specs.Memory.{Memory}
 use Rattle.machine.specs.Layout.{location}
 use Rattle.machine.specs.Outcomes.{Outcome, fail, andThen, need, failWhere, Operand, placed, valued, onPlace, onValue, onWord, wordOf}
 use Rattle.sound.specs.Claims.{IsValue}
-use Rattle.sound.specs.Claims3.{SmallWords, Live, GoodPlace, at-place, no-place, GoodValue, a-value, no-value}
+use Rattle.sound.specs.Evaluated.{SmallWords, Live, GoodPlace, at-place, no-place, GoodValue, a-value, no-value}
 
 -- ---- outcomes
 

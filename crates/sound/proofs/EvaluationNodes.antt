@@ -29,7 +29,8 @@ use Rattle.machine.specs.Operands.{onRecord, onArray, outside, placeAt, fieldPl
 use Rattle.verdict.specs.Accepted.{Accepted}
 use Rattle.sound.specs.Claims.{PlaceLaws, Small}
 use Rattle.sound.specs.Ruled.{Ruled}
-use Rattle.sound.specs.Claims3.{SmallTable, Live, GoodPlace, no-place, GoodValue, a-value, no-value, GoodNode, Scoping}
+use Rattle.sound.specs.Reached.{WordTable}
+use Rattle.sound.specs.Evaluated.{Live, GoodPlace, no-place, GoodValue, a-value, no-value, GoodNode, Scoping}
 use Rattle.sound.proofs.EvaluationBasics.{on-need, on-fail, on-place, on-value, on-word}
 use Rattle.sound.proofs.ValueTypes.{at-record, at-array}
 use Rattle.sound.proofs.EvaluationTypes.{node-is, constant-type, whole-type, transfer-type, field-type, element-type, value-type, unary-type, binary-type, word-small, words-small, declared-small}
@@ -37,7 +38,7 @@ use Rattle.sound.proofs.EvaluationVariables.{whole-good, place-good}
 use Rattle.sound.proofs.EvaluationOperators.{constant-good, transfer-good, unary-good, binary-good, index-low, index-high}
 use Rattle.sound.proofs.EvaluationParts.{further-field, further-element, live-part}
 
-module _ (T : Table) (acc : Accepted T) (L : PlaceLaws T) (W : SmallTable T) (m : Memory) (R : Ruled T m) (ms : Small m) (page : Memory) (ps : Small page) (p : ℕ) (some : 1 ≤ p) (made : p ≤ m createdAt) (s : m (statusAt p) ≡ 2) where
+module _ (T : Table) (acc : Accepted T) (L : PlaceLaws T) (W : WordTable T) (m : Memory) (R : Ruled T m) (ms : Small m) (page : Memory) (ps : Small page) (p : ℕ) (some : 1 ≤ p) (made : p ≤ m createdAt) (s : m (statusAt p) ≡ 2) where
   -- a field of a live place
   field-good : (a σ i : ℕ) → typeKind T σ ≡ 1 → i < typeQ T σ → Live T m p σ a → GoodPlace T m p (fieldType T (typeP T σ + i)) (fieldPlace T a σ i)
   unfolding fieldPlace onRecord

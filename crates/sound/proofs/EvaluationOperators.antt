@@ -27,7 +27,7 @@ use Rattle.machine.specs.Outcomes.{Outcome, fail, need, wordOf}
 use Rattle.machine.specs.Entries.{unaryAt, binaryAt}
 use Rattle.machine.specs.Operands.{simple, truth, given, deviceWord, unaryValue, ordered, integral, logical, binaryValue, outside}
 use Rattle.sound.specs.Claims.{IsValue, Small}
-use Rattle.sound.specs.Claims3.{SmallWords, GoodValue, a-value, no-value}
+use Rattle.sound.specs.Evaluated.{SmallWords, GoodValue, a-value, no-value}
 use Rattle.sound.proofs.EvaluationBasics.{on-need, on-fail}
 use Rattle.sound.proofs.ValueWords.{integer-value, boolean-value, character-value, boolean-word}
 use Rattle.sound.proofs.EvaluationTypes.{one-small, word-small}

@@ -22,7 +22,7 @@ use Rattle.machine.specs.Rule.{isCreated, owns, lives}
 use Rattle.verdict.specs.Accepted.{Accepted}
 use Rattle.sound.specs.Claims.{PlaceLaws}
 use Rattle.sound.specs.Ruled.{Chained, bottom, called, Ruled}
-use Rattle.sound.specs.Claims3.{Live}
+use Rattle.sound.specs.Evaluated.{Live}
 use Rattle.sound.proofs.Ruled.{either-l, either-r, either-case, range-low, range-high, block-there}
 use Rattle.sound.proofs.StoresBlocks.{plain-words, variable-type, part-of, part-of-i}
 use Rattle.sound.proofs.EvaluationVariables.{live}

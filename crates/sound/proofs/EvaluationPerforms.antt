@@ -29,7 +29,8 @@ use Rattle.machine.specs.Rule as state
 use Rattle.verdict.specs.Accepted.{Accepted}
 use Rattle.sound.specs.Claims.{PlaceLaws, Small}
 use Rattle.sound.specs.Ruled.{Chained, bottom, called, Ruled, Standing}
-use Rattle.sound.specs.Claims3.{SmallTable, Scoped, Performed, goes, holds-on, gives-up, ends, returns, fails}
+use Rattle.sound.specs.Reached.{WordTable}
+use Rattle.sound.specs.Evaluated.{Scoped, Performed, goes, holds-on, gives-up, ends, returns, fails}
 use Rattle.sound.proofs.Ruled.{lies-from, lies-to, lies-i, stands}
 use Rattle.sound.proofs.StoresMemory.{update-small}
 use Rattle.sound.proofs.StoresStanding.{stand-small}
@@ -53,14 +54,14 @@ pub data Chosen (T : Table) (b : ℕ) : Outcome Choice → Type 0 where
   failing : (n : ℕ) → 16 ≤ n → n ≤ 24 → Chosen T b (fail n)
 
 -- statement numbers are words
-pub next-small : (T : Table) → SmallTable T → (b : ℕ) → nextFirst T b < 65536
+pub next-small : (T : Table) → WordTable T → (b : ℕ) → nextFirst T b < 65536
 unfolding nextFirst
 next-small T W b = cases (ltb (b + 1) (blockCount T)) (λ e. rw e (W .cells 3 (b + 1) 5)) (λ e. rw e (W .counts 6))
 
-pub lies-small : (T : Table) → SmallTable T → (b c : ℕ) → liesIn T b c ≡ true → c < 65536
+pub lies-small : (T : Table) → WordTable T → (b c : ℕ) → liesIn T b c ≡ true → c < 65536
 lies-small T W b c e = let x = lies-to T b c e in let y = next-small T W b in omega arith
 
-chain-small : (T : Table) → SmallTable T → (m : Memory) (p d f w c top : ℕ) → Chained T m p d f w c top → c + 1 < 65536
+chain-small : (T : Table) → WordTable T → (m : Memory) (p d f w c top : ℕ) → Chained T m p d f w c top → c + 1 < 65536
 chain-small T W m p _ f w c top (bottom b) = let x = b .to in let y = next-small T W (m (moduleAt p)) in omega arith
 chain-small T W m p _ f w c top (called F C) = let x = F .to in let y = next-small T W (calledBlock m p f) in omega arith
 
@@ -68,7 +69,7 @@ chain-small T W m p _ f w c top (called F C) = let x = F .to in let y = next-sma
 data Returning : Outcome Memory → Type 0 where
   a-state : (n : Memory) → Small n → Returning (ok n)
 
-module _ (T : Table) (acc : Accepted T) (L : PlaceLaws T) (W : SmallTable T) (m : Memory) (R : Ruled T m) (ms : Small m) (page : Memory) (ps : Small page) (p : ℕ) (some : 1 ≤ p) (made : p ≤ m createdAt) (s : m (statusAt p) ≡ 2)
+module _ (T : Table) (acc : Accepted T) (L : PlaceLaws T) (W : WordTable T) (m : Memory) (R : Ruled T m) (ms : Small m) (page : Memory) (ps : Small page) (p : ℕ) (some : 1 ≤ p) (made : p ≤ m createdAt) (s : m (statusAt p) ≡ 2)
     (scope : ℕ → Type 0) (S : Scoped T (blockOf m p) scope) where
   -- where it stands
   where-stands : Standing T m p

@@ -18,7 +18,7 @@ use Rattle.scopes.proofs.Promise as scopes
 use Rattle.machine.specs.Variables.{belongs}
 use Rattle.machine.specs.Rule.{liesIn}
 use Rattle.verdict.specs.Accepted.{Accepted}
-use Rattle.sound.specs.Claims3.{Scoping, Scoped}
+use Rattle.sound.specs.Evaluated.{Scoping, Scoped}
 use Rattle.sound.proofs.StoresBlocks.{within-i}
 use Rattle.sound.proofs.EvaluationPerforms.{lies-of}
 

@@ -36,7 +36,8 @@ use Rattle.words.specs.Devices.{isDevice}
 use Rattle.verdict.specs.Accepted.{Accepted}
 use Rattle.sound.specs.Claims.{PlaceLaws, Small}
 use Rattle.sound.specs.Ruled.{Ruled}
-use Rattle.sound.specs.Claims3.{SmallTable, Live, GoodPlace, GoodValue, Scoping, Bound, GoodArguments, the-words, no-words, Performed, assigns, calls, serves, waits, creates, starts, writes, fails}
+use Rattle.sound.specs.Reached.{WordTable}
+use Rattle.sound.specs.Evaluated.{Live, GoodPlace, GoodValue, Scoping, Bound, GoodArguments, the-words, no-words, Performed, assigns, calls, serves, waits, creates, starts, writes, fails}
 use Rattle.sound.proofs.Ruled.{either-case}
 use Rattle.sound.proofs.EvaluationBasics.{on-need, on-fail, on-place, on-value, on-word}
 use Rattle.sound.proofs.ValueTypes.{at-process}
@@ -71,7 +72,7 @@ module _ (T : Table) (m page : Memory) (x : Context) (r : ℕ) (e : free T m pag
   unfolding free
   free-holder = eqb-true (m (holderAt r)) 0 (both-r _ _ e)
 
-module _ (T : Table) (acc : Accepted T) (L : PlaceLaws T) (W : SmallTable T) (m : Memory) (R : Ruled T m) (ms : Small m) (page : Memory) (ps : Small page) (p : ℕ) (some : 1 ≤ p) (made : p ≤ m createdAt) (s : m (statusAt p) ≡ 2)
+module _ (T : Table) (acc : Accepted T) (L : PlaceLaws T) (W : WordTable T) (m : Memory) (R : Ruled T m) (ms : Small m) (page : Memory) (ps : Small page) (p : ℕ) (some : 1 ≤ p) (made : p ≤ m createdAt) (s : m (statusAt p) ≡ 2)
     (scope : ℕ → Type 0) (S : Scoping T (blockOf m p) scope) (l : m (statementAt p) < stmtCount T) where
   abbrev stmt : ℕ
   stmt = m (statementAt p)

@@ -31,7 +31,8 @@ use Rattle.verdict.specs.Accepted.{Accepted}
 use Rattle.sound.specs.Claims.{PlaceLaws, Started, Small, Sound}
 use Rattle.sound.specs.Ruled.{Ruled, Calling}
 use Rattle.sound.specs.Ruled as called
-use Rattle.sound.specs.Claims3.{SmallTable, SmallWords, Live, Pushable, Performed, goes, holds-on, gives-up, assigns, calls, serves, waits, creates, starts, writes, ends, returns, fails}
+use Rattle.sound.specs.Reached.{WordTable}
+use Rattle.sound.specs.Evaluated.{SmallWords, Live, Pushable, Performed, goes, holds-on, gives-up, assigns, calls, serves, waits, creates, starts, writes, ends, returns, fails}
 use Rattle.sound.proofs.Ruled.{range-low, range-high, range-i, ruled, stands, contexts}
 use Rattle.sound.proofs.StoresMemory.{update-small, store-small}
 use Rattle.sound.proofs.StoresStanding.{stand-small}
@@ -67,7 +68,7 @@ entered : (T : Table) (o : Outcome Memory) (n : Memory) → Calling T o → o �
 entered T _ n (called.enters s h) e = let z : s ≡ n = cc in rw z at h
 entered T _ n called.full e = let z : _≡_ {A = ℕ} 0 1 = cc in absurd (omega arith)
 
-module _ (T : Table) (acc : Accepted T) (inner : scoped T ≡ true) (L : PlaceLaws T) (W : SmallTable T) (m page : Memory) (p : ℕ) (S : Started T m p) (ms : Small m) (ps : Small page) where
+module _ (T : Table) (acc : Accepted T) (inner : scoped T ≡ true) (L : PlaceLaws T) (W : WordTable T) (m page : Memory) (p : ℕ) (S : Started T m p) (ms : Small m) (ps : Small page) where
   R : Ruled T m
   R = ruled T m (S .ruled)
 
@@ -195,7 +196,7 @@ module _ (T : Table) (acc : Accepted T) (inner : scoped T ≡ true) (L : PlaceLa
   performs-kept : Kept T (perform T m page (contextOf m p) (stmtAt T (m (statementAt p))))
   performs-kept = performed-kept _ (performed T acc inner L W m page p S ms ps)
 
-module _ (T : Table) (acc : Accepted T) (inner : scoped T ≡ true) (L : PlaceLaws T) (W : SmallTable T) (m page : Memory) (p : ℕ) (rm : rule T m ≡ true) (ms : Small m) (ps : Small page) where
+module _ (T : Table) (acc : Accepted T) (inner : scoped T ≡ true) (L : PlaceLaws T) (W : WordTable T) (m page : Memory) (p : ℕ) (rm : rule T m ≡ true) (ms : Small m) (ps : Small page) where
   Rm : Ruled T m
   Rm = ruled T m rm
 
@@ -265,5 +266,5 @@ module _ (T : Table) (acc : Accepted T) (inner : scoped T ≡ true) (L : PlaceLa
   sound-step = settled-sound (turn T m page p) turn-kept
 
 -- THE STEP IS SOUND
-pub step-sound : (T : Table) → Accepted T → scoped T ≡ true → SmallTable T → (m page : Memory) (p : ℕ) → rule T m ≡ true → Small m → Small page → Sound T (step T m page p)
+pub step-sound : (T : Table) → Accepted T → scoped T ≡ true → WordTable T → (m page : Memory) (p : ℕ) → rule T m ≡ true → Small m → Small page → Sound T (step T m page p)
 step-sound T acc inner W m page p rm ms ps = sound-step T acc inner (place-laws T acc) W m page p rm ms ps

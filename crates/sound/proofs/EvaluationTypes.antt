@@ -19,7 +19,8 @@ use Rattle.words.specs.Memory.{Bytes}
 use Rattle.machine.specs.Memory.{Memory, wordsAt}
 use Rattle.machine.specs.Outcomes.{wordOf}
 use Rattle.machine.specs.Entries.{nodeOf, nodeAt}
-use Rattle.sound.specs.Claims3.{SmallTable, SmallWords}
+use Rattle.sound.specs.Reached.{WordTable}
+use Rattle.sound.specs.Evaluated.{SmallWords}
 
 -- ---- nodes
 
@@ -104,29 +105,6 @@ words-small m h a n = record { words = each-small m h n a }
 
 -- ---- words of a table
 
-pub declared-small : (T : Table) → SmallTable T → (τ f : ℕ) → declared T τ f < 65536
+pub declared-small : (T : Table) → WordTable T → (τ f : ℕ) → declared T τ f < 65536
 unfolding declared
 declared-small T W τ f = cases (ltb τ 3) (λ e. rw e (omega arith)) (λ e. rw e (W .cells 0 (τ - 3) f))
-
-num-small : (t : List ℕ) (p k : ℕ) → Bytes t → num t p k < 65536
-num-small t p k b =
-    let x = b .small p in
-    let y = b .small (p + 1) in
-    cases (eqb k 2) (λ e. rw e (omega arith)) (λ e. rw e (omega arith))
-
--- the table that bytes hold
-module _ (w : ℕ) (t : List ℕ) (b : Bytes t) where
-  count-small : (k : ℕ) → countAt w t k < 65536
-  unfolding countAt
-  count-small k = num-small t (begins w t k) w b
-
-  cell-small : (k i f : ℕ) → cellAt w t k i f < 65536
-  unfolding cellAt
-  cell-small k i f =
-      cases (ltb i (countAt w t k))
-      (λ e. rw e (num-small t (begins w t k + w + i * rowSize w k + fieldAt w k f) (fieldWidth w k f) b))
-      (λ e. rw e (omega arith))
-
-  pub small-table : SmallTable (tableOf w t)
-  unfolding tableOf
-  small-table = record { counts = count-small; cells = cell-small }

@@ -21,7 +21,7 @@ use Rattle.machine.specs.Rule.{isCreated, owns, lives}
 use Rattle.verdict.specs.Accepted.{Accepted}
 use Rattle.sound.specs.Claims.{PlaceLaws}
 use Rattle.sound.specs.Ruled.{Framed, Chained, bottom, called, Ruled, Standing}
-use Rattle.sound.specs.Claims3.{Live, GoodPlace, at-place, no-place}
+use Rattle.sound.specs.Evaluated.{Live, GoodPlace, at-place, no-place}
 use Rattle.sound.proofs.Ruled.{either-l, either-r, range-i, block-there, block-kind, block-owner, block-bottom, block-called, stands}
 use Rattle.sound.proofs.StoresBlocks.{within-from, within-to, variable-in, plain-words, bound-words, variable-type, module-plain, module-fits}
 use Rattle.sound.proofs.EvaluationBasics.{need-true, on-need, location-area, location-word}

@@ -22,4 +22,4 @@ module _ (T : Table) (acc : Accepted T) where
     -- THE STEP
     pub step-laws : StepLaws T
     step-laws =
-        record { sound = evaluation.step-sound T acc (acc .scopes) (record { counts = words .counts; cells = words .cells }) }
+        record { sound = evaluation.step-sound T acc (acc .scopes) words }

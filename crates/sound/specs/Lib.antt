@@ -1,6 +1,6 @@
 pub mod Claims
 pub mod Ruled
-pub mod Claims3
+pub mod Evaluated
 pub mod Histories
 pub mod Reached
 pub mod InUse

@@ -24,11 +24,6 @@ use Rattle.words.specs.Numbers.{intOf}
 use Rattle.words.specs.Devices.{isDevice}
 use Rattle.sound.specs.Claims.{IsValue, Small}
 
--- the numbers of a table are words
-pub record SmallTable (T : Table) : Type 0 where
-  pub counts : (k : ℕ) → T .count k < 65536
-  pub cells : (k i f : ℕ) → T .cell k i f < 65536
-
 -- each number of the list is a word
 pub record SmallWords (ws : List ℕ) : Type 0 where
   pub words : (i : ℕ) → getD ws i 0 < 65536
