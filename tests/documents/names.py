@@ -1,4 +1,4 @@
-"""Every definition, function, test and file that docs/MAP.md and README.md name is there. A line 'ok NAME' or 'FAIL NAME: why' a kind."""
+"""Every definition, constructor, theorem, function, test and file that docs/MAP.md and README.md name is there. A line 'ok NAME' or 'FAIL NAME: why' a kind."""
 import pathlib
 import re
 import sys
@@ -33,6 +33,26 @@ for crate, file, listed in re.findall(r"\b([a-z]+)/([A-Z][A-Za-z]*): " + names, 
         if not re.search(rf"^\s*(?:unfoldable |abbrev )?pub (?:data |record )?{re.escape(name)}\b", spec, re.M):
             missing.append(f"{crate}/{file}: {name}")
 report("definitions", missing, count)
+
+# crate/File: .., Type (constructor, constructor)
+missing, count = [], 0
+for crate, file, listed in re.findall(r"\b([a-z]+)/([A-Z][A-Za-z]*): [A-Za-z0-9_, ]+ \(([A-Za-z0-9]+(?:, [A-Za-z0-9]+)*)\)", page):
+    spec = text([pathlib.Path("crates", crate, "specs", file + ".antt")])
+    for name in listed.split(", "):
+        count += 1
+        if not re.search(rf"^  +(?:\w+ )*{name} (?:\w+ )*: ", spec, re.M):
+            missing.append(f"{crate}/{file}: {name}")
+report("constructors", missing, count)
+
+# `crates/crate/proofs/File.antt`: name, name
+missing, count = [], 0
+for path, listed in re.findall(r"`(crates/[a-z]+/proofs/[A-Za-z]+\.antt)`: ([A-Za-z0-9-]+(?:, [A-Za-z0-9-]+)*)", page):
+    proofs = text([pathlib.Path(path)])
+    for name in listed.split(", "):
+        count += 1
+        if not re.search(rf"^\s*pub {re.escape(name)} ?:", proofs, re.M):
+            missing.append(f"{path}: {name}")
+report("theorems", missing, count)
 
 # crate::function
 missing, count = [], 0
