@@ -39,12 +39,13 @@ reached-values T m h = rule-values T m (h .words) (h .ruled)
 not-stuck : (a : ℕ) (s d : Memory) → done a s d ≡ Step.stuck → ⊥
 not-stuck a s d e = let z : _≡_ {A = ℕ} 0 1 = cc in absurd (omega arith)
 
-step-holds : (T : Table) (e : Seen) → StepOf T e → StepHolds T e
-step-holds T e h =
+step-holds : (T : Table) → StepLaws T → (e : Seen) → StepOf T e → StepHolds T e
+step-holds T laws e h =
     let free : step T (memoryOf (e .before)) (memoryOf (e .given)) (e .process) ≡ Step.stuck → ⊥ = λ q. not-stuck _ _ _ (sym (h .is) ∙ q) in
     record {
       is = h .is;
       values = reached-values T _ (h .reached);
+      bindings = laws .bindings _ _ _ (h .start .ruled) (h .start .words) (h .devices .words) _ _ _ (h .is);
       row = λ z. rows-hold T _ _ _ z free .given (e .answer) (record { state = memoryOf (e .after); devices = memoryOf (e .left); is = h .is });
       rows = λ z. rows-hold T _ _ _ z free;
       failed = λ n. same-failure T _ _ _ n free;
@@ -147,7 +148,7 @@ module _ (verdict : List ℕ → ℕ)
     pub demand3 : Demand3 verdict h
     demand3 =
         let f = follows verdict (h .table) laws (first verdict h) (h .calls) at-first (h .fits) in
-        let every = every-map _ _ (step-holds (tableOf 1 (h .table))) _ (f .course .every) in
+        let every = every-map _ _ (step-holds (tableOf 1 (h .table)) laws) _ (f .course .every) in
         record {
           begins = reached-values _ _ (at-memory _ _ at-first);
           served = served verdict (h .table) laws (first verdict h) (h .calls) (begun-verdict (h .table) (h .slice) (h .begins)) at-first (h .fits);

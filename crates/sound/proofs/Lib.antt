@@ -14,6 +14,7 @@ pub mod EvaluationTypes
 pub mod EvaluationVariables
 pub mod Histories
 pub mod HistoriesBegin
+pub mod HistoriesBindings
 pub mod HistoriesBytes
 pub mod HistoriesOperands
 pub mod HistoriesSized

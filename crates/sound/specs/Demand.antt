@@ -8,6 +8,7 @@ use Rattle.machine.specs.Layout.{failureAt}
 use Rattle.machine.specs.Step.{done, step}
 use Rattle.sound.specs.Histories.{Seen, asked, told, processes, answers, finally, Threaded, Every, Lasting, order, written, Served, Handed, stateAfter, History, first, steps}
 use Rattle.sound.specs.InUse.{ValuesHold}
+use Rattle.sound.specs.Bindings.{BindingsKept}
 use Rattle.sound.specs.Rows.{Row, RowsHold, SameFailure}
 
 -- OF A STEP
@@ -16,6 +17,8 @@ pub record StepHolds (T : Table) (e : Seen) : Type 0 where
   pub is : step T (memoryOf (e .before)) (memoryOf (e .given)) (e .process) ≡ done (e .answer) (memoryOf (e .after)) (memoryOf (e .left))
   -- after it every variable in use holds a value of its type, and every var parameter is bound to one that does
   pub values : ValuesHold T (memoryOf (e .after))
+  -- it leaves every var parameter of a call that has not ended bound to what its argument selected
+  pub bindings : BindingsKept T (memoryOf (e .before)) (memoryOf (e .after))
   -- while the run has not failed, it advances, waits, ends, finds no such process or fails by a listed number exactly if its row's condition
   -- holds, and changes what the row says; afterwards it gives the same number and changes nothing
   pub row : memoryOf (e .before) failureAt ≡ 0 → Row T (memoryOf (e .before)) (memoryOf (e .given)) (e .process) (e .answer)

@@ -4,5 +4,6 @@ pub mod Evaluated
 pub mod Histories
 pub mod Reached
 pub mod InUse
+pub mod Bindings
 pub mod Rows
 pub mod Demand

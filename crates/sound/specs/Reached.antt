@@ -4,9 +4,10 @@ use mathlib.Core.Path.{_≡_}
 use mathlib.Core.Bool.{true}
 use Rattle.table.specs.Table.{Table}
 use Rattle.machine.specs.Memory.{Memory}
-use Rattle.machine.specs.Step.{step}
+use Rattle.machine.specs.Step.{done, step}
 use Rattle.machine.specs.Run.{begin}
 use Rattle.machine.specs.Rule.{rule}
+use Rattle.sound.specs.Bindings.{BindingsKept}
 use Rattle.sound.specs.Claims.{Small, Sound}
 
 -- the words from n on are 0
@@ -36,6 +37,8 @@ pub record WordTable (T : Table) : Type 0 where
 -- WHAT THE SOUNDNESS OF STEPS SAYS (Claims, StepSound): from a state that meets the rule none is stuck, and its state meets the rule
 pub record StepLaws (T : Table) : Type 0 where
   pub sound : (m page : Memory) (p : ℕ) → rule T m ≡ true → Small m → Small page → Sound T (step T m page p)
+  -- and what var parameters are bound to stays (proofs/HistoriesBindings, step-bindings)
+  pub bindings : (m page : Memory) (p : ℕ) → rule T m ≡ true → Small m → Small page → (a : ℕ) (s d : Memory) → step T m page p ≡ done a s d → BindingsKept T m s
 
 -- begin's state is one that steps reach
 pub record BeginLaw (T : Table) : Type 0 where
