@@ -385,3 +385,30 @@ pub holding-runs :
     × (keeps holding holding-schedule ≡ true)
 unfolding answers keeps
 holding-runs = (refl, refl)
+
+-- process cell  var full: boolean  procedure put begin full := true; skip end  begin when full do skip end end
+-- var s: cell  begin create s; start s; s.put end
+-- while process 1 is inside its call it holds the variables of process 2, which waits although its guard is true
+abbrev pub excluding : Table
+excluding = tableFrom record {
+  types = processes 1 ∷ [];
+  fields = [];
+  variables = local 3 ∷ local 1 ∷ [];
+  blocks = initial 1 0 ∷ process 1 1 0 1 4 ∷ procedure 1 2 0 0 9 ∷ [];
+  arguments = [];
+  nodes = whole 0 ∷ whole 0 ∷ whole 0 ∷ whole 1 ∷ value 3 ∷ whole 1 ∷ constant 1 1 ∷ [];
+  statements =
+      create 0 ∷ start 1 0 0 ∷ processCall 2 2 0 0 ∷ blockEnd 0 ∷
+      when ∷ arm 4 7 ∷ skip ∷ endArms 4 ∷ blockEnd 1 ∷
+      assign 5 6 ∷ skip ∷ blockEnd 2 ∷ [];
+}
+
+abbrev pub excluding-schedule : List ℕ
+excluding-schedule = 1 ∷ 1 ∷ 2 ∷ 1 ∷ 1 ∷ 2 ∷ 1 ∷ 2 ∷ 1 ∷ 2 ∷ 2 ∷ 2 ∷ []
+
+-- 1: create, start; 2: blocked; 1: call, assign; 2: wait; 1: skip; 2: wait; 1: end of call; 2: enter, skip, end of when
+pub excluding-runs :
+    (answers excluding excluding-schedule ≡ 0 ∷ 0 ∷ 1 ∷ 0 ∷ 0 ∷ 1 ∷ 0 ∷ 1 ∷ 0 ∷ 0 ∷ 0 ∷ 0 ∷ [])
+    × (keeps excluding excluding-schedule ≡ true)
+unfolding answers keeps
+excluding-runs = (refl, refl)

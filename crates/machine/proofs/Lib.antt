@@ -1,6 +1,9 @@
 pub mod Rows
 pub mod Programs
 pub mod Examples
+pub mod Stuck
+pub mod Frames
+pub mod Damaged
 pub mod Memories
 pub mod Ends
 pub mod Failures
