@@ -1,0 +1,64 @@
+-- What statements write, in the numbers that their code has at hand; proofs/Meanings.antt carries them to the definitions of `machine`.
+-- Assumes nothing.
+use Prim.Native.Nat.{ℕ, _+_, _-_, _≤_, _<_}
+use mathlib.Core.List.{List, [], _∷_, _++_}
+use lib.ListN.{length, replicate}
+use Rattle.machine.specs.Memory.{Memory, update, store, clear}
+use Rattle.machine.specs.Layout.{location, recordAt, statusAt, moduleAt, statementAt, frameAt, topAt, worksAt, holderAt, depthAt, callerFrame, callerWorks}
+use Rattle.machine.specs.Calls.{standing}
+
+-- process p is at a statement, its innermost frame and its first free word are these
+unfoldable pub placed : Memory → ℕ → ℕ → ℕ → ℕ → Memory
+placed m p statement frame top = update (update (update m (statementAt p) statement) (frameAt p) frame) (topAt p) top
+
+-- ws, then zeros up to n words
+unfoldable pub padded : List ℕ → ℕ → List ℕ
+padded ws n = ws ++ replicate (n - length ws) 0
+
+-- the four links of a frame, then its variables
+unfoldable pub linked : ℕ → ℕ → ℕ → ℕ → List ℕ → List ℕ
+linked frame statement works q ws = frame ∷ statement ∷ works ∷ q ∷ ws
+
+-- a frame for procedure q at f in the area of process p, which says where the process stands (01, A step)
+unfoldable pub framed : Memory → ℕ → ℕ → ℕ → List ℕ → Memory
+framed m p f q ws = store m (location p f) (linked (m (frameAt p)) (m (statementAt p)) (m (worksAt p)) q ws)
+
+-- process p enters procedure q, of n words and first statement c, on process r, with the argument words ws
+unfoldable pub entered : Memory → ℕ → ℕ → ℕ → ℕ → ℕ → List ℕ → Memory
+entered m p q r c n ws =
+    standing (framed m p (m (topAt p)) q (padded ws n)) p c (m (topAt p)) (m (topAt p) + 4 + n) r (m (depthAt p) + 1)
+
+-- process p leaves the procedure of its innermost call, and stands after the call statement c (12.2, 13)
+unfoldable pub left : Memory → ℕ → ℕ → Memory
+left m p c =
+    standing m p (c + 1) (callerFrame m p (m (frameAt p))) (m (frameAt p)) (callerWorks m p (m (frameAt p))) (m (depthAt p) - 1)
+
+-- the area and the record of process n are 0
+unfoldable pub wiped : Memory → ℕ → Memory
+wiped m n = clear (clear m (location n 0) 256) (recordAt n 0) 20
+
+-- process r has its parameters, is started and holds its own variables (11.5)
+unfoldable pub given : Memory → ℕ → List ℕ → Memory
+given m r ws = update (update (store m (location r 0) ws) (statusAt r) 2) (holderAt r) r
+
+-- it stands at statement c; its variables take n words
+unfoldable pub begun : Memory → ℕ → ℕ → ℕ → List ℕ → Memory
+begun m r c n ws = standing (given m r ws) r c 0 n r 0
+
+-- the end of process p: its variables are given up (13)
+unfoldable pub ended : Memory → ℕ → Memory
+ended m p = update (update m (statusAt p) 3) (holderAt p) 0
+
+-- the frame that is to be pushed fits the area
+pub record Fits (m : Memory) (p n : ℕ) : Type 0 where
+  pub low : 1 ≤ p
+  pub high : p ≤ 64
+  pub area : m (topAt p) + 4 + n ≤ 256
+  pub depth : m (depthAt p) < 64
+
+-- the process is in a call, whose frame lies in the area
+pub record Called (m : Memory) (p : ℕ) : Type 0 where
+  pub low : 1 ≤ p
+  pub high : p ≤ 64
+  pub area : m (frameAt p) + 4 ≤ 256
+  pub depth : 1 ≤ m (depthAt p)

@@ -1,0 +1,350 @@
+// What statements write into a lent state: where a process stands, frames, records (01, A step). Callers test first.
+ghost use mathlib.Core.Path.{_≡_};
+ghost use mathlib.Core.List.{[], _∷_};
+ghost use Prim.Native.Nat.{ℕ, _+_, _-_, _*_, _≤_, _<_};
+ghost use lib.ListN.{length, take};
+ghost use Rattle.table.specs.Table.{Table, tableOf};
+ghost use Rattle.table.specs.Reading.{Of};
+ghost use Rattle.sizes.specs.Sizes.{moduleWords};
+ghost use Rattle.machine.specs.Memory.{Memory, memoryOf, update, store, clear, wordsAt};
+ghost use Rattle.machine.specs.Layout.{location, recordAt, statementAt, worksAt, holderAt, failureAt};
+ghost use Rattle.machine.specs.Lent.{Lent, Changed};
+ghost use Rattle.machine.specs.Variables.{frameWords};
+ghost use Rattle.machine.specs.Context.{contextOf};
+ghost use Rattle.machine.specs.Calls.{standing, pushed, popped};
+ghost use Rattle.machine.specs.Processes.{created, started};
+ghost use Rattle.frames.specs.Frames.{placed, padded, linked, framed, entered, left, wiped, given, begun, ended, Fits, Called};
+
+// The n words from `at` on, into the buffer.
+pub fn load_words(state: &[u8], at: usize, n: usize, words: &mut [u16])
+    requires { ⌜ Lent 17664 (now state) ⌝ }
+    requires { ⌜ (at + n ≤ 17664) × (n ≤ length (now words)) ⌝ }
+    ensures { λ _. ⌜ take n (now (words .exit)) ≡ wordsAt (memoryOf (now (state .entry))) at n ⌝ }
+{
+    let mut k: usize = 0;
+    while k < n {
+        words[k] = machine::word_of(state, 17664, at + k);
+        k += 1;
+    }
+}
+
+// The first n words of the buffer, to the words from `at` on.
+pub fn copy_words(state: &mut [u8], at: usize, n: usize, words: &[u16])
+    requires { ⌜ Lent 17664 (now state) ⌝ }
+    requires { ⌜ (at + n ≤ 17664) × (n ≤ length (now words)) ⌝ }
+    ensures { λ _. ⌜ Changed 17664 (now (state .exit)) (store (memoryOf (now (state .entry))) at (take n (now (words .entry)))) ⌝ }
+{
+    let mut k: usize = 0;
+    while k < n {
+        machine::set_word(state, 17664, at + k, words[k]);
+        k += 1;
+    }
+}
+
+// Makes the n words from `at` on 0.
+pub fn clear_words(state: &mut [u8], at: usize, n: usize)
+    requires { ⌜ Lent 17664 (now state) ⌝ }
+    requires { ⌜ at + n ≤ 17664 ⌝ }
+    ensures { λ _. ⌜ Changed 17664 (now (state .exit)) (clear (memoryOf (now (state .entry))) at n) ⌝ }
+{
+    let mut k: usize = 0;
+    while k < n {
+        machine::set_word(state, 17664, at + k, 0);
+        k += 1;
+    }
+}
+
+// Process p goes on at statement c.
+pub fn go_to(state: &mut [u8], p: usize, c: u16)
+    requires { ⌜ Lent 17664 (now state) ⌝ }
+    requires { ⌜ (1 ≤ p) × (p ≤ 64) ⌝ }
+    ensures { λ _. ⌜ Changed 17664 (now (state .exit)) (update (memoryOf (now (state .entry))) (statementAt p) c) ⌝ }
+{
+    machine::set_record_word(state, p, 2, c);
+}
+
+// Process v holds the variables of process w; 0 for none.
+pub fn hold(state: &mut [u8], w: usize, v: u16)
+    requires { ⌜ Lent 17664 (now state) ⌝ }
+    requires { ⌜ (1 ≤ w) × (w ≤ 64) ⌝ }
+    ensures { λ _. ⌜ Changed 17664 (now (state .exit)) (update (memoryOf (now (state .entry))) (holderAt w) v) ⌝ }
+{
+    machine::set_record_word(state, w, 6, v);
+}
+
+// The run has failed by number n.
+pub fn mark_failure(state: &mut [u8], n: u16)
+    requires { ⌜ Lent 17664 (now state) ⌝ }
+    ensures { λ _. ⌜ Changed 17664 (now (state .exit)) (update (memoryOf (now (state .entry))) failureAt n) ⌝ }
+{
+    machine::set_record_word(state, 1, 9, n);
+}
+
+// Process p has ended.
+pub fn end_process(state: &mut [u8], p: usize)
+    requires { ⌜ Lent 17664 (now state) ⌝ }
+    requires { ⌜ (1 ≤ p) × (p ≤ 64) ⌝ }
+    ensures { λ _. ⌜ Changed 17664 (now (state .exit)) (ended (memoryOf (now (state .entry))) p) ⌝ }
+{
+    machine::set_record_word(state, p, 0, 3);
+    hold(state, p, 0);
+}
+
+fn place(state: &mut [u8], p: usize, statement: u16, frame: u16, top: u16)
+    requires { ⌜ Lent 17664 (now state) ⌝ }
+    requires { ⌜ (1 ≤ p) × (p ≤ 64) ⌝ }
+    ensures { λ _. ⌜ Changed 17664 (now (state .exit)) (placed (memoryOf (now (state .entry))) p statement frame top) ⌝ }
+{
+    go_to(state, p, statement);
+    machine::set_record_word(state, p, 3, frame);
+    machine::set_record_word(state, p, 4, top);
+}
+
+// Where process p stands.
+pub fn stand(
+    state: &mut [u8],
+    p: usize,
+    statement: u16,
+    frame: u16,
+    top: u16,
+    works: u16,
+    depth: u16,
+)
+    requires { ⌜ Lent 17664 (now state) ⌝ }
+    requires { ⌜ (1 ≤ p) × (p ≤ 64) ⌝ }
+    ensures { λ _. ⌜ Changed 17664 (now (state .exit)) (standing (memoryOf (now (state .entry))) p statement frame top works depth) ⌝ }
+{
+    place(state, p, statement, frame, top);
+    machine::set_record_word(state, p, 5, works);
+    machine::set_record_word(state, p, 7, depth);
+}
+
+// The links of a frame at f in the area of process p.
+fn link(state: &mut [u8], p: usize, f: usize, frame: u16, statement: u16, works: u16, q: u16)
+    requires { ⌜ Lent 17664 (now state) ⌝ }
+    requires { ⌜ (1 ≤ p) × ((p ≤ 64) × (f + 4 ≤ 256)) ⌝ }
+    ensures { λ _. ⌜ Changed 17664 (now (state .exit)) (store (memoryOf (now (state .entry))) (location p f) (linked frame statement works q [])) ⌝ }
+{
+    machine::set_area_word(state, p, f, frame);
+    machine::set_area_word(state, p, f + 1, statement);
+    machine::set_area_word(state, p, f + 2, works);
+    machine::set_area_word(state, p, f + 3, q);
+}
+
+// The first n words of the buffer, then zeros: `size` words from `at` on.
+fn pad(state: &mut [u8], at: usize, size: usize, n: usize, words: &[u16])
+    requires { ⌜ Lent 17664 (now state) ⌝ }
+    requires { ⌜ (at + size ≤ 17664) × ((n ≤ size) × (n ≤ length (now words))) ⌝ }
+    ensures { λ _. ⌜ Changed 17664 (now (state .exit)) (store (memoryOf (now (state .entry))) at (padded (take n (now (words .entry))) size)) ⌝ }
+{
+    copy_words(state, at, n, words);
+    clear_words(state, at + n, size - n);
+}
+
+// The links of a frame for procedure q at f: where process p stands.
+fn link_back(state: &mut [u8], p: usize, f: usize, q: u16)
+    requires { ⌜ Lent 17664 (now state) ⌝ }
+    requires { ⌜ (1 ≤ p) × ((p ≤ 64) × (f + 4 ≤ 256)) ⌝ }
+    ensures { λ _. ⌜ Changed 17664 (now (state .exit)) (framed (memoryOf (now (state .entry))) p f q []) ⌝ }
+{
+    let frame = machine::record_word(state, p, 3);
+    let statement = machine::record_word(state, p, 2);
+    let works = machine::record_word(state, p, 5);
+    link(state, p, f, frame, statement, works, q);
+}
+
+// The frame of a call: the links, the argument words, zeros.
+fn put_frame(state: &mut [u8], p: usize, f: usize, q: u16, size: usize, n: usize, words: &[u16])
+    requires { ⌜ Lent 17664 (now state) ⌝ }
+    requires { ⌜ (1 ≤ p) × ((p ≤ 64) × (f + 4 + size ≤ 256)) ⌝ }
+    requires { ⌜ (n ≤ size) × (n ≤ length (now words)) ⌝ }
+    ensures { λ _. ⌜ Changed 17664 (now (state .exit)) (framed (memoryOf (now (state .entry))) p f q (padded (take n (now (words .entry))) size)) ⌝ }
+{
+    let at = machine::location_of(p, f);
+    link_back(state, p, f, q);
+    pad(state, at + 4, size, n, words);
+}
+
+// Process p enters procedure q, whose variables take `size` words and whose first statement is c, on process r. The first n words of
+// the buffer are the arguments.
+pub fn enter(
+    state: &mut [u8],
+    p: usize,
+    q: u16,
+    r: u16,
+    c: u16,
+    size: usize,
+    n: usize,
+    words: &[u16],
+)
+    requires { ⌜ Lent 17664 (now state) ⌝ }
+    requires { ⌜ Fits (memoryOf (now state)) p size ⌝ }
+    requires { ⌜ (n ≤ size) × (n ≤ length (now words)) ⌝ }
+    ensures { λ _. ⌜ Changed 17664 (now (state .exit)) (entered (memoryOf (now (state .entry))) p q r c size (take n (now (words .entry)))) ⌝ }
+{
+    let top = machine::record_word(state, p, 4);
+    let depth = machine::record_word(state, p, 7);
+    put_frame(state, p, top as usize, q, size, n, words);
+    stand(
+        state,
+        p,
+        c,
+        top,
+        (top as usize + 4 + size) as u16,
+        r,
+        depth + 1,
+    );
+}
+
+// Process p leaves the procedure of its innermost call, and stands after the call statement c.
+pub fn leave(state: &mut [u8], p: usize, c: u16)
+    requires { ⌜ Lent 17664 (now state) ⌝ }
+    requires { ⌜ Called (memoryOf (now state)) p ⌝ }
+    requires { ⌜ c < 65535 ⌝ }
+    ensures { λ _. ⌜ Changed 17664 (now (state .exit)) (left (memoryOf (now (state .entry))) p c) ⌝ }
+{
+    let frame = machine::record_word(state, p, 3);
+    let depth = machine::record_word(state, p, 7);
+    let caller = machine::area_word(state, p, frame as usize);
+    let works = machine::area_word(state, p, frame as usize + 2);
+    stand(state, p, c + 1, caller, frame, works, depth - 1);
+}
+
+// Makes the area and the control record of process n 0.
+fn wipe(state: &mut [u8], n: usize)
+    requires { ⌜ Lent 17664 (now state) ⌝ }
+    requires { ⌜ (1 ≤ n) × (n ≤ 64) ⌝ }
+    ensures { λ _. ⌜ Changed 17664 (now (state .exit)) (wiped (memoryOf (now (state .entry))) n) ⌝ }
+{
+    let area = machine::location_of(n, 0);
+    let record = machine::record_of(n, 0);
+    clear_words(state, area, 256);
+    clear_words(state, record, 20);
+}
+
+// Process n is created, of module `block`.
+pub fn create(state: &mut [u8], n: usize, block: u16)
+    requires { ⌜ Lent 17664 (now state) ⌝ }
+    requires { ⌜ (1 ≤ n) × (n ≤ 64) ⌝ }
+    ensures { λ _. ⌜ Changed 17664 (now (state .exit)) (created (memoryOf (now (state .entry))) n block) ⌝ }
+{
+    wipe(state, n);
+    machine::set_record_word(state, n, 0, 1);
+    machine::set_record_word(state, n, 1, block);
+    machine::set_record_word(state, 1, 8, n as u16);
+}
+
+// Process r has its parameters, is started and holds its own variables.
+fn give(state: &mut [u8], r: usize, n: usize, words: &[u16])
+    requires { ⌜ Lent 17664 (now state) ⌝ }
+    requires { ⌜ (1 ≤ r) × (r ≤ 64) ⌝ }
+    requires { ⌜ (n ≤ 256) × (n ≤ length (now words)) ⌝ }
+    ensures { λ _. ⌜ Changed 17664 (now (state .exit)) (given (memoryOf (now (state .entry))) r (take n (now (words .entry)))) ⌝ }
+{
+    let at = machine::location_of(r, 0);
+    copy_words(state, at, n, words);
+    machine::set_record_word(state, r, 0, 2);
+    hold(state, r, r as u16);
+}
+
+// Process r begins at statement c; its variables take `size` words, of which the first n are those of the buffer.
+pub fn begin(state: &mut [u8], r: usize, c: u16, size: u16, n: usize, words: &[u16])
+    requires { ⌜ Lent 17664 (now state) ⌝ }
+    requires { ⌜ (1 ≤ r) × (r ≤ 64) ⌝ }
+    requires { ⌜ (n ≤ 256) × (n ≤ length (now words)) ⌝ }
+    ensures { λ _. ⌜ Changed 17664 (now (state .exit)) (begun (memoryOf (now (state .entry))) r c size (take n (now (words .entry)))) ⌝ }
+{
+    give(state, r, n, words);
+    stand(state, r, c, 0, size, r as u16, 0);
+}
+
+// Process p calls procedure q of its own module; the first n words of the buffer are the arguments.
+pub fn push_local(
+    t: &[u8],
+    s: table::Sections,
+    state: &mut [u8],
+    p: usize,
+    q: usize,
+    size: usize,
+    n: usize,
+    words: &[u16],
+)
+    requires { ⌜ Of (now t) s ⌝ }
+    requires { ⌜ Lent 17664 (now state) ⌝ }
+    requires { ⌜ Fits (memoryOf (now state)) p size ⌝ }
+    requires { ⌜ (n ≤ size) × ((n ≤ length (now words)) × (q < 65536)) ⌝ }
+    requires { ⌜ size ≡ frameWords (tableOf (s .w) (now t)) q ⌝ }
+    ensures { λ _. ⌜ ((page : Memory) → Changed 17664 (now (state .exit)) (pushed (tableOf (s .w) (now (t .entry))) (memoryOf (now (state .entry))) page (contextOf (memoryOf (now (state .entry))) p) (memoryOf (now (state .entry))) q (memoryOf (now (state .entry)) (worksAt p)) (take n (now (words .entry))))) ⌝ }
+{
+    let c = table::first_stmt(t, s, q);
+    let works = machine::record_word(state, p, 5);
+    enter(state, p, q as u16, works, c as u16, size, n, words);
+}
+
+// Process p calls procedure q of process r, and holds its variables.
+pub fn push_process(
+    t: &[u8],
+    s: table::Sections,
+    state: &mut [u8],
+    p: usize,
+    q: usize,
+    r: usize,
+    size: usize,
+    n: usize,
+    words: &[u16],
+)
+    requires { ⌜ Of (now t) s ⌝ }
+    requires { ⌜ Lent 17664 (now state) ⌝ }
+    requires { ⌜ Fits (memoryOf (now state)) p size ⌝ }
+    requires { ⌜ (n ≤ size) × ((n ≤ length (now words)) × ((q < 65536) × ((1 ≤ r) × (r ≤ 64)))) ⌝ }
+    requires { ⌜ size ≡ frameWords (tableOf (s .w) (now t)) q ⌝ }
+    ensures { λ _. ⌜ ((page : Memory) → Changed 17664 (now (state .exit)) (pushed (tableOf (s .w) (now (t .entry))) (memoryOf (now (state .entry))) page (contextOf (memoryOf (now (state .entry))) p) (update (memoryOf (now (state .entry))) (holderAt r) p) q r (take n (now (words .entry))))) ⌝ }
+{
+    let c = table::first_stmt(t, s, q);
+    hold(state, r, p as u16);
+    enter(state, p, q as u16, r as u16, c as u16, size, n, words);
+}
+
+// The end of a local call, whose statement is c.
+pub fn pop_local(state: &mut [u8], p: usize, c: u16)
+    requires { ⌜ Lent 17664 (now state) ⌝ }
+    requires { ⌜ Called (memoryOf (now state)) p ⌝ }
+    requires { ⌜ c < 65535 ⌝ }
+    ensures { λ _. ⌜ ((T : Table) (page : Memory) → Changed 17664 (now (state .exit)) (popped T (memoryOf (now (state .entry))) page (contextOf (memoryOf (now (state .entry))) p) (memoryOf (now (state .entry))) c)) ⌝ }
+{
+    leave(state, p, c);
+}
+
+// The end of a process call, whose statement is c: the variables that it worked on are given up.
+pub fn pop_process(state: &mut [u8], p: usize, c: u16)
+    requires { ⌜ Lent 17664 (now state) ⌝ }
+    requires { ⌜ Called (memoryOf (now state)) p ⌝ }
+    requires { ⌜ (c < 65535) × ((1 ≤ memoryOf (now state) (worksAt p)) × (memoryOf (now state) (worksAt p) ≤ 64)) ⌝ }
+    ensures { λ _. ⌜ ((T : Table) (page : Memory) → Changed 17664 (now (state .exit)) (popped T (memoryOf (now (state .entry))) page (contextOf (memoryOf (now (state .entry))) p) (update (memoryOf (now (state .entry))) (holderAt (memoryOf (now (state .entry)) (worksAt p))) 0) c)) ⌝ }
+{
+    let works = machine::record_word(state, p, 5);
+    hold(state, works as usize, 0);
+    leave(state, p, c);
+}
+
+// Process r, of module b, is started; the first n words of the buffer are its parameters.
+pub fn start(
+    t: &[u8],
+    s: table::Sections,
+    state: &mut [u8],
+    r: usize,
+    b: usize,
+    size: usize,
+    n: usize,
+    words: &[u16],
+)
+    requires { ⌜ Of (now t) s ⌝ }
+    requires { ⌜ Lent 17664 (now state) ⌝ }
+    requires { ⌜ (1 ≤ r) × (r ≤ 64) ⌝ }
+    requires { ⌜ (n ≤ 256) × ((n ≤ length (now words)) × (size < 65536)) ⌝ }
+    requires { ⌜ size ≡ moduleWords (tableOf (s .w) (now t)) b ⌝ }
+    ensures { λ _. ⌜ Changed 17664 (now (state .exit)) (started (tableOf (s .w) (now (t .entry))) (memoryOf (now (state .entry))) r b (take n (now (words .entry)))) ⌝ }
+{
+    let c = table::first_stmt(t, s, b);
+    begin(state, r, c as u16, size as u16, n, words);
+}

@@ -1,0 +1,11 @@
+pub mod Standing
+pub mod Applying
+pub mod Nodes
+pub mod TypeWords
+pub mod Typed
+pub mod Yielding
+pub mod Selecting
+pub mod Evaluating
+pub mod Combining
+pub mod Comparing
+pub mod Lending

@@ -1,0 +1,351 @@
+-- The selection of a variable that is not stuck: what each call may ask, and each return. Assumes nothing.
+use Prim.Native.Nat.{ℕ, _+_, _-_, _*_, _%_, _<_, _≤_}
+use mathlib.Core.Path.{_≡_, refl, sym, ap, subst, _∙_}
+use mathlib.Core.Bool.{Bool, true, false}
+use mathlib.Core.List.{List}
+use lib.ListN.{length}
+use lib.Dec.{eqb, leb, ltb}
+use native.Mathlib.Omega.{arith}
+use borrow.Author.Tests.{eqb-true, eqb-false, ltb-true, leb-true, lt-ltb, eq-eqb}
+use Rattle.basics.specs.Choice.{pick, cases, both}
+use Rattle.basics.proofs.Bools.{both-l, both-r, both-i, no-true}
+use Rattle.table.specs.Table.{Table, tableOf}
+use Rattle.table.specs.Entries.{nodeCount, varCount, typeKind, typeP, typeQ, typeLow, typeHigh, fieldType, varMode, varType, owner, nodeKind, nodeP, nodeQ}
+use Rattle.table.specs.declared.Sections.{Sections}
+use Rattle.types.specs.Types.{fieldOf, elementOf, typeOf}
+use Rattle.types.specs.Match.{offset}
+use Rattle.numbers.specs.Sorts.{Variable, Expression}
+use Rattle.numbers.specs.Ranges.{inRange}
+use Rattle.numbers.proofs.OperandPromise.{field-variable, element-variable, element-index}
+use Rattle.sizes.specs.Sizes.{wordsOf, offsetIn}
+use Rattle.words.specs.Outcomes as words
+use Rattle.words.specs.Outcomes.{failureNumber, outcomeOf}
+use Rattle.words.specs.declared.values.Failure.{Failure}
+use Rattle.words.specs.declared.values.Value.{Value}
+use Rattle.words.specs.declared.values.Value.the-variants.{Word, Fail}
+use Rattle.machine.specs.Memory.{Memory, memoryOf, within}
+use Rattle.machine.specs.Layout.{location}
+use Rattle.machine.specs.Outcomes.{Outcome, ok, fail, stuck, andThen, need, failWhere, Operand, place, value, placed, valued, onPlace, onValue, onWord, wordOf}
+use Rattle.machine.specs.Variables.{offsetOf, belongs, known, fits}
+use Rattle.machine.specs.Context as machine
+use Rattle.machine.specs.Operands.{onRecord, onArray, outside, placeAt, fieldPlace, elementPlace, moduleVariable, frameVariable, wholePlace, operand}
+use Rattle.operands.specs.declared.Context.{Context}
+use Rattle.operands.specs.declared.Place.{Place}
+use Rattle.operands.specs.declared.Place.the-variants as place
+use Rattle.operands.specs.Answers.{selected, firstWord, Unstuck, Selectable, Evaluable}
+use Rattle.operands.specs.Places.{numbered, framed, frameAt, wholeAt, Named, elementAt}
+use Rattle.operands.specs.Ready.{contextIn, Working, Ready, Naming}
+use Rattle.operands.proofs.Nodes.{is-whole, is-field, is-element, type-whole, type-field, type-element}
+use Rattle.operands.proofs.Typed.{OfType, typed-variable, typed-expression, entry-record, entry-array, no-record, no-array}
+use Rattle.operands.proofs.Yielding.{no-unstuck, through, need-is, first-place, first-index, Gave, gave, place-fits, failed}
+
+-- a place lies in one area
+module _ (T : Table) (a τ : ℕ) (e : fits T a τ ≡ true) where
+  pub fits-low : a < 16384
+  unfolding fits
+  fits-low = ltb-true a 16384 (both-l _ _ e)
+
+  pub fits-high : a + wordsOf T τ ≤ 16384
+  unfolding fits
+  fits-high = let l = fits-low in let g = leb-true (a % 256 + wordsOf T τ) 256 (both-r (ltb a 16384) _ e) in omega arith
+
+-- parts
+module _ (T : Table) (a τ i : ℕ) (u : Unstuck (fieldPlace T a τ i)) where
+  pub field-record : typeKind T τ ≡ 1
+  unfolding fieldPlace
+  field-record =
+      cases (eqb (typeKind T τ) 1)
+      (λ e. eqb-true (typeKind T τ) 1 e)
+      (λ e. no-unstuck _ (no-record T τ (eqb-false (typeKind T τ) 1 e) _) u)
+
+  field-is : fieldPlace T a τ i ≡ need (ltb i (typeQ T τ)) (placeAt T (a + offsetIn T τ i) (fieldType T (typeP T τ + i)))
+  unfolding fieldPlace onRecord
+  field-is = rw (entry-record T τ field-record)
+
+  pub field-below : i < typeQ T τ
+  field-below = ltb-true i (typeQ T τ) (through (ltb i (typeQ T τ)) _ (subst Unstuck field-is u))
+
+  pub field-done : fieldPlace T a τ i ≡ ok (place (a + offsetIn T τ i) (fieldOf T τ i))
+  unfolding placeAt fieldOf
+  field-done =
+      let v = subst Unstuck field-is u in
+      let e = need-is (ltb i (typeQ T τ)) _ v in
+      let w = subst Unstuck e v in
+      field-is ∙ (e ∙ (need-is (fits T (a + offsetIn T τ i) (fieldType T (typeP T τ + i))) _ w ∙ rw (eq-eqb (typeKind T τ) 1 field-record, lt-ltb i (typeQ T τ) field-below)))
+
+module _ (T : Table) (a τ : ℕ) (o : Outcome Operand) (u : Unstuck (elementPlace T a τ o)) where
+  pub element-array : typeKind T τ ≡ 2
+  unfolding elementPlace
+  element-array =
+      cases (eqb (typeKind T τ) 2)
+      (λ e. eqb-true (typeKind T τ) 2 e)
+      (λ e. no-unstuck _ (no-array T τ (eqb-false (typeKind T τ) 2 e) _) u)
+
+  element-is : elementPlace T a τ o ≡ onWord o (typeP T τ) (λ i. failWhere (outside (typeLow T τ) (typeHigh T τ) i) 18 (placeAt T (elementAt T a τ i) (typeQ T τ)))
+  unfolding elementPlace onArray elementAt
+  element-is = rw (entry-array T τ element-array)
+
+  pub element-index-unstuck : Unstuck o
+  element-index-unstuck = first-index o _ _ (subst Unstuck element-is u)
+
+  pub element-failed : (k : ℕ) → o ≡ fail k → elementPlace T a τ o ≡ fail k
+  unfolding onWord onValue andThen
+  element-failed k e = element-is ∙ rw e
+
+  pub element-done : (σ : ℕ) (ws : List ℕ) → o ≡ ok (value σ ws)
+      → elementPlace T a τ o ≡ failWhere (outside (typeLow T τ) (typeHigh T τ) (wordOf ws)) 18 (ok (place (elementAt T a τ (wordOf ws)) (elementOf T τ)))
+  unfolding onWord onValue andThen valued elementOf failWhere placeAt
+  element-done σ ws e =
+      let i = wordOf ws in
+      let d : elementPlace T a τ o ≡ need (eqb σ (typeP T τ)) (failWhere (outside (typeLow T τ) (typeHigh T τ) i) 18 (placeAt T (elementAt T a τ i) (typeQ T τ))) = element-is ∙ rw e in
+      let v = subst Unstuck d u in
+      let g = need-is (eqb σ (typeP T τ)) _ v in
+      d ∙ (g ∙ (chosen (outside (typeLow T τ) (typeHigh T τ) i) (elementAt T a τ i) (subst Unstuck g v) ∙ rw (eq-eqb (typeKind T τ) 2 element-array)))
+    where
+      chosen : (b : Bool) (c : ℕ) → Unstuck (failWhere b 18 (placeAt T c (typeQ T τ))) → failWhere b 18 (placeAt T c (typeQ T τ)) ≡ failWhere b 18 (ok (place c (typeQ T τ)))
+      chosen true c w = refl
+      chosen false c w = need-is (fits T c (typeQ T τ)) _ w
+
+  pub index-gave : (σ : ℕ) → OfType T σ o → (w : ℕ) → words.word w ≡ firstWord o → Gave T o σ w
+  unfolding onWord
+  index-gave σ v w e = gave T σ o w _ (subst Unstuck element-is u) v e
+
+element-type : (T : Table) (τ : ℕ) → typeKind T τ ≡ 2 → elementOf T τ ≡ typeQ T τ
+unfolding elementOf
+element-type T τ e = rw e
+
+-- whole variables
+module _ (T : Table) (m page : Memory) (x : Context) (w : Working T x) (v : ℕ) (u : Unstuck (wholePlace T m page (contextIn x) v)) where
+  unfoldable inModule : Outcome Operand
+  inModule = need (ltb (offsetOf T (x .owner) v) 256) (placeAt T (location (x .works) (offsetOf T (x .owner) v)) (varType T v))
+
+  unfoldable inFrame : Outcome Operand
+  inFrame = need (ltb (framed T x v) 256) (placeAt T (frameAt T m x v) (varType T v))
+
+  whole-is : wholePlace T m page (contextIn x) v ≡ pick (belongs T (x .owner) v) inModule (need (belongs T (x .block) v) inFrame)
+  unfolding wholePlace contextIn moduleVariable frameVariable framed frameAt inModule inFrame
+  whole-is = need-is (known T (varType T v)) _ u ∙ rw (← w .owns)
+
+  -- belonging to a block is a matter of numbers, for a variable that exists
+  belongs-there : (b : ℕ) → belongs T b v ≡ true → v < varCount T
+  unfolding belongs
+  belongs-there b e = ltb-true v (varCount T) (both-l _ _ e)
+
+  belongs-numbered : (b : ℕ) → belongs T b v ≡ true → numbered T b v ≡ true
+  unfolding belongs numbered
+  belongs-numbered b e = both-r (ltb v (varCount T)) _ e
+
+  numbered-belongs : (b : ℕ) → v < varCount T → numbered T b v ≡ true → belongs T b v ≡ true
+  unfolding belongs numbered
+  numbered-belongs b l e = both-i _ _ (lt-ltb v (varCount T) l) e
+
+  framed-unstuck : belongs T (x .owner) v ≡ false → Unstuck (need (belongs T (x .block) v) inFrame)
+  framed-unstuck e = rw e at (subst Unstuck whole-is u)
+
+  frame-belongs : belongs T (x .owner) v ≡ false → belongs T (x .block) v ≡ true
+  frame-belongs e = through (belongs T (x .block) v) inFrame (framed-unstuck e)
+
+  whole-there : v < varCount T
+  whole-there =
+      cases (belongs T (x .owner) v)
+      (λ e. belongs-there (x .owner) e)
+      (λ e. belongs-there (x .block) (frame-belongs e))
+
+  not-belongs : numbered T (x .owner) v ≡ false → belongs T (x .owner) v ≡ false
+  not-belongs e = cases (belongs T (x .owner) v) (λ g. no-true (sym e ∙ belongs-numbered (x .owner) g)) (λ g. g)
+
+  module-unstuck : belongs T (x .owner) v ≡ true → Unstuck inModule
+  module-unstuck e = rw e at (subst Unstuck whole-is u)
+
+  frame-unstuck : belongs T (x .owner) v ≡ false → Unstuck inFrame
+  frame-unstuck e =
+      let g = framed-unstuck e in subst Unstuck (need-is (belongs T (x .block) v) inFrame g) g
+
+  pub whole-named : Named T x v
+  unfolding inModule inFrame
+  whole-named =
+      record {
+        there = whole-there;
+        ofModule = λ e.
+            let b = numbered-belongs (x .owner) whole-there e in
+            (b, ltb-true (offsetOf T (x .owner) v) 256 (through (ltb (offsetOf T (x .owner) v) 256) _ (module-unstuck b)));
+        ofFrame = λ e.
+            let b = not-belongs e in
+            (frame-belongs b, ltb-true (framed T x v) 256 (through (ltb (framed T x v) 256) _ (frame-unstuck b)));
+      }
+
+  pub whole-done : wholePlace T m page (contextIn x) v ≡ ok (place (wholeAt T m x v) (varType T v))
+  unfolding inModule inFrame wholeAt placeAt need
+  whole-done =
+      cases (belongs T (x .owner) v)
+      (λ e.
+      let g = module-unstuck e in
+      let d = need-is (ltb (offsetOf T (x .owner) v) 256) _ g in
+      let a = location (x .works) (offsetOf T (x .owner) v) in
+      whole-is ∙ rw (e, belongs-numbered (x .owner) e) (d ∙ need-is (fits T a (varType T v)) _ (subst Unstuck d g)))
+      (λ e.
+      let g = frame-unstuck e in
+      let d = need-is (ltb (framed T x v) 256) _ g in
+      whole-is ∙ rw (e, frame-belongs e, not-numbered e) (d ∙ need-is (fits T (frameAt T m x v) (varType T v)) _ (subst Unstuck d g)))
+    where
+      not-numbered : belongs T (x .owner) v ≡ false → numbered T (x .owner) v ≡ false
+      not-numbered e = cases (numbered T (x .owner) v) (λ g. no-true (sym e ∙ numbered-belongs (x .owner) whole-there g)) (λ g. g)
+
+-- what follows a selection
+pub failed-place : (o : Outcome Operand) (k : ℕ) (g : ℕ → ℕ → Outcome Operand) → o ≡ fail k → onPlace o g ≡ fail k
+unfolding onPlace andThen
+failed-place o k g e = rw e
+
+pub at-place : (o : Outcome Operand) (a τ : ℕ) (g : ℕ → ℕ → Outcome Operand) → o ≡ ok (place a τ) → onPlace o g ≡ g a τ
+unfolding onPlace andThen placed
+at-place o a τ g e = rw e
+
+-- ---- the laws of `select`
+abbrev pub tab : List ℕ → Sections → Table
+tab t s = tableOf (s .w) t
+
+abbrev pub out : List ℕ → Sections → List ℕ → List ℕ → Context → ℕ → Outcome Operand
+out t s m p x n = operand (tableOf (s .w) t) (memoryOf m) (memoryOf p) (contextIn x) n
+
+abbrev pub Sel : List ℕ → Sections → List ℕ → List ℕ → Context → ℕ → Type 0
+Sel t s m p x n = Selectable (tableOf (s .w) t) (memoryOf m) (memoryOf p) (contextIn x) n
+
+module _ (t : List ℕ) (s : Sections) (y z o f m p : List ℕ) (x : Context) (h : Ready t s y z o f m p x) (n : ℕ) (c : Sel t s m p x n) (k v : ℕ) (hk : k ≡ nodeKind (tab t s) n) (hv : v ≡ nodeP (tab t s) n) where
+  the-whole : k ≡ 1 → out t s m p x n ≡ wholePlace (tab t s) (memoryOf m) (memoryOf p) (contextIn x) v
+  the-whole e = is-whole (tab t s) (memoryOf m) (memoryOf p) (contextIn x) n (c .variable .below) (sym hk ∙ e) ∙ rw hv
+
+  pub whole-naming : k ≡ 1 → Naming t s o m x v
+  whole-naming e =
+      record {
+        table = h .table;
+        offsets = h .prepared .offsets;
+        state = h .state;
+        context = h .context;
+        named = whole-named (tab t s) (memoryOf m) (memoryOf p) x (h .context) v (subst Unstuck (the-whole e) (c .unstuck));
+      }
+
+  pub whole-returns : (a : ℕ) → k ≡ 1 → a ≡ wholeAt (tab t s) (memoryOf m) x v → ok (place a (typeOf (tab t s) n)) ≡ out t s m p x n
+  whole-returns a e g =
+      sym (the-whole e ∙ (whole-done (tab t s) (memoryOf m) (memoryOf p) x (h .context) v (subst Unstuck (the-whole e) (c .unstuck))
+      ∙ rw (g, type-whole (tab t s) n (c .variable .below) (sym hk ∙ e), hv)))
+
+  module _ (n1 : k ≡ 1 → ⊥) where
+    two-three : (k ≡ 2 → ⊥) → nodeKind (tab t s) n ≡ 3
+    two-three n2 = let l = c .variable .low in let g = c .variable .high in sym hk ∙ three k (rw (← hk) at l) (rw (← hk) at g) n1 n2
+      where
+        three : (k : ℕ) → 1 ≤ k → k ≤ 3 → (k ≡ 1 → ⊥) → (k ≡ 2 → ⊥) → k ≡ 3
+        three k a b d e = omega arith
+
+    part-variable : Variable (tab t s) n v
+    part-variable =
+        rw hv
+        (cases (eqb k 2)
+        (λ e. field-variable (tab t s) (h .prepared .ranged) n (c .variable .below) (sym hk ∙ eqb-true k 2 e))
+        (λ e. element-variable (tab t s) (h .prepared .ranged) n (c .variable .below) (two-three (eqb-false k 2 e))))
+
+    pub part-below : (u : ℕ) → 2 * n ≡ u → 2 * v < u
+    part-below u e = let b = part-variable .below in omega arith
+
+    the-field : k ≡ 2 → out t s m p x n ≡ onPlace (out t s m p x v) (λ a τ. fieldPlace (tab t s) a τ (nodeQ (tab t s) n))
+    the-field e = is-field (tab t s) (memoryOf m) (memoryOf p) (contextIn x) n (c .variable .below) (h .prepared .ranged) (sym hk ∙ e) ∙ rw hv
+
+    the-element : (k ≡ 2 → ⊥) → out t s m p x n ≡ onPlace (out t s m p x v) (λ a τ. elementPlace (tab t s) a τ (out t s m p x (nodeQ (tab t s) n)))
+    the-element n2 = is-element (tab t s) (memoryOf m) (memoryOf p) (contextIn x) n (c .variable .below) (h .prepared .ranged) (two-three n2) ∙ rw hv
+
+    part-unstuck : Unstuck (out t s m p x v)
+    part-unstuck =
+        cases (eqb k 2)
+        (λ e. first-place _ _ (subst Unstuck (the-field (eqb-true k 2 e)) (c .unstuck)))
+        (λ e. first-place _ _ (subst Unstuck (the-element (eqb-false k 2 e)) (c .unstuck)))
+
+    pub part-selectable : Sel t s m p x v
+    part-selectable =
+        let b = part-variable in
+        let l = c .variable .below in
+        record {
+          variable = record { below = omega (arith, b .below); low = b .low; high = b .high };
+          unstuck = part-unstuck;
+        }
+
+    module _ (l : Place) (hl : selected l (typeOf (tab t s) v) ≡ out t s m p x v) where
+      pub part-fails : (e : Failure) → l ≡ place.Fail e → selected l (typeOf (tab t s) n) ≡ out t s m p x n
+      part-fails e g =
+          let q : out t s m p x v ≡ fail (failureNumber e) = sym hl ∙ rw g in
+          rw g
+          (sym
+          (cases (eqb k 2)
+          (λ d. the-field (eqb-true k 2 d) ∙ failed-place _ _ _ q)
+          (λ d. the-element (eqb-false k 2 d) ∙ failed-place _ _ _ q)))
+
+      module _ (a : ℕ) (ha : l ≡ place.At a) where
+        part-is : out t s m p x v ≡ ok (place a (typeOf (tab t s) v))
+        part-is = sym hl ∙ rw ha
+
+        pub part-fits : fits (tab t s) a (typeOf (tab t s) v) ≡ true
+        part-fits =
+            place-fits (tab t s) (typeOf (tab t s) v) a (typeOf (tab t s) v)
+            (subst (OfType (tab t s) (typeOf (tab t s) v)) part-is
+            (typed-variable (tab t s) (memoryOf m) (memoryOf p) (contextIn x) (h .prepared .ranged) v (part-selectable .variable)))
+
+        pub part-low : a < 16384
+        part-low = fits-low (tab t s) a (typeOf (tab t s) v) part-fits
+
+        module _ (τ q : ℕ) (hτ : τ ≡ typeOf (tab t s) v) (hq : q ≡ nodeQ (tab t s) n) where
+          field-here : k ≡ 2 → out t s m p x n ≡ fieldPlace (tab t s) a τ q
+          field-here e = the-field e ∙ (at-place _ _ _ _ part-is ∙ rw (hτ, hq))
+
+          field-unstuck : k ≡ 2 → Unstuck (fieldPlace (tab t s) a τ q)
+          field-unstuck e = subst Unstuck (field-here e) (c .unstuck)
+
+          pub field-kind : k ≡ 2 → typeKind (tab t s) τ ≡ 1
+          field-kind e = field-record (tab t s) a τ q (field-unstuck e)
+
+          pub field-count : k ≡ 2 → q < typeQ (tab t s) τ
+          field-count e = field-below (tab t s) a τ q (field-unstuck e)
+
+          pub field-returns : (r : ℕ) → k ≡ 2 → r ≡ a + offsetIn (tab t s) τ q → ok (place r (typeOf (tab t s) n)) ≡ out t s m p x n
+          field-returns r e g =
+              let b = field-variable (tab t s) (h .prepared .ranged) n (c .variable .below) (sym hk ∙ e) .below in
+              sym (field-here e ∙ (field-done (tab t s) a τ q (field-unstuck e) ∙ rw (g, type-field (tab t s) n (c .variable .below) b (sym hk ∙ e), hτ, hq, hv)))
+
+          module _ (n2 : k ≡ 2 → ⊥) where
+            element-here : out t s m p x n ≡ elementPlace (tab t s) a τ (out t s m p x q)
+            element-here = the-element n2 ∙ (at-place _ _ _ _ part-is ∙ rw (hτ, hq))
+
+            element-unstuck : Unstuck (elementPlace (tab t s) a τ (out t s m p x q))
+            element-unstuck = subst Unstuck element-here (c .unstuck)
+
+            index-node : Expression (tab t s) n q
+            index-node = rw hq (element-index (tab t s) (h .prepared .ranged) n (c .variable .below) (two-three n2))
+
+            pub index-below : (u : ℕ) → 2 * n ≡ u → 2 * q + 1 < u
+            index-below u e = let b = index-node .below in omega arith
+
+            pub index-evaluable : Evaluable (tab t s) (memoryOf m) (memoryOf p) (contextIn x) q
+            index-evaluable =
+                let b = index-node in
+                let i = c .variable .below in
+                record {
+                  expression = record { below = omega (arith, b .below); sort = b .sort; high = b .high };
+                  unstuck = element-index-unstuck (tab t s) a τ (out t s m p x q) element-unstuck;
+                }
+
+            module _ (w : Value) (hw : outcomeOf w ≡ firstWord (out t s m p x q)) where
+              pub index-fails : (e : Failure) → w ≡ Fail e → fail (failureNumber e) ≡ out t s m p x n
+              index-fails e g =
+                  let d : out t s m p x q ≡ fail (failureNumber e) = failed _ _ (rw g at hw) in
+                  sym (element-here ∙ element-failed (tab t s) a τ (out t s m p x q) element-unstuck (failureNumber e) d)
+
+              pub element-returns : (i : ℕ) (r : Place) → w ≡ Word i
+                  → selected r (typeQ (tab t s) τ) ≡ failWhere (outside (typeLow (tab t s) τ) (typeHigh (tab t s) τ) i) 18 (ok (place (elementAt (tab t s) a τ i) (typeQ (tab t s) τ)))
+                  → selected r (typeOf (tab t s) n) ≡ out t s m p x n
+              element-returns i r g d =
+                  let v = typed-expression (tab t s) (memoryOf m) (memoryOf p) (contextIn x) (h .prepared .ranged) q (index-evaluable .expression) in
+                  let j = index-gave (tab t s) a τ (out t s m p x q) element-unstuck (typeOf (tab t s) q) v i (rw g at hw) in
+                  let kind = element-array (tab t s) a τ (out t s m p x q) element-unstuck in
+                  let b = element-variable (tab t s) (h .prepared .ranged) n (c .variable .below) (two-three n2) .below in
+                  let u : typeOf (tab t s) n ≡ typeQ (tab t s) τ = type-element (tab t s) n (c .variable .below) b (two-three n2) ∙ rw (← hv, ← hτ) (element-type (tab t s) τ kind) in
+                  rw u
+                  (d ∙ sym (element-here ∙ (element-done (tab t s) a τ (out t s m p x q) element-unstuck (typeOf (tab t s) q) (j .words) (j .is) ∙ rw (j .first, element-type (tab t s) τ kind))))
+
+pub ruleset selects = (whole-naming, whole-returns, part-below, part-selectable, part-fails, part-low, field-kind, field-count, field-returns, index-below, index-evaluable, index-fails, element-returns)

@@ -1,0 +1,66 @@
+-- Where variables stand, as numbers. Assumes nothing.
+use Prim.Native.Nat.{ℕ, _+_, _-_, _*_, _<_, _≤_, min}
+use mathlib.Core.Path.{_≡_}
+use mathlib.Core.Bool.{Bool, true, false}
+use mathlib.Core.List.{List}
+use lib.ListN.{length, getD}
+use lib.Dec.{eqb}
+use Rattle.basics.specs.Choice.{pick}
+use Rattle.table.specs.Table.{Table}
+use Rattle.table.specs.Entries.{varCount, typeKind, typeP, typeQ, typeLow, varMode, firstVar, vars}
+use Rattle.types.specs.Match.{offset}
+use Rattle.sizes.specs.Sizes.{wordsOf, offsetIn}
+use Rattle.machine.specs.Memory.{Memory, within, wordsAt}
+use Rattle.machine.specs.Operands.{same}
+use Rattle.machine.specs.Layout.{location}
+use Rattle.machine.specs.Variables.{offsetOf, belongs}
+use Rattle.operands.specs.declared.Context.{Context}
+
+-- the number of v is among those of block b's variables
+unfoldable pub numbered : Table → ℕ → ℕ → Bool
+numbered T b v = within (firstVar T b) (vars T b) v
+
+-- for each variable where it begins among those of its block. A frame that does not fit an area is never made: all that is above 256 is 257
+pub record Offsets (T : Table) (l : List ℕ) : Type 0 where
+  pub long : varCount T ≤ length l
+  pub is : (b v : ℕ) → belongs T b v ≡ true → getD l v 0 ≡ min (offsetOf T b v) 257
+
+-- for each field where it begins in its record
+pub record Places (T : Table) (l : List ℕ) : Type 0 where
+  pub there : (τ i : ℕ) → typeKind T τ ≡ 1 → i < typeQ T τ → typeP T τ + i < length l
+  pub is : (τ i : ℕ) → typeKind T τ ≡ 1 → i < typeQ T τ → getD l (typeP T τ + i) 0 ≡ offsetIn T τ i
+
+-- variable v of the process's block stands at word k of its own area
+unfoldable pub framed : Table → Context → ℕ → ℕ
+framed T x v = x .frame + 4 + offsetOf T (x .block) v
+
+-- the location of a variable in a frame; a var parameter is bound to the location that stands there (12.1)
+unfoldable pub frameAt : Table → Memory → Context → ℕ → ℕ
+frameAt T m x v =
+    pick (eqb (varMode T v) 2) (m (location (x .process) (framed T x v))) (location (x .process) (framed T x v))
+
+-- the location of a whole variable: the module's or the procedure's (8.3, 13)
+unfoldable pub wholeAt : Table → Memory → Context → ℕ → ℕ
+wholeAt T m x v =
+    pick (numbered T (x .owner) v) (location (x .works) (offsetOf T (x .owner) v)) (frameAt T m x v)
+
+-- v is a variable that the process can name
+pub record Named (T : Table) (x : Context) (v : ℕ) : Type 0 where
+  pub there : v < varCount T
+  pub ofModule : numbered T (x .owner) v ≡ true → (belongs T (x .owner) v ≡ true) × (offsetOf T (x .owner) v < 256)
+  pub ofFrame : numbered T (x .owner) v ≡ false → (belongs T (x .block) v ≡ true) × (framed T x v < 256)
+
+-- the location of the element with index value i of an array of type τ at location a (8.5)
+unfoldable pub elementAt : Table → ℕ → ℕ → ℕ → ℕ
+elementAt T a τ i = a + (offset i - offset (typeLow T τ)) * wordsOf T (typeQ T τ)
+
+-- the n words at locations a and b lie in areas
+pub record Rooms (s : List ℕ) (a b n : ℕ) : Type 0 where
+  pub state : length s ≡ 35328
+  pub first : a + n ≤ 16384
+  pub second : b + n ≤ 16384
+
+-- the first i of n words at a and b are the same
+pub record Matched (m : Memory) (a b n i : ℕ) : Type 0 where
+  pub upto : i ≤ n
+  pub rest : same (wordsAt m (a + i) (n - i)) (wordsAt m (b + i) (n - i)) ≡ same (wordsAt m a n) (wordsAt m b n)

@@ -1,0 +1,21 @@
+// The selection of variables (8) and the evaluation of expressions (9, 10), in a step that is not stuck. What is found once of a table is
+// lent: the types of nodes, the words of types, the offsets of variables in their blocks and the places of fields in their records.
+pub mod eval;
+pub mod operators;
+pub mod places;
+
+// A location, or the failure of the step.
+pub enum Place {
+    At(usize),
+    Fail(words::values::Failure),
+}
+
+// What the next statement of a process is, and which variables it can name (13).
+pub struct Context {
+    pub process: usize,
+    pub statement: usize,
+    pub block: usize,
+    pub owner: usize,
+    pub frame: usize,
+    pub works: usize,
+}

@@ -1,0 +1,15 @@
+use Rattle.states.proofs.Looking.{seen-visible, look-none, look-seen}
+use borrow.Author.Needs.{needs}
+use Rattle.states.proofs.look_word.Statement.{statement}
+use Rattle.states.proofs.look_word.Tie as tie
+
+pub look-word-spec : {M : Type 1} → statement M
+look-word-spec =
+    tie.close
+    (tie.spec
+    (λ c κs. search needs)
+    (λ c κs. let x = c .before in let s = x .before .before .before .before .pre in (search needs, (search needs, (search needs, (search needs, (s .1 .1 .1 .1, seen-visible _ _ _ _ _ _ (x .is-visible .ensures) (c .if1 .taken)))))))
+    (λ c. search needs)
+    (λ c. search needs)
+    (λ c. look-seen _ _ _ _ _ _ (c .before .before .is-visible .ensures) (c .before .if1 .taken) _ (c .visible-word .ensures))
+    (λ c. look-none _ _ _ _ _ _ (c .before .is-visible .ensures) (c .if1 .left)))

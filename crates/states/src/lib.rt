@@ -1,0 +1,268 @@
+// The state of a run: how it begins, and a look at a word of it (01, The four calls).
+ghost use mathlib.Core.Path.{_≡_};
+ghost use mathlib.Core.Bool.{true};
+ghost use Prim.Native.Nat.{_≤_, _<_, _+_};
+ghost use Rattle.table.specs.Table.{tableOf};
+ghost use Rattle.table.specs.Reading.{Of};
+ghost use Rattle.table.specs.Entries.{blockCount, blockKind};
+ghost use Rattle.sizes.specs.Sizes.{Sizes, moduleWords};
+ghost use Rattle.verdict.specs.Verdict.{verdict};
+ghost use Rattle.verdict.specs.Accepted.{Accepted};
+ghost use Rattle.machine.specs.Memory.{memoryOf, bytesOf, zeros};
+ghost use Rattle.machine.specs.Lent.{Lent, Changed};
+ghost use Rattle.machine.specs.Layout.{location, moduleAt, createdAt};
+ghost use Rattle.machine.specs.Calls.{standing};
+ghost use Rattle.machine.specs.Variables.{offsetOf, belongs};
+ghost use Rattle.machine.specs.Run as runs;
+ghost use Rattle.machine.specs.Rule.{rule};
+ghost use Rattle.machine.specs.Public.{visible, look, begun, beginCall};
+ghost use Rattle.states.specs.Parts.{firstMade, shown, lookJudged};
+
+fn wide(x: u16) -> usize
+    ensures { λ r. ⌜ r ≡ x ⌝ }
+{
+    x as usize
+}
+
+fn narrow(x: usize) -> u16
+    requires { ⌜ x < 65536 ⌝ }
+    ensures { λ r. ⌜ r ≡ x ⌝ }
+{
+    x as u16
+}
+
+// Makes every word 0.
+fn clear_all(state: &mut [u8])
+    requires { ⌜ Lent 17664 (now state) ⌝ }
+    ensures { λ _. ⌜ Changed 17664 (now (state .exit)) zeros ⌝ }
+{
+    let count = state.len();
+    let mut i = 0;
+    while i < count {
+        state[i] = 0;
+        i += 1;
+    }
+}
+
+// Process 1 is started and holds its own variables; it is the one process created.
+fn make_first(state: &mut [u8])
+    requires { ⌜ Lent 17664 (now state) ⌝ }
+    ensures { λ _. ⌜ Changed 17664 (now (state .exit)) (firstMade (memoryOf (now (state .entry)))) ⌝ }
+{
+    machine::set_record_word(state, 1, 0, 2);
+    machine::set_record_word(state, 1, 6, 1);
+    machine::set_record_word(state, 1, 8, 1);
+}
+
+// Where process 1 stands, in no call: its statement and the first free word of its area.
+fn stand_first(state: &mut [u8], statement: u16, top: u16)
+    requires { ⌜ Lent 17664 (now state) ⌝ }
+    ensures { λ _. ⌜ Changed 17664 (now (state .exit)) (standing (memoryOf (now (state .entry))) 1 statement 0 top 1 0) ⌝ }
+{
+    machine::set_record_word(state, 1, 2, statement);
+    machine::set_record_word(state, 1, 3, 0);
+    machine::set_record_word(state, 1, 4, top);
+    machine::set_record_word(state, 1, 5, 1);
+    machine::set_record_word(state, 1, 7, 0);
+}
+
+// The words of the program's variables.
+fn program_words(t: &[u8], s: table::Sections, sizes: &[u16]) -> usize
+    requires { ⌜ Of (now t) s ⌝ }
+    requires { ⌜ Sizes (tableOf (s .w) (now t)) (now sizes) ⌝ }
+    requires { ⌜ Accepted (tableOf (s .w) (now t)) ⌝ }
+    ensures { λ r. ⌜ (r ≡ moduleWords (tableOf (s .w) (now (t .entry))) 0) × (r < 65536) ⌝ }
+{
+    sizes::var_offset(t, s, sizes, 0, table::block_vars(t, s, 0))
+}
+
+// Makes the lent bytes the state in which a run begins, whatever stood there.
+pub fn begin_state(t: &[u8], s: table::Sections, sizes: &[u16], state: &mut [u8])
+    requires { ⌜ Of (now t) s ⌝ }
+    requires { ⌜ Sizes (tableOf (s .w) (now t)) (now sizes) ⌝ }
+    requires { ⌜ Accepted (tableOf (s .w) (now t)) ⌝ }
+    requires { ⌜ Lent 17664 (now state) ⌝ }
+    ensures { λ _. ⌜ now (state .exit) ≡ bytesOf 17664 (runs.begin (tableOf (s .w) (now (t .entry)))) ⌝ }
+{
+    let statement = narrow(table::first_stmt(t, s, 0));
+    let top = narrow(program_words(t, s, sizes));
+    clear_all(state);
+    make_first(state);
+    stand_first(state, statement, top);
+}
+
+// Process p is created, and is started or ended.
+fn is_shown(state: &[u8], p: usize) -> bool
+    requires { ⌜ Lent 17664 (now state) ⌝ }
+    requires { ⌜ memoryOf (now state) createdAt ≤ 64 ⌝ }
+    ensures { λ r. ⌜ r ≡ shown (memoryOf (now (state .entry))) p ⌝ }
+{
+    if 1 <= p {
+        if p <= wide(machine::record_word(state, 1, 8)) {
+            let status = machine::record_word(state, p, 0);
+            if 2 <= status {
+                return status <= 3;
+            }
+            return false;
+        }
+        return false;
+    }
+    false
+}
+
+// v is a variable of block b.
+fn belongs_to(t: &[u8], s: table::Sections, b: usize, v: usize) -> bool
+    requires { ⌜ Of (now t) s ⌝ }
+    ensures { λ r. ⌜ r ≡ belongs (tableOf (s .w) (now (t .entry))) b v ⌝ }
+{
+    if v < table::variables(t, s) {
+        let first = table::first_var(t, s, b);
+        if first <= v {
+            return v < first + table::block_vars(t, s, b);
+        }
+        return false;
+    }
+    false
+}
+
+// Process p, variable v and place k name a word of a process's module variables.
+fn is_visible(
+    t: &[u8],
+    s: table::Sections,
+    sizes: &[u16],
+    state: &[u8],
+    p: usize,
+    v: usize,
+    k: usize,
+) -> bool
+    requires { ⌜ Of (now t) s ⌝ }
+    requires { ⌜ Sizes (tableOf (s .w) (now t)) (now sizes) ⌝ }
+    requires { ⌜ Accepted (tableOf (s .w) (now t)) ⌝ }
+    requires { ⌜ Lent 17664 (now state) ⌝ }
+    requires { ⌜ rule (tableOf (s .w) (now t)) (memoryOf (now state)) ≡ true ⌝ }
+    ensures { λ r. ⌜ r ≡ visible (tableOf (s .w) (now (t .entry))) (memoryOf (now (state .entry))) p v k ⌝ }
+{
+    if is_shown(state, p) {
+        let b = wide(machine::record_word(state, p, 1));
+        if belongs_to(t, s, b, v) {
+            return k < sizes::size_of(t, s, sizes, table::var_type(t, s, v));
+        }
+        return false;
+    }
+    false
+}
+
+// Where the variable v of the module or program b begins.
+fn variable_offset(t: &[u8], s: table::Sections, sizes: &[u16], b: usize, v: usize) -> usize
+    requires { ⌜ Of (now t) s ⌝ }
+    requires { ⌜ Sizes (tableOf (s .w) (now t)) (now sizes) ⌝ }
+    requires { ⌜ Accepted (tableOf (s .w) (now t)) ⌝ }
+    requires { ⌜ (b < blockCount (tableOf (s .w) (now t))) × (blockKind (tableOf (s .w) (now t)) b ≤ 1) ⌝ }
+    requires { ⌜ belongs (tableOf (s .w) (now t)) b v ≡ true ⌝ }
+    ensures { λ r. ⌜ r ≡ offsetOf (tableOf (s .w) (now (t .entry))) b v ⌝ }
+{
+    let first = table::first_var(t, s, b);
+    sizes::var_offset(t, s, sizes, b, v - first)
+}
+
+// The word that process p, variable v and place k name.
+fn visible_word(
+    t: &[u8],
+    s: table::Sections,
+    sizes: &[u16],
+    state: &[u8],
+    p: usize,
+    v: usize,
+    k: usize,
+) -> u16
+    requires { ⌜ Of (now t) s ⌝ }
+    requires { ⌜ Sizes (tableOf (s .w) (now t)) (now sizes) ⌝ }
+    requires { ⌜ Accepted (tableOf (s .w) (now t)) ⌝ }
+    requires { ⌜ Lent 17664 (now state) ⌝ }
+    requires { ⌜ rule (tableOf (s .w) (now t)) (memoryOf (now state)) ≡ true ⌝ }
+    requires { ⌜ visible (tableOf (s .w) (now t)) (memoryOf (now state)) p v k ≡ true ⌝ }
+    ensures { λ r. ⌜ r ≡ memoryOf (now (state .entry)) (location p (offsetOf (tableOf (s .w) (now (t .entry))) (memoryOf (now (state .entry)) (moduleAt p)) v + k)) ⌝ }
+{
+    let b = wide(machine::record_word(state, p, 1));
+    let at = variable_offset(t, s, sizes, b, v);
+    machine::area_word(state, p, at + k)
+}
+
+// 65,536 and the word that process, variable and place name; 11 where they name none.
+pub fn look_word(
+    t: &[u8],
+    s: table::Sections,
+    sizes: &[u16],
+    state: &[u8],
+    process: u32,
+    variable: u32,
+    place: u32,
+) -> u32
+    requires { ⌜ Of (now t) s ⌝ }
+    requires { ⌜ Sizes (tableOf (s .w) (now t)) (now sizes) ⌝ }
+    requires { ⌜ Accepted (tableOf (s .w) (now t)) ⌝ }
+    requires { ⌜ Lent 17664 (now state) ⌝ }
+    requires { ⌜ rule (tableOf (s .w) (now t)) (memoryOf (now state)) ≡ true ⌝ }
+    ensures { λ r. ⌜ r ≡ look (tableOf (s .w) (now (t .entry))) (memoryOf (now (state .entry))) process variable place ⌝ }
+{
+    let p = process as usize;
+    let v = variable as usize;
+    let k = place as usize;
+    if is_visible(t, s, sizes, state, p, v, k) {
+        return 65536 + visible_word(t, s, sizes, state, p, v, k) as u32;
+    }
+    11
+}
+
+// The same of any state, where it is known whether it meets its rule: 10 where it does not.
+pub fn look_judged(
+    t: &[u8],
+    s: table::Sections,
+    sizes: &[u16],
+    state: &[u8],
+    ruled: bool,
+    process: u32,
+    variable: u32,
+    place: u32,
+) -> u32
+    requires { ⌜ Of (now t) s ⌝ }
+    requires { ⌜ Sizes (tableOf (s .w) (now t)) (now sizes) ⌝ }
+    requires { ⌜ Accepted (tableOf (s .w) (now t)) ⌝ }
+    requires { ⌜ Lent 17664 (now state) ⌝ }
+    requires { ⌜ ruled ≡ rule (tableOf (s .w) (now t)) (memoryOf (now state)) ⌝ }
+    ensures { λ r. ⌜ r ≡ lookJudged (tableOf (s .w) (now (t .entry))) (memoryOf (now (state .entry))) process variable place ⌝ }
+{
+    if ruled {
+        return look_word(t, s, sizes, state, process, variable, place);
+    }
+    10
+}
+
+// Begins a run of an accepted table: the array of the words of types is that of the small edition.
+fn begin_accepted(t: &[u8], s: table::Sections, state: &mut [u8])
+    requires { ⌜ Of (now t) s ⌝ }
+    requires { ⌜ s .w ≡ 1 ⌝ }
+    requires { ⌜ Accepted (tableOf (s .w) (now t)) ⌝ }
+    requires { ⌜ Lent 17664 (now state) ⌝ }
+    ensures { λ _. ⌜ now (state .exit) ≡ bytesOf 17664 (runs.begin (tableOf 1 (now (t .entry)))) ⌝ }
+{
+    let mut sizes = [0u16; 258];
+    sizes::find_sizes(t, s, &mut sizes[..]);
+    begin_state(t, s, &sizes[..], state);
+}
+
+// Makes the lent state that in which a run of the table begins, or refuses.
+pub fn begin(table: &[u8], state: &mut [u8]) -> u32
+    ensures { λ r. ⌜ begun r (now (state .exit)) ≡ beginCall (verdict 1) (now (table .entry)) (now (state .entry)) ⌝ }
+{
+    if state.len() == 35328 {
+        let v = verdict::check(table);
+        if v == 0 {
+            let r = table::read_sections(table, 1);
+            begin_accepted(table, r.sections, state);
+            return 0;
+        }
+        return v;
+    }
+    1
+}
