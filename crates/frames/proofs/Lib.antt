@@ -1,3 +1,4 @@
 pub mod Storing
 pub mod Writing
 pub mod Meanings
+pub mod Asking

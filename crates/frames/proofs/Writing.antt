@@ -218,3 +218,13 @@ begins s s1 s2 ws r c size c1 c2 = record { long = c2 .long; is = c2 .is ∙ rw 
 pub record-room : (n b : ℕ) → 1 ≤ n → n ≤ 64 → b ≡ recordAt n 0 → b + 20 ≤ 17664
 unfolding recordAt
 record-room n b h k e = omega arith
+
+-- ---- one write after another
+
+module _ (s1 s2 : List ℕ) (m : Memory) (i v : ℕ) where
+  pub then-update : Changed 17664 s1 m → Changed 17664 s2 (update (memoryOf s1) i v) → Changed 17664 s2 (update m i v)
+  then-update c1 c2 = record { long = c2 .long; is = rw (c2 .is, c1 .is) }
+
+  pub then-updates : (s3 : List ℕ) (j u : ℕ) → Changed 17664 s1 m → Changed 17664 s2 (update (memoryOf s1) i v)
+      → Changed 17664 s3 (update (memoryOf s2) j u) → Changed 17664 s3 (update (update m i v) j u)
+  then-updates s3 j u c1 c2 c3 = record { long = c3 .long; is = rw (c3 .is, c2 .is, c1 .is) }

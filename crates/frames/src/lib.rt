@@ -348,3 +348,60 @@ pub fn start(
     let c = table::first_stmt(t, s, b);
     begin(state, r, c as u16, size as u16, n, words);
 }
+
+// An assignment: the first n words of the buffer to `at`; process p goes on at statement c.
+pub fn assign(state: &mut [u8], p: usize, c: u16, at: usize, n: usize, words: &[u16])
+    requires { ⌜ Lent 17664 (now state) ⌝ }
+    requires { ⌜ (1 ≤ p) × (p ≤ 64) ⌝ }
+    requires { ⌜ (at + n ≤ 17664) × (n ≤ length (now words)) ⌝ }
+    ensures { λ _. ⌜ Changed 17664 (now (state .exit)) (update (store (memoryOf (now (state .entry))) at (take n (now (words .entry)))) (statementAt p) c) ⌝ }
+{
+    copy_words(state, at, n, words);
+    go_to(state, p, c);
+}
+
+// Process p enters an arm at statement c, and holds the variables of process w.
+pub fn enter_arm(state: &mut [u8], p: usize, w: usize, c: u16)
+    requires { ⌜ Lent 17664 (now state) ⌝ }
+    requires { ⌜ (1 ≤ p) × ((p ≤ 64) × ((1 ≤ w) × (w ≤ 64))) ⌝ }
+    ensures { λ _. ⌜ Changed 17664 (now (state .exit)) (update (update (memoryOf (now (state .entry))) (holderAt w) p) (statementAt p) c) ⌝ }
+{
+    hold(state, w, p as u16);
+    go_to(state, p, c);
+}
+
+// Process n is created, of module `block`, its number is stored at `at`, and process p goes on at statement c.
+pub fn create_at(state: &mut [u8], p: usize, c: u16, n: usize, block: u16, at: usize)
+    requires { ⌜ Lent 17664 (now state) ⌝ }
+    requires { ⌜ (1 ≤ p) × ((p ≤ 64) × ((1 ≤ n) × (n ≤ 64))) ⌝ }
+    requires { ⌜ at < 17664 ⌝ }
+    ensures { λ _. ⌜ Changed 17664 (now (state .exit)) (update (update (created (memoryOf (now (state .entry))) n block) at n) (statementAt p) c) ⌝ }
+{
+    create(state, n, block);
+    machine::set_word(state, 17664, at, n as u16);
+    go_to(state, p, c);
+}
+
+// Process r, of module b, is started, and process p goes on at statement c.
+pub fn start_on(
+    t: &[u8],
+    s: table::Sections,
+    state: &mut [u8],
+    p: usize,
+    c: u16,
+    r: usize,
+    b: usize,
+    size: usize,
+    n: usize,
+    words: &[u16],
+)
+    requires { ⌜ Of (now t) s ⌝ }
+    requires { ⌜ Lent 17664 (now state) ⌝ }
+    requires { ⌜ (1 ≤ p) × ((p ≤ 64) × ((1 ≤ r) × (r ≤ 64))) ⌝ }
+    requires { ⌜ (n ≤ 256) × ((n ≤ length (now words)) × (size < 65536)) ⌝ }
+    requires { ⌜ size ≡ moduleWords (tableOf (s .w) (now t)) b ⌝ }
+    ensures { λ _. ⌜ Changed 17664 (now (state .exit)) (update (started (tableOf (s .w) (now (t .entry))) (memoryOf (now (state .entry))) r b (take n (now (words .entry)))) (statementAt p) c) ⌝ }
+{
+    start(t, s, state, r, b, size, n, words);
+    go_to(state, p, c);
+}
