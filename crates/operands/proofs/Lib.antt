@@ -9,3 +9,4 @@ pub mod Evaluating
 pub mod Combining
 pub mod Comparing
 pub mod Lending
+pub mod Preparing

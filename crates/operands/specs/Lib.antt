@@ -2,3 +2,4 @@ pub mod Answers
 pub mod Places
 pub mod Operators
 pub mod Ready
+pub mod Filling

@@ -3,6 +3,7 @@
 pub mod eval;
 pub mod operators;
 pub mod places;
+pub mod prepare;
 
 // A location, or the failure of the step.
 pub enum Place {
