@@ -1,0 +1,4 @@
+pub mod Reading
+pub mod Values
+pub mod Parts
+pub mod Frames

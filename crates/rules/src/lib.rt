@@ -1,0 +1,648 @@
+// The test of the state rule (01, Verdicts and other refusals): the words of a lent state against an accepted table.
+ghost use mathlib.Core.Path.{_≡_};
+ghost use Prim.Native.Nat.{ℕ, _+_, _*_, _/_, _%_, _≤_, _<_};
+ghost use lib.Dec.{eqb};
+ghost use Rattle.basics.specs.Choice.{both};
+ghost use Rattle.table.specs.Table.{tableOf};
+ghost use Rattle.table.specs.Entries.{typeKind};
+ghost use Rattle.table.specs.Reading.{Of, Field};
+ghost use Rattle.sizes.specs.Sizes.{wordsOf, partWords};
+ghost use Rattle.machine.specs.Memory.{memoryOf};
+ghost use Rattle.machine.specs.Layout.{location, recordAt, createdAt};
+ghost use Rattle.machine.specs.Lent.{Lent};
+ghost use Rattle.machine.specs.Processes.{refers};
+ghost use Rattle.machine.specs.Variables.{varWords};
+ghost use Rattle.machine.specs.Step.{inRange};
+ghost use Rattle.machine.specs.Values.{holds, part, partOfBlock};
+ghost use Rattle.machine.specs.Rule.{owns, lives, modulesHold, framesHold};
+ghost use Rattle.rules.specs.Frames.{variableHolds, livesInModule, ownedIn, frameVariable};
+ghost use Rattle.rules.specs.Walks.{Ready, Near, Words, simpleHolds, referenceHolds, fieldsHold, elementsHold, RecordAt, ArrayAt, fieldBegins, fieldsBegin, elementBegins, variableBegins};
+
+fn wide(x: u16) -> usize
+    ensures { λ r. ⌜ Field x r ⌝ }
+{
+    x as usize
+}
+
+// Word i of the state, 0 beyond its end: a damaged state may name any word.
+fn word_or_zero(state: &[u8], i: usize) -> usize
+    requires { ⌜ Lent 17664 (now state) ⌝ }
+    ensures { λ r. ⌜ Field (memoryOf (now (state .entry)) i) r ⌝ }
+{
+    if i < 17664 {
+        return wide(machine::word_of(state, 17664, i));
+    }
+    0
+}
+
+// Word k of the control record of process p.
+fn record_word(state: &[u8], p: usize, k: usize) -> usize
+    requires { ⌜ Lent 17664 (now state) ⌝ }
+    requires { ⌜ (1 ≤ p) × ((p ≤ 65536) × (k < 20)) ⌝ }
+    ensures { λ r. ⌜ Field (memoryOf (now (state .entry)) (recordAt p k)) r ⌝ }
+{
+    word_or_zero(state, 16384 + (p - 1) * 20 + k)
+}
+
+// Word k from the beginning of the area of process p.
+fn area_word(state: &[u8], p: usize, k: usize) -> usize
+    requires { ⌜ Lent 17664 (now state) ⌝ }
+    requires { ⌜ (1 ≤ p) × ((p ≤ 64) × (k ≤ 14000000)) ⌝ }
+    ensures { λ r. ⌜ Field (memoryOf (now (state .entry)) (location p k)) r ⌝ }
+{
+    word_or_zero(state, (p - 1) * 256 + k)
+}
+
+// How many processes are created.
+fn created(state: &[u8]) -> usize
+    requires { ⌜ Lent 17664 (now state) ⌝ }
+    ensures { λ r. ⌜ Field (memoryOf (now (state .entry)) createdAt) r ⌝ }
+{
+    record_word(state, 1, 8)
+}
+
+fn in_range(low: usize, high: usize, n: usize) -> bool
+    ensures { λ r. ⌜ r ≡ inRange low high n ⌝ }
+{
+    if low <= n {
+        return n <= high;
+    }
+    false
+}
+
+// r is the number of a created process of a module.
+fn refers_to(state: &[u8], home: usize, r: usize) -> bool
+    requires { ⌜ Lent 17664 (now state) ⌝ }
+    requires { ⌜ r < 65536 ⌝ }
+    ensures { λ x. ⌜ x ≡ refers (memoryOf (now (state .entry))) home r ⌝ }
+{
+    if 2 <= r {
+        if r <= created(state) {
+            return record_word(state, r, 1) == home;
+        }
+        return false;
+    }
+    false
+}
+
+// The words of type x.
+fn words_of(t: &[u8], s: table::Sections, sizes: &[u16], x: usize) -> usize
+    requires { ⌜ Of (now t) s ⌝ }
+    requires { ⌜ Ready (tableOf (s .w) (now t)) (now sizes) ⌝ }
+    ensures { λ r. ⌜ Words (wordsOf (tableOf (s .w) (now (t .entry))) x) r ⌝ }
+{
+    sizes::size_of(t, s, sizes, x)
+}
+
+// A value of a standard type stands at location a.
+fn simple_holds(state: &[u8], x: usize, a: usize) -> bool
+    requires { ⌜ Lent 17664 (now state) ⌝ }
+    ensures { λ r. ⌜ r ≡ simpleHolds (memoryOf (now (state .entry))) x a ⌝ }
+{
+    if x == 0 {
+        return true;
+    }
+    if x == 1 {
+        return word_or_zero(state, a) <= 1;
+    }
+    if x == 2 {
+        return word_or_zero(state, a) <= 127;
+    }
+    false
+}
+
+// A process variable at location a is empty, or names a created process of its module.
+fn reference_holds(state: &[u8], home: usize, a: usize) -> bool
+    requires { ⌜ Lent 17664 (now state) ⌝ }
+    ensures { λ r. ⌜ r ≡ referenceHolds (memoryOf (now (state .entry))) home a ⌝ }
+{
+    let r = word_or_zero(state, a);
+    if r == 0 {
+        return true;
+    }
+    refers_to(state, home, r)
+}
+
+// A value of type x stands at location a.
+fn value_holds(
+    t: &[u8],
+    s: table::Sections,
+    sizes: &[u16],
+    state: &[u8],
+    x: usize,
+    a: usize,
+) -> bool
+    requires { ⌜ Of (now t) s ⌝ }
+    requires { ⌜ Ready (tableOf (s .w) (now t)) (now sizes) ⌝ }
+    requires { ⌜ Lent 17664 (now state) ⌝ }
+    requires { ⌜ Near (tableOf (s .w) (now t)) x a ⌝ }
+    ensures { λ r. ⌜ r ≡ holds (tableOf (s .w) (now (t .entry))) (memoryOf (now (state .entry))) x a ⌝ }
+{
+    let kind = table::type_kind(t, s, x);
+    if kind == 1 {
+        return fields_hold(t, s, sizes, state, x, a);
+    }
+    if kind == 2 {
+        return elements_hold(t, s, sizes, state, x, a);
+    }
+    if kind == 3 {
+        return reference_holds(state, table::type_p(t, s, x), a);
+    }
+    simple_holds(state, x, a)
+}
+
+fn fields_hold(
+    t: &[u8],
+    s: table::Sections,
+    sizes: &[u16],
+    state: &[u8],
+    x: usize,
+    a: usize,
+) -> bool
+    requires { ⌜ Of (now t) s ⌝ }
+    requires { ⌜ Ready (tableOf (s .w) (now t)) (now sizes) ⌝ }
+    requires { ⌜ Lent 17664 (now state) ⌝ }
+    requires { ⌜ RecordAt (tableOf (s .w) (now t)) (memoryOf (now state)) x a ⌝ }
+    ensures { λ r. ⌜ r ≡ fieldsHold (tableOf (s .w) (now (t .entry))) (memoryOf (now (state .entry))) x a ⌝ }
+{
+    let first = table::type_p(t, s, x);
+    let count = table::type_q(t, s, x);
+    let mut at = a;
+    let mut i = 0;
+    while i < count {
+        let f = table::field_type(t, s, first + i);
+        if x <= f {
+            return false;
+        }
+        if value_holds(t, s, sizes, state, f, at) {
+            at += words_of(t, s, sizes, f);
+            i += 1;
+        } else {
+            return false;
+        }
+    }
+    true
+}
+
+fn elements_hold(
+    t: &[u8],
+    s: table::Sections,
+    sizes: &[u16],
+    state: &[u8],
+    x: usize,
+    a: usize,
+) -> bool
+    requires { ⌜ Of (now t) s ⌝ }
+    requires { ⌜ Ready (tableOf (s .w) (now t)) (now sizes) ⌝ }
+    requires { ⌜ Lent 17664 (now state) ⌝ }
+    requires { ⌜ ArrayAt (tableOf (s .w) (now t)) (memoryOf (now state)) x a ⌝ }
+    ensures { λ r. ⌜ r ≡ elementsHold (tableOf (s .w) (now (t .entry))) (memoryOf (now (state .entry))) x a ⌝ }
+{
+    let q = table::type_q(t, s, x);
+    let count = types::elements_of(t, s, x);
+    let words = words_of(t, s, sizes, q);
+    let mut at = a;
+    let mut i = 0;
+    while i < count {
+        if x <= q {
+            return false;
+        }
+        if value_holds(t, s, sizes, state, q, at) {
+            at += words;
+            i += 1;
+        } else {
+            return false;
+        }
+    }
+    true
+}
+
+// k / w and k % w, also for no words (as the numbers of the definition have it).
+fn quotient(k: usize, w: usize) -> usize
+    ensures { λ r. ⌜ r ≡ k / w ⌝ }
+{
+    if w == 0 {
+        return 0;
+    }
+    k / w
+}
+
+fn remainder(k: usize, w: usize) -> usize
+    ensures { λ r. ⌜ r ≡ k % w ⌝ }
+{
+    if w == 0 {
+        return k;
+    }
+    k % w
+}
+
+// A variable of type x is the part of type y that begins at its word k.
+fn begins_whole(x: usize, y: usize, k: usize) -> bool
+    ensures { λ r. ⌜ r ≡ both (eqb x y) (eqb k 0) ⌝ }
+{
+    if x == y {
+        return k == 0;
+    }
+    false
+}
+
+// The words of type f as a part of type x: none where its number is not lower.
+fn part_words(t: &[u8], s: table::Sections, sizes: &[u16], x: usize, f: usize) -> usize
+    requires { ⌜ Of (now t) s ⌝ }
+    requires { ⌜ Ready (tableOf (s .w) (now t)) (now sizes) ⌝ }
+    ensures { λ r. ⌜ Words (partWords (tableOf (s .w) (now (t .entry))) x f) r ⌝ }
+{
+    if f < x {
+        return words_of(t, s, sizes, f);
+    }
+    0
+}
+
+// A part of type y begins at word k of a variable of type x.
+fn part_begins(t: &[u8], s: table::Sections, sizes: &[u16], x: usize, y: usize, k: usize) -> bool
+    requires { ⌜ Of (now t) s ⌝ }
+    requires { ⌜ Ready (tableOf (s .w) (now t)) (now sizes) ⌝ }
+    ensures { λ r. ⌜ r ≡ part (tableOf (s .w) (now (t .entry))) y x k ⌝ }
+{
+    if begins_whole(x, y, k) {
+        return true;
+    }
+    let kind = table::type_kind(t, s, x);
+    if kind == 1 {
+        return part_of_fields(t, s, sizes, x, y, k);
+    }
+    if kind == 2 {
+        return part_of_element(t, s, sizes, x, y, k);
+    }
+    false
+}
+
+fn part_of_fields(t: &[u8], s: table::Sections, sizes: &[u16], x: usize, y: usize, k: usize) -> bool
+    requires { ⌜ Of (now t) s ⌝ }
+    requires { ⌜ Ready (tableOf (s .w) (now t)) (now sizes) ⌝ }
+    ensures { λ r. ⌜ r ≡ fieldsBegin (tableOf (s .w) (now (t .entry))) y x k ⌝ }
+{
+    let first = table::type_p(t, s, x);
+    let count = table::type_q(t, s, x);
+    let mut at = 0;
+    let mut i = 0;
+    while i < count {
+        let f = table::field_type(t, s, first + i);
+        if part_of_field(t, s, sizes, x, y, k, f, at) {
+            return true;
+        }
+        at += part_words(t, s, sizes, x, f);
+        i += 1;
+    }
+    false
+}
+
+// The part begins in the field of type f that begins at word `at`.
+fn part_of_field(
+    t: &[u8],
+    s: table::Sections,
+    sizes: &[u16],
+    x: usize,
+    y: usize,
+    k: usize,
+    f: usize,
+    at: usize,
+) -> bool
+    requires { ⌜ Of (now t) s ⌝ }
+    requires { ⌜ Ready (tableOf (s .w) (now t)) (now sizes) ⌝ }
+    requires { ⌜ at ≤ 14000000 ⌝ }
+    ensures { λ r. ⌜ r ≡ fieldBegins (tableOf (s .w) (now (t .entry))) y x k f at ⌝ }
+{
+    if f < x {
+        if at <= k {
+            if k < at + words_of(t, s, sizes, f) {
+                return part_begins(t, s, sizes, f, y, k - at);
+            }
+            return false;
+        }
+        return false;
+    }
+    false
+}
+
+fn part_of_element(
+    t: &[u8],
+    s: table::Sections,
+    sizes: &[u16],
+    x: usize,
+    y: usize,
+    k: usize,
+) -> bool
+    requires { ⌜ Of (now t) s ⌝ }
+    requires { ⌜ Ready (tableOf (s .w) (now t)) (now sizes) ⌝ }
+    ensures { λ r. ⌜ r ≡ elementBegins (tableOf (s .w) (now (t .entry))) y x k ⌝ }
+{
+    let q = table::type_q(t, s, x);
+    if q < x {
+        let words = words_of(t, s, sizes, q);
+        if quotient(k, words) < types::elements_of(t, s, x) {
+            return part_begins(t, s, sizes, q, y, remainder(k, words));
+        }
+        return false;
+    }
+    false
+}
+
+// The words of variable v in its area or frame.
+fn var_words(t: &[u8], s: table::Sections, sizes: &[u16], v: usize) -> usize
+    requires { ⌜ Of (now t) s ⌝ }
+    requires { ⌜ Ready (tableOf (s .w) (now t)) (now sizes) ⌝ }
+    ensures { λ r. ⌜ Words (varWords (tableOf (s .w) (now (t .entry))) v) r ⌝ }
+{
+    if table::var_mode(t, s, v) == 2 {
+        return 1;
+    }
+    words_of(t, s, sizes, table::var_type(t, s, v))
+}
+
+// A part of type y begins at word k, in the variable v that begins at word `at`, no var parameter.
+fn part_of_variable(
+    t: &[u8],
+    s: table::Sections,
+    sizes: &[u16],
+    y: usize,
+    k: usize,
+    v: usize,
+    at: usize,
+) -> bool
+    requires { ⌜ Of (now t) s ⌝ }
+    requires { ⌜ Ready (tableOf (s .w) (now t)) (now sizes) ⌝ }
+    requires { ⌜ at ≤ 14000000 ⌝ }
+    ensures { λ r. ⌜ r ≡ variableBegins (tableOf (s .w) (now (t .entry))) y k v at ⌝ }
+{
+    if at <= k {
+        if k < at + var_words(t, s, sizes, v) {
+            if table::var_mode(t, s, v) == 2 {
+                return false;
+            }
+            return part_begins(t, s, sizes, table::var_type(t, s, v), y, k - at);
+        }
+        return false;
+    }
+    false
+}
+
+// A part of type y begins at word k of the variables of block b.
+fn part_of_block(t: &[u8], s: table::Sections, sizes: &[u16], b: usize, y: usize, k: usize) -> bool
+    requires { ⌜ Of (now t) s ⌝ }
+    requires { ⌜ Ready (tableOf (s .w) (now t)) (now sizes) ⌝ }
+    ensures { λ r. ⌜ r ≡ partOfBlock (tableOf (s .w) (now (t .entry))) b y k ⌝ }
+{
+    let first = table::first_var(t, s, b);
+    let count = table::block_vars(t, s, b);
+    let mut at = 0;
+    let mut i = 0;
+    while i < count {
+        if part_of_variable(t, s, sizes, y, k, first + i, at) {
+            return true;
+        }
+        at += var_words(t, s, sizes, first + i);
+        i += 1;
+    }
+    false
+}
+
+// Where word k from the beginning of the area of process p stands.
+fn location_at(p: usize, k: usize) -> usize
+    requires { ⌜ (1 ≤ p) × ((p ≤ 64) × (k ≤ 14000000)) ⌝ }
+    ensures { λ r. ⌜ (r ≡ location p k) × (r ≤ 15000000) ⌝ }
+{
+    (p - 1) * 256 + k
+}
+
+// Variable v, which begins at word `at` of the area of process p, has a value of its type.
+fn variable_holds(
+    t: &[u8],
+    s: table::Sections,
+    sizes: &[u16],
+    state: &[u8],
+    p: usize,
+    v: usize,
+    at: usize,
+) -> bool
+    requires { ⌜ Of (now t) s ⌝ }
+    requires { ⌜ Ready (tableOf (s .w) (now t)) (now sizes) ⌝ }
+    requires { ⌜ Lent 17664 (now state) ⌝ }
+    requires { ⌜ (1 ≤ p) × ((p ≤ 64) × (at ≤ 14000000)) ⌝ }
+    ensures { λ r. ⌜ r ≡ variableHolds (tableOf (s .w) (now (t .entry))) (memoryOf (now (state .entry))) p v at ⌝ }
+{
+    value_holds(
+        t,
+        s,
+        sizes,
+        state,
+        table::var_type(t, s, v),
+        location_at(p, at),
+    )
+}
+
+// The variables of block b, at the beginning of the area of process p, have values of their types.
+fn modules_hold(
+    t: &[u8],
+    s: table::Sections,
+    sizes: &[u16],
+    state: &[u8],
+    p: usize,
+    b: usize,
+) -> bool
+    requires { ⌜ Of (now t) s ⌝ }
+    requires { ⌜ Ready (tableOf (s .w) (now t)) (now sizes) ⌝ }
+    requires { ⌜ Lent 17664 (now state) ⌝ }
+    requires { ⌜ (1 ≤ p) × (p ≤ 64) ⌝ }
+    ensures { λ r. ⌜ r ≡ modulesHold (tableOf (s .w) (now (t .entry))) (memoryOf (now (state .entry))) p b ⌝ }
+{
+    let first = table::first_var(t, s, b);
+    let count = table::block_vars(t, s, b);
+    let mut at = 0;
+    let mut i = 0;
+    while i < count {
+        if variable_holds(t, s, sizes, state, p, first + i, at) {
+            at += var_words(t, s, sizes, first + i);
+            i += 1;
+        } else {
+            return false;
+        }
+    }
+    true
+}
+
+fn is_created(state: &[u8], p: usize) -> bool
+    requires { ⌜ Lent 17664 (now state) ⌝ }
+    ensures { λ r. ⌜ r ≡ inRange 1 (memoryOf (now (state .entry)) createdAt) p ⌝ }
+{
+    in_range(1, created(state), p)
+}
+
+// At location a, in the area of a created process, stands one of its module's variables of type y, or such a part of one.
+fn lives_in_module(
+    t: &[u8],
+    s: table::Sections,
+    sizes: &[u16],
+    state: &[u8],
+    y: usize,
+    a: usize,
+) -> bool
+    requires { ⌜ Of (now t) s ⌝ }
+    requires { ⌜ Ready (tableOf (s .w) (now t)) (now sizes) ⌝ }
+    requires { ⌜ Lent 17664 (now state) ⌝ }
+    requires { ⌜ a < 65536 ⌝ }
+    ensures { λ r. ⌜ r ≡ livesInModule (tableOf (s .w) (now (t .entry))) (memoryOf (now (state .entry))) y a ⌝ }
+{
+    let r = a / 256 + 1;
+    if is_created(state, r) {
+        return part_of_block(t, s, sizes, record_word(state, r, 1), y, a % 256);
+    }
+    false
+}
+
+// Word k of the area of process p lies in the frame at f, and a part of type y begins there.
+fn owned(
+    t: &[u8],
+    s: table::Sections,
+    sizes: &[u16],
+    state: &[u8],
+    p: usize,
+    f: usize,
+    y: usize,
+    k: usize,
+) -> bool
+    requires { ⌜ Of (now t) s ⌝ }
+    requires { ⌜ Ready (tableOf (s .w) (now t)) (now sizes) ⌝ }
+    requires { ⌜ Lent 17664 (now state) ⌝ }
+    requires { ⌜ (1 ≤ p) × ((p ≤ 64) × (f < 65536)) ⌝ }
+    ensures { λ r. ⌜ r ≡ ownedIn (tableOf (s .w) (now (t .entry))) (memoryOf (now (state .entry))) p f y k ⌝ }
+{
+    if f + 4 <= k {
+        return part_of_block(t, s, sizes, area_word(state, p, f + 3), y, k - (f + 4));
+    }
+    false
+}
+
+// Word k lies in one of the d calls of process p, the innermost of which has its frame at f.
+fn owns_word(
+    t: &[u8],
+    s: table::Sections,
+    sizes: &[u16],
+    state: &[u8],
+    p: usize,
+    d: usize,
+    f: usize,
+    y: usize,
+    k: usize,
+) -> bool
+    requires { ⌜ Of (now t) s ⌝ }
+    requires { ⌜ Ready (tableOf (s .w) (now t)) (now sizes) ⌝ }
+    requires { ⌜ Lent 17664 (now state) ⌝ }
+    requires { ⌜ (1 ≤ p) × ((p ≤ 64) × (f < 65536)) ⌝ }
+    ensures { λ r. ⌜ r ≡ owns (tableOf (s .w) (now (t .entry))) (memoryOf (now (state .entry))) p d f y k ⌝ }
+{
+    let mut n = d;
+    let mut g = f;
+    while 0 < n {
+        if owned(t, s, sizes, state, p, g, y, k) {
+            return true;
+        }
+        g = area_word(state, p, g);
+        n -= 1;
+    }
+    false
+}
+
+// At location a stands a live variable of type y, or such a part of one.
+fn lives_at(
+    t: &[u8],
+    s: table::Sections,
+    sizes: &[u16],
+    state: &[u8],
+    p: usize,
+    d: usize,
+    f: usize,
+    y: usize,
+    a: usize,
+) -> bool
+    requires { ⌜ Of (now t) s ⌝ }
+    requires { ⌜ Ready (tableOf (s .w) (now t)) (now sizes) ⌝ }
+    requires { ⌜ Lent 17664 (now state) ⌝ }
+    requires { ⌜ (1 ≤ p) × ((p ≤ 64) × ((f < 65536) × (a < 65536))) ⌝ }
+    ensures { λ r. ⌜ r ≡ lives (tableOf (s .w) (now (t .entry))) (memoryOf (now (state .entry))) p d f y a ⌝ }
+{
+    if lives_in_module(t, s, sizes, state, y, a) {
+        return true;
+    }
+    if a / 256 + 1 == p {
+        return owns_word(t, s, sizes, state, p, d, f, y, a % 256);
+    }
+    false
+}
+
+// Variable v, which begins at word `at` of the variables of the frame at f: a var parameter names a live variable of its type.
+fn frame_variable_holds(
+    t: &[u8],
+    s: table::Sections,
+    sizes: &[u16],
+    state: &[u8],
+    p: usize,
+    d: usize,
+    f: usize,
+    v: usize,
+    at: usize,
+) -> bool
+    requires { ⌜ Of (now t) s ⌝ }
+    requires { ⌜ Ready (tableOf (s .w) (now t)) (now sizes) ⌝ }
+    requires { ⌜ Lent 17664 (now state) ⌝ }
+    requires { ⌜ (1 ≤ p) × ((p ≤ 64) × ((f < 65536) × (at ≤ 13900000))) ⌝ }
+    ensures { λ r. ⌜ r ≡ frameVariable (tableOf (s .w) (now (t .entry))) (memoryOf (now (state .entry))) p d f v at ⌝ }
+{
+    if table::var_mode(t, s, v) == 2 {
+        let a = area_word(state, p, f + 4 + at);
+        return lives_at(
+            t,
+            s,
+            sizes,
+            state,
+            p,
+            d,
+            area_word(state, p, f),
+            table::var_type(t, s, v),
+            a,
+        );
+    }
+    variable_holds(t, s, sizes, state, p, v, f + 4 + at)
+}
+
+// The variables of a call of procedure q with its frame at f.
+fn frames_hold(
+    t: &[u8],
+    s: table::Sections,
+    sizes: &[u16],
+    state: &[u8],
+    p: usize,
+    d: usize,
+    f: usize,
+    q: usize,
+) -> bool
+    requires { ⌜ Of (now t) s ⌝ }
+    requires { ⌜ Ready (tableOf (s .w) (now t)) (now sizes) ⌝ }
+    requires { ⌜ Lent 17664 (now state) ⌝ }
+    requires { ⌜ (1 ≤ p) × ((p ≤ 64) × (f < 65536)) ⌝ }
+    ensures { λ r. ⌜ r ≡ framesHold (tableOf (s .w) (now (t .entry))) (memoryOf (now (state .entry))) p d f q ⌝ }
+{
+    let first = table::first_var(t, s, q);
+    let count = table::block_vars(t, s, q);
+    let mut at = 0;
+    let mut i = 0;
+    while i < count {
+        if frame_variable_holds(t, s, sizes, state, p, d, f, first + i, at) {
+            at += var_words(t, s, sizes, first + i);
+            i += 1;
+        } else {
+            return false;
+        }
+    }
+    true
+}
