@@ -17,7 +17,7 @@ use Rattle.machine.specs.Run.{Run, ran, onDone, before, run, begin}
 use Rattle.machine.specs.Rule.{rule}
 use Rattle.machine.specs.Public.{Called, called, refusal, finished, runLengths, beginRefusal, beginCall, runRefusal, runCall}
 use Rattle.sound.specs.Reached.{Reached, Page, StepLaws, BeginLaw}
-use Rattle.sound.specs.Histories.{Seen, stateBytes, pageBytes, seen, trace, asked, told, processes, answers, finally, Threaded, Seeing, Every, begunResult, begunState, result, stateLeft, answersLeft, Ask, callOf, refused, stepsOf, orderOf, writtenOf, history, order, written, Served, Handed, stateAfter, Fits, Calls, begunWith, steps}
+use Rattle.sound.specs.Histories.{Seen, stateBytes, pageBytes, seen, trace, asked, told, processes, answers, finally, Threaded, Seeing, devicesAfter, Every, begunResult, begunState, result, stateLeft, pageLeft, answersLeft, Ask, callOf, refused, stepsOf, orderOf, writtenOf, history, order, written, Served, Devices, Handed, stateAfter, Fits, Calls, begunWith, steps}
 use Rattle.sound.proofs.HistoriesSized.{step-sized}
 use Rattle.sound.proofs.HistoriesBytes.{bytes-memory, memory-bytes, length-bytes, memory-small, memory-sized}
 
@@ -136,10 +136,11 @@ pub record Traced (T : Table) (q : List ℕ) (m page : Memory) : Type 0 where
   pub answered : answers (trace T q m page) ≡ given
   pub long : length given ≡ length q
   pub seeing : Seeing (pageBytes page) (trace T q m page)
+  pub leaving : devicesAfter (pageBytes page) (trace T q m page) ≡ pageBytes devices
 
 module _ (T : Table) (laws : StepLaws T) where
   traced-none : (m page : Memory) → Reached T m → Page page → Traced T [] m page
-  unfolding run trace processes answers Seeing
+  unfolding run trace processes answers Seeing devicesAfter
   traced-none m page h g = record {
     given = [];
     state = m;
@@ -152,11 +153,12 @@ module _ (T : Table) (laws : StepLaws T) where
     answered = refl;
     long = refl;
     seeing = tt;
+    leaving = refl;
   }
 
   traced-more : (p : ℕ) (q : List ℕ) (m page : Memory) → Reached T m → Page page → (a : ℕ) (s d : Memory) → step T m page p ≡ done a s d
       → a < 256 → Reached T s → Page d → Traced T q s d → Traced T (p ∷ q) m page
-  unfolding before processes answers seen Seeing
+  unfolding before processes answers seen Seeing devicesAfter
   traced-more p q m page h g a s d e b h' g' t = record {
     given = a ∷ t .given;
     state = t .state;
@@ -169,6 +171,7 @@ module _ (T : Table) (laws : StepLaws T) where
     answered = rw (trace-done T m page p a s d e q, t .answered);
     long = ap suc (t .long);
     seeing = rw (trace-done T m page p a s d e q) (refl, t .seeing);
+    leaving = rw (trace-done T m page p a s d e q) (t .leaving);
   }
 
   -- NO STEP OF A RUN IS STUCK
@@ -193,6 +196,12 @@ module _ (s d out : List ℕ) where
   shape-refused true n (ran l m page) e = no-true e
   shape-refused true n Run.stuck e = refl
   shape-refused false n r e = refl
+
+  shape-page : (b : Bool) (n : ℕ) (r : Run) → pick (eqb (result (shape b n r)) 0) false true ≡ true → pageLeft (shape b n r) ≡ d
+  unfolding shape finished result pageLeft
+  shape-page true n (ran l m page) e = no-true e
+  shape-page true n Run.stuck e = refl
+  shape-page false n r e = refl
 
   shape-open : (b : Bool) (n : ℕ) (r : Run) → eqb n 0 ≡ b → pick (eqb (result (shape b n r)) 0) false true ≡ false → b ≡ true
   unfolding shape finished result
@@ -229,6 +238,10 @@ module _ (verdict : List ℕ → ℕ) where
   refused-same : (s : List ℕ) (x : Ask) → refused verdict s x ≡ true → stateLeft (callOf verdict s x) ≡ s
   unfolding refused callOf runCall shape
   refused-same s x e = shape-refused s (x .page) (x .answers) (eqb (runRefusal verdict (x .table) s (x .page) (x .schedule) (x .answers)) 0) (runRefusal verdict (x .table) s (x .page) (x .schedule) (x .answers)) (run (tableOf 1 (x .table)) (x .schedule) (memoryOf s) (memoryOf (x .page))) e
+
+  refused-page : (s : List ℕ) (x : Ask) → refused verdict s x ≡ true → pageLeft (callOf verdict s x) ≡ x .page
+  unfolding refused callOf runCall shape
+  refused-page s x e = shape-page s (x .page) (x .answers) (eqb (runRefusal verdict (x .table) s (x .page) (x .schedule) (x .answers)) 0) (runRefusal verdict (x .table) s (x .page) (x .schedule) (x .answers)) (run (tableOf 1 (x .table)) (x .schedule) (memoryOf s) (memoryOf (x .page))) e
 
   open-zero : (s : List ℕ) (x : Ask) → refused verdict s x ≡ false → eqb (runRefusal verdict (x .table) s (x .page) (x .schedule) (x .answers)) 0 ≡ true
   unfolding refused callOf runCall shape
@@ -315,23 +328,36 @@ module _ (verdict : List ℕ → ℕ) where
     unfolding pageBytes
     page-handed x b e = memory-bytes 4096 (x .page) b e
 
-    call-seeing : (s : List ℕ) (x : Ask) → At (tableOf 1 t) s → Fits verdict t s x → Seeing (x .page) (stepsOf verdict s x)
-    unfolding stepsOf Seeing
-    call-seeing s x h f =
+    run-devices : (s : List ℕ) (x : Ask) (m : Memory) → s ≡ stateBytes m → Reached (tableOf 1 t) m → refused verdict s x ≡ false → x .table ≡ t → Page (memoryOf (x .page))
+        → pageBytes (memoryOf (x .page)) ≡ x .page → Devices verdict s x
+    unfolding stepsOf Seeing pageLeft
+    run-devices s x m i h e k g same =
+        let back : memoryOf s ≡ m = ap memoryOf i ∙ state-memory (tableOf 1 t) m h in
+        let r = traced (tableOf 1 t) laws (x .schedule) m (memoryOf (x .page)) h g in
+        let is : run (tableOf 1 (x .table)) (x .schedule) (memoryOf s) (memoryOf (x .page)) ≡ ran (r .given) (r .state) (r .devices) = rw (k, back) (r .is) in
+        let c = open-call s x (r .given) (r .state) (r .devices) e is in
+        record {
+          seeing = rw (e, k, back) (rw same at (r .seeing));
+          left = rw (c, e, k, back) (sym (rw same at (r .leaving)));
+        }
+
+    call-devices : (s : List ℕ) (x : Ask) → At (tableOf 1 t) s → Fits verdict t s x → Devices verdict s x
+    unfolding stepsOf Seeing devicesAfter
+    call-devices s x h f =
         cases (refused verdict s x)
-        (λ e. rw e tt)
+        (λ e. record { seeing = rw e tt; left = rw (e, refused-page s x e) })
         (λ e.
-        let back : memoryOf s ≡ h .memory = ap memoryOf (h .is) ∙ state-memory (tableOf 1 t) (h .memory) (h .reached) in
-        let g : Page (memoryOf (x .page)) = record { words = memory-small (x .page) (f .bytes); sized = memory-sized (x .page) 4096 (open-lengths s x e .pages) } in
-        let r = traced (tableOf 1 t) laws (x .schedule) (h .memory) (memoryOf (x .page)) (h .reached) g in
-        rw (e, f .same e, back) (rw (page-handed x (f .bytes) (open-lengths s x e .pages)) at (r .seeing)))
+        let l = open-lengths s x e .pages in
+        run-devices s x (h .memory) (h .is) (h .reached) e (f .same e)
+        (record { words = memory-small (x .page) (f .bytes); sized = memory-sized (x .page) 4096 l })
+        (page-handed x (f .bytes) l))
 
     -- what the steps see of the devices
     pub handed : (s : List ℕ) (xs : List Ask) → At (tableOf 1 t) s → Calls verdict t s xs → Handed verdict s xs
     unfolding Calls Handed
     handed s [] h c = tt
     handed s (x ∷ xs) h c =
-        (call-seeing s x h (c .0), handed (stateLeft (callOf verdict s x)) xs (call-follows s x h (c .0) .next) (c .1))
+        (call-devices s x h (c .0), handed (stateLeft (callOf verdict s x)) xs (call-follows s x h (c .0) .next) (c .1))
 
     state-long : (m : Memory) → length (stateBytes m) ≡ 35328
     unfolding stateBytes bytesOf

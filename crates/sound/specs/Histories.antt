@@ -78,6 +78,11 @@ unfoldable pub Seeing : List ℕ → List Seen → Type 0
 Seeing d [] = Unit
 Seeing d (e ∷ es) = (e .given ≡ d) × Seeing (e .left) es
 
+-- the device words that the steps leave, from d
+unfoldable pub devicesAfter : List ℕ → List Seen → List ℕ
+devicesAfter d [] = d
+devicesAfter d (e ∷ es) = devicesAfter (e .left) es
+
 -- P holds of every step
 unfoldable pub Every : (Seen → Type 0) → List Seen → Type 0
 Every P [] = Unit
@@ -101,6 +106,9 @@ result (called r s d out) = r
 
 unfoldable pub stateLeft : Called → List ℕ
 stateLeft (called r s d out) = s
+
+unfoldable pub pageLeft : Called → List ℕ
+pageLeft (called r s d out) = d
 
 unfoldable pub answersLeft : Called → List ℕ
 answersLeft (called r s d out) = out
@@ -149,10 +157,14 @@ module _ (verdict : List ℕ → ℕ) where
   Served t s (x ∷ xs) =
       (x .table ≡ t → length (x .page) ≡ 8192 → length (x .schedule) ≤ length (x .answers) → refused s x ≡ false) × Served t (stateLeft (callOf s x)) xs
 
-  -- the first step of a call sees the device words handed over, each other those that the last one left
+  -- the first step of a call sees the device words handed over, each other those that the last one left; the call leaves those of its last step
+  pub record Devices (s : List ℕ) (x : Ask) : Type 0 where
+    pub seeing : Seeing (x .page) (stepsOf s x)
+    pub left : pageLeft (callOf s x) ≡ devicesAfter (x .page) (stepsOf s x)
+
   unfoldable pub Handed : List ℕ → List Ask → Type 0
   Handed s [] = Unit
-  Handed s (x ∷ xs) = Seeing (x .page) (stepsOf s x) × Handed (stateLeft (callOf s x)) xs
+  Handed s (x ∷ xs) = Devices s x × Handed (stateLeft (callOf s x)) xs
 
   unfoldable pub stateAfter : List ℕ → List Ask → List ℕ
   stateAfter s [] = s
