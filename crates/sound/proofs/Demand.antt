@@ -1,8 +1,8 @@
 -- DEMAND 3 is met (01, A run, for demand 3; Agreement). Assumes nothing.
-use Prim.Native.Nat.{ℕ, _≤_}
+use Prim.Native.Nat.{ℕ, _+_, _≤_}
 use mathlib.Core.Path.{_≡_, refl, sym, ap, _∙_}
 use mathlib.Core.Bool.{true}
-use mathlib.Core.List.{List, [], _∷_}
+use mathlib.Core.List.{List, [], _∷_, _++_}
 use lib.ListN.{length}
 use lib.Dec.{eqb}
 use borrow.Author.Tests.{eqb-true, eqb-false, eq-eqb}
@@ -11,7 +11,7 @@ use Rattle.basics.proofs.Bools.{zero-test}
 use Rattle.table.specs.Table.{Table, tableOf}
 use mathlib.Core.Logic.{inl, inr}
 use Rattle.machine.specs.Memory.{Memory, memoryOf, update}
-use Rattle.machine.specs.Layout.{failureAt}
+use Rattle.machine.specs.Layout.{moduleAt, createdAt, failureAt}
 use native.Mathlib.Omega.{arith}
 use Rattle.machine.specs.Step.{Step, done, step}
 use Rattle.machine.specs.Run.{begin}
@@ -19,12 +19,14 @@ use Rattle.machine.specs.Rule.{rule}
 use Rattle.machine.specs.Public.{beginRefusal, beginCall}
 use Rattle.verdict.specs.Accepted.{Accepted}
 use Rattle.sound.specs.Reached.{Reached, WordTable, StepLaws, BeginLaw}
-use Rattle.sound.specs.Histories.{Seen, asked, told, Threaded, Every, Lasting, Calls, begunResult, History, first, steps}
+use Rattle.sound.specs.Histories.{Seen, asked, told, finally, Threaded, Every, Lasting, Calls, begunResult, History, first, steps}
 use Rattle.sound.specs.InUse.{ValuesHold}
+use Rattle.sound.specs.Created.{creations, ProcessesKept}
 use Rattle.sound.specs.Rows.{Changes, failureMark, nothing, givesUp, absent, others}
 use Rattle.sound.specs.Demand.{StepHolds, Demand3}
-use Rattle.sound.proofs.HistoriesBegin.{word-table, begin-reached}
-use Rattle.sound.proofs.Histories.{StepOf, At, at-memory, follows, served, handed, same-told, begun-at, at-begin}
+use Rattle.sound.proofs.HistoriesBegin.{word-table, begin-reached, begin-block, begin-created}
+use Rattle.sound.proofs.Histories.{StepOf, state-memory, At, at-memory, follows, served, handed, same-told, begun-at, at-begin}
+use Rattle.sound.proofs.HistoriesCreated.{CreatedIn, step-created, created-count, created-kept}
 use Rattle.sound.proofs.HistoriesValues.{rule-values}
 use Rattle.sound.proofs.Rows.{rows-hold, same-failure}
 
@@ -46,6 +48,7 @@ step-holds T laws e h =
       is = h .is;
       values = reached-values T _ (h .reached);
       bindings = laws .bindings _ _ _ (h .start .ruled) (h .start .words) (h .devices .words) _ _ _ (h .is);
+      created = step-created T _ _ _ _ _ _ (h .is);
       row = λ z. rows-hold T _ _ _ z free .given (e .answer) (record { state = memoryOf (e .after); devices = memoryOf (e .left); is = h .is });
       rows = λ z. rows-hold T _ _ _ z free;
       failed = λ n. same-failure T _ _ _ n free;
@@ -144,6 +147,22 @@ module _ (verdict : List ℕ → ℕ)
         let c : Calls verdict (h .table) (first verdict h) (k .calls) = rw (s, e) at (k .fits) in
         rw s (same-told verdict (h .table) laws (first verdict h) (k .calls) (h .calls) at-first c (h .fits) (rw s at q))
 
+    first-memory : memoryOf (first verdict h) ≡ begin (tableOf 1 (h .table))
+    first-memory =
+        ap memoryOf (begun-at verdict (h .table) laws (h .slice) begin-law (h .begins)) ∙ state-memory _ _ (begin-law .reached)
+
+    module _ (t : Threaded (first verdict h) (steps verdict h)) (every : Every (StepHolds (tableOf 1 (h .table))) (steps verdict h)) where
+      each-creates : Every (CreatedIn (tableOf 1 (h .table))) (steps verdict h)
+      each-creates = every-map _ _ (λ e k. k .created) _ every
+
+      count-is : (es fs : List Seen) → es ++ fs ≡ steps verdict h → memoryOf (finally (first verdict h) es) createdAt ≡ 1 + creations (tableOf 1 (h .table)) es
+      count-is es fs e =
+          created-count (tableOf 1 (h .table)) (first verdict h) es fs (rw e t) (rw e each-creates)
+          ∙ ap (λ n. n + creations (tableOf 1 (h .table)) es) (ap (λ (m : Memory). m createdAt) first-memory ∙ begin-created (tableOf 1 (h .table)))
+
+      stay : (es fs gs : List Seen) → es ++ (fs ++ gs) ≡ steps verdict h → ProcessesKept (memoryOf (finally (first verdict h) es)) (memoryOf (finally (first verdict h) (es ++ fs)))
+      stay es fs gs e = created-kept (tableOf 1 (h .table)) (first verdict h) es fs gs (rw e t) (rw e each-creates)
+
     -- THE THEOREM
     pub demand3 : Demand3 verdict h
     demand3 =
@@ -159,5 +178,8 @@ module _ (verdict : List ℕ → ℕ)
           holds = every;
           lasting = lasts (tableOf 1 (h .table)) _ _ (f .course .threaded) every;
           last = f .course .last;
+          program = ap (λ (m : Memory). m (moduleAt 1)) first-memory ∙ begin-block (tableOf 1 (h .table));
+          created = count-is (f .course .threaded) every;
+          kept = stay (f .course .threaded) every;
           agrees = agree;
         }

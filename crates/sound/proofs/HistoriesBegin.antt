@@ -1,6 +1,6 @@
 -- Begin's state is one of 17,664 words, and the numbers of a table of bytes are words. Assumes nothing.
 use Prim.Native.Nat.{ℕ, _+_, _*_, _<_}
-use mathlib.Core.Path.{_≡_}
+use mathlib.Core.Path.{_≡_, refl}
 use mathlib.Core.Bool.{true}
 use mathlib.Core.List.{List}
 use native.Mathlib.Omega.{arith}
@@ -14,6 +14,7 @@ use Rattle.sizes.specs.Sizes.{moduleWords}
 use Rattle.sizes.proofs.Promise.{module-most}
 use Rattle.numbers.proofs.BlockPromise.{program-there, program-kind}
 use Rattle.machine.specs.Memory.{Memory, update, zeros}
+use Rattle.machine.specs.Layout.{recordAt, moduleAt, createdAt}
 use Rattle.machine.specs.Calls.{standing}
 use Rattle.machine.specs.Run.{begin}
 use Rattle.machine.specs.Rule.{rule}
@@ -49,3 +50,12 @@ begin-reached T ok words ruled =
     let kind = program-kind T (ok .numbers) in
     let most = module-most T (ok .sizes) 0 there (omega arith) in
     record { reached = record { ruled = ruled; words = begin-small T (words .cells 3 0 5) (omega arith); sized = begin-sized T } }
+
+-- it has one process, which runs block 0
+pub begin-created : (T : Table) → begin T createdAt ≡ 1
+unfolding begin standing update zeros recordAt
+begin-created T = refl
+
+pub begin-block : (T : Table) → begin T (moduleAt 1) ≡ 0
+unfolding begin standing update zeros recordAt
+begin-block T = refl

@@ -70,7 +70,8 @@ location-plus : (p k j : ℕ) → location p (k + j) ≡ location p k + j
 unfolding location
 location-plus p k j = omega arith
 
-room : (T : Table) (i τ σ : ℕ) (ws : List ℕ) → fits T i τ ≡ true → length ws ≡ wordsOf T σ → matches T τ σ ≡ true → i + length ws ≤ 17664
+-- a value of a type that matches a place's fits there
+pub room : (T : Table) (i τ σ : ℕ) (ws : List ℕ) → fits T i τ ≡ true → length ws ≡ wordsOf T σ → matches T τ σ ≡ true → i + length ws ≤ 16384
 unfolding fits
 room T i τ σ ws f l e =
     let a : i < 16384 = ltb-true _ _ (both-l _ _ f) in
@@ -107,7 +108,8 @@ module _ (T : Table) (m page : Memory) (x : Context) (hm : Sized 17664 m) (hp : 
       g-place Inside none (operand T m page x a) _ (λ f e. fails)
       (λ i τ e. g-value Inside none (operand T m page x b) _ (λ f q. fails)
       (λ σ ws q. g-test Inside none (matches T τ σ) _ (λ h.
-      goon-in _ (store-sized 17664 m hm i ws (room T i τ σ ws (place-fits T m page x a i τ e) (value-long T m page x b σ ws q) h)))))
+      let r = room T i τ σ ws (place-fits T m page x a i τ e) (value-long T m page x b σ ws q) h in
+      goon-in _ (store-sized 17664 m hm i ws (omega arith)))))
 
   -- a frame that fits its area
   pushed-in : (s : Memory) (q r : ℕ) (ws : List ℕ) → Sized 17664 s → length ws ≤ frameWords T q → topAfter T m page x q ≤ 256 → Sized 17664 (pushed T m page x s q r ws)

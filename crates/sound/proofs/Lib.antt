@@ -16,7 +16,9 @@ pub mod Histories
 pub mod HistoriesBegin
 pub mod HistoriesBindings
 pub mod HistoriesBytes
+pub mod HistoriesCreated
 pub mod HistoriesOperands
+pub mod HistoriesRecords
 pub mod HistoriesSized
 pub mod HistoriesValues
 pub mod Rows

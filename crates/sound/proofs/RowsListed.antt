@@ -36,7 +36,7 @@ module _ (T : Table) (m page : Memory) (x : Context) where
   guards-listed f i (thisGuard {g = g} e h) = node-listed f g h
   guards-listed f i (laterGuard {l = l} e y z h) = guards-listed f l h
 
-  statement-listed : (f : ℕ) (S : Statement) → StatementFails T m page x f S → Listed f
+  pub statement-listed : (f : ℕ) (S : Statement) → StatementFails T m page x f S → Listed f
   statement-listed f _ (target h) = node-listed f _ h
   statement-listed f _ (source y h) = node-listed f _ h
   statement-listed f _ (localArgument h) = arguments-listed f _ _ _ h

@@ -1,14 +1,15 @@
 -- Demand 3, one statement about a begin and a list of run calls (01, A run, for demand 3; Agreement). Assumes nothing.
-use Prim.Native.Nat.{ℕ}
+use Prim.Native.Nat.{ℕ, _+_}
 use mathlib.Core.Path.{_≡_}
-use mathlib.Core.List.{List}
+use mathlib.Core.List.{List, _++_}
 use Rattle.table.specs.Table.{Table, tableOf}
 use Rattle.machine.specs.Memory.{memoryOf}
-use Rattle.machine.specs.Layout.{failureAt}
+use Rattle.machine.specs.Layout.{moduleAt, createdAt, failureAt}
 use Rattle.machine.specs.Step.{done, step}
 use Rattle.sound.specs.Histories.{Seen, asked, told, processes, answers, finally, Threaded, Every, Lasting, order, written, Served, Handed, stateAfter, History, first, steps}
 use Rattle.sound.specs.InUse.{ValuesHold}
 use Rattle.sound.specs.Bindings.{BindingsKept}
+use Rattle.sound.specs.Created.{creations, ProcessesKept, CreatedKept}
 use Rattle.sound.specs.Rows.{Row, RowsHold, SameFailure}
 
 -- OF A STEP
@@ -19,6 +20,9 @@ pub record StepHolds (T : Table) (e : Seen) : Type 0 where
   pub values : ValuesHold T (memoryOf (e .after))
   -- it leaves every var parameter of a call that has not ended bound to what its argument selected
   pub bindings : BindingsKept T (memoryOf (e .before)) (memoryOf (e .after))
+  -- it creates a process, of the module that the variable's type names, exactly if it carries out a create; those created before stay,
+  -- each of its module
+  pub created : CreatedKept T (memoryOf (e .before)) (memoryOf (e .given)) (e .process) (e .answer) (memoryOf (e .after))
   -- while the run has not failed, it advances, waits, ends, finds no such process or fails by a listed number exactly if its row's condition
   -- holds, and changes what the row says; afterwards it gives the same number and changes nothing
   pub row : memoryOf (e .before) failureAt ≡ 0 → Row T (memoryOf (e .before)) (memoryOf (e .given)) (e .process) (e .answer)
@@ -42,6 +46,14 @@ module _ (verdict : List ℕ → ℕ) where
     pub lasting : Lasting (steps verdict h)
     -- the calls leave the state that the last step left
     pub last : finally (first verdict h) (steps verdict h) ≡ stateAfter verdict (first verdict h) (h .calls)
+    -- at the start process 1, which runs block 0, is the one created; after the first steps, es, there is one more for each create that
+    -- these carried out
+    pub program : memoryOf (first verdict h) (moduleAt 1) ≡ 0
+    pub created : (es fs : List Seen) → es ++ fs ≡ steps verdict h
+        → memoryOf (finally (first verdict h) es) createdAt ≡ 1 + creations (tableOf 1 (h .table)) es
+    -- each that is created after the steps es stays so over the next ones, fs, of the same module, and its status does not fall
+    pub kept : (es fs gs : List Seen) → es ++ (fs ++ gs) ≡ steps verdict h
+        → ProcessesKept (memoryOf (finally (first verdict h) es)) (memoryOf (finally (first verdict h) (es ++ fs)))
     -- a run begun alike that names the same order and sees the same device words gives the same answers, states and device words,
     -- wherever the calls of the two begin and end
     pub agrees : (k : History verdict) → k .table ≡ h .table → asked (steps verdict k) ≡ asked (steps verdict h) → told (steps verdict k) ≡ told (steps verdict h)

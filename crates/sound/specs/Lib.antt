@@ -6,4 +6,5 @@ pub mod Reached
 pub mod InUse
 pub mod Bindings
 pub mod Rows
+pub mod Created
 pub mod Demand

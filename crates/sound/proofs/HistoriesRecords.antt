@@ -1,0 +1,144 @@
+-- What a write does to the processes created, as the records of processes say it: how many they are, their modules, and their status. Assumes nothing.
+use Prim.Native.Nat.{ℕ, _+_, _≤_, _<_}
+use mathlib.Core.Path.{_≡_, refl, _∙_}
+use mathlib.Core.List.{List}
+use native.Mathlib.Omega.{arith}
+use lib.Dec.{eqb}
+use lib.ListN.{length}
+use borrow.Author.Tests.{eqb-true, eqb-false}
+use Rattle.basics.specs.Choice.{cases}
+use Rattle.machine.specs.Memory.{Memory, update, store}
+use Rattle.machine.specs.Layout.{location, recordAt, statusAt, moduleAt, statementAt, createdAt}
+use Rattle.machine.specs.Calls.{standing}
+use Rattle.machine.specs.Processes.{created}
+use Rattle.sound.specs.InUse.{Created}
+use Rattle.sound.specs.Created.{NewProcess, ProcessesKept}
+use Rattle.sound.proofs.StoresMemory.{update-same, update-other, store-after, clear-before, clear-after, record-high}
+
+pub location-end : (p k n : ℕ) → p ≤ 64 → k + n ≤ 256 → location p k + n ≤ 16384
+unfolding location
+location-end p k n l h = omega arith
+
+-- words i and k of records differ
+record Unlike (i k : ℕ) : Type 0 where
+  left : i < 20
+  right : k < 20
+  apart : i ≡ k → ⊥
+
+unlike-words : (p q i k : ℕ) → Unlike i k → recordAt p i ≡ recordAt q k → ⊥
+unfolding recordAt
+unlike-words p q i k u e = let a = u .left in let b = u .right in let n = u .apart in omega arith
+
+-- ---- the records of all processes say the same of their modules and count, and no status falls
+
+-- word k of a record is neither its status nor its module, nor the count
+pub record Unread (k : ℕ) : Type 0 where
+  pub low : 2 ≤ k
+  pub high : k < 20
+  pub other : k ≡ 8 → ⊥
+
+pub record Still (m s : Memory) : Type 0 where
+  pub count : s createdAt ≡ m createdAt
+  pub block : (r : ℕ) → s (moduleAt r) ≡ m (moduleAt r)
+  pub status : (r : ℕ) → m (statusAt r) ≤ s (statusAt r)
+
+module _ (m : Memory) where
+  pub still : Still m m
+  still = record { count = refl; block = λ r. refl; status = λ r. omega arith }
+
+  module _ (s : Memory) (h : Still m s) where
+    pub still-record : (q k v : ℕ) → Unread k → Still m (update s (recordAt q k) v)
+    still-record q k v u =
+        let a = u .low in
+        let b = u .high in
+        let n = u .other in
+        record {
+          count = update-other s _ v _ (unlike-words 1 q 8 k (omega arith)) ∙ h .count;
+          block = λ r. update-other s _ v _ (unlike-words r q 1 k (omega arith)) ∙ h .block r;
+          status = λ r. rw (update-other s (recordAt q k) v (statusAt r) (unlike-words r q 0 k (omega arith))) (h .status r);
+        }
+
+    pub still-status : (q v : ℕ) → m (statusAt q) ≤ v → Still m (update s (statusAt q) v)
+    still-status q v l = record {
+      count = update-other s _ v _ (unlike-words 1 q 8 0 (omega arith)) ∙ h .count;
+      block = λ r. update-other s _ v _ (unlike-words r q 1 0 (omega arith)) ∙ h .block r;
+      status = λ r. cases (eqb (statusAt r) (statusAt q))
+          (λ e. let z = eqb-true _ _ e in rw (update-same s (statusAt q) v (statusAt r) z, z) l)
+          (λ e. rw (update-other s (statusAt q) v (statusAt r) (eqb-false _ _ e)) (h .status r));
+    }
+
+    pub still-store : (a : ℕ) (ws : List ℕ) → a + length ws ≤ 16384 → Still m (store s a ws)
+    still-store a ws l = record {
+      count = high 1 8 ∙ h .count;
+      block = λ r. high r 1 ∙ h .block r;
+      status = λ r. rw (high r 0) (h .status r);
+    }
+      where
+        high : (r k : ℕ) → store s a ws (recordAt r k) ≡ s (recordAt r k)
+        high r k = let z = record-high r k in store-after s a ws (recordAt r k) (omega arith)
+
+  pub still-standing : (s : Memory) (q c f t w d : ℕ) → Still m s → Still m (standing s q c f t w d)
+  unfolding standing
+  still-standing s q c f t w d h =
+      still-record _ (still-record _ (still-record _ (still-record _ (still-record s h q 2 c (omega arith))
+      q 3 f (omega arith)) q 4 t (omega arith)) q 5 w (omega arith)) q 7 d (omega arith)
+
+-- ---- a create: process n, which is none of those created, takes its record
+
+module _ (m : Memory) (n μ i c p : ℕ) (over : m createdAt < n) (most : n ≤ 64) (area : i < 16384) where
+  abbrev pub after : Memory
+  after = update (update (created m n μ) i n) (statementAt p) c
+
+  -- the record words that the variable and the next statement leave
+  record-after : (r k : ℕ) → Unlike k 2 → after (recordAt r k) ≡ created m n μ (recordAt r k)
+  record-after r k u =
+      update-other _ _ c _ (unlike-words r p k 2 u)
+      ∙ update-other _ i n _ (λ z. let a = record-high r k in omega arith)
+
+  new-status : created m n μ (statusAt n) ≡ 1
+  unfolding created
+  new-status =
+      update-other _ _ n _ (unlike-words n 1 0 8 (omega arith))
+      ∙ update-other _ _ μ _ (unlike-words n n 0 1 (omega arith))
+      ∙ update-same _ _ 1 _ refl
+
+  new-block : created m n μ (moduleAt n) ≡ μ
+  unfolding created
+  new-block = update-other _ _ n _ (unlike-words n 1 1 8 (omega arith)) ∙ update-same _ _ μ _ refl
+
+  new-count : created m n μ createdAt ≡ n
+  unfolding created
+  new-count = update-same _ _ n _ refl
+
+  pub new-process : NewProcess after n μ i
+  new-process = record {
+    last = record-after 1 8 (omega arith) ∙ new-count;
+    block = record-after n 1 (omega arith) ∙ new-block;
+    unstarted = record-after n 0 (omega arith) ∙ new-status;
+    named = update-other _ _ c i (λ z. let a = record-high p 2 in omega arith) ∙ update-same _ i n i refl;
+  }
+
+  other-record : (r k : ℕ) → 1 ≤ r → r < n → k < 20 → (recordAt r k ≡ recordAt n 0 → ⊥) × (recordAt r k ≡ recordAt n 1 → ⊥) × (recordAt r k < recordAt n 0)
+  unfolding recordAt
+  other-record r k a b l = (λ e. omega arith, λ e. omega arith, omega arith)
+
+  -- the records of the others
+  old-record : (r k : ℕ) → Created m r → k < 8 → created m n μ (recordAt r k) ≡ m (recordAt r k)
+  unfolding created
+  old-record r k h l =
+      let a = h .most in
+      let u = other-record r k (h .least) (omega arith) (omega arith) in
+      let z = record-high r k in
+      let y = location-end n 0 256 most (omega arith) in
+      update-other _ _ n _ (unlike-words r 1 k 8 (omega arith))
+      ∙ update-other _ _ μ _ (u .1)
+      ∙ update-other _ _ 1 _ (u .0)
+      ∙ clear-before _ (recordAt n 0) 20 _ (u .2)
+      ∙ clear-after m (location n 0) 256 _ (omega arith)
+
+  pub others-kept : ProcessesKept m after
+  others-kept = record {
+    created = λ r h. let a = h .most in let u = new-process .last in record { least = h .least; most = omega arith };
+    block = λ r h. record-after r 1 (omega arith) ∙ old-record r 1 h (omega arith);
+    status = λ r h. rw (record-after r 0 (omega arith), old-record r 0 h (omega arith)) (omega arith);
+  }
