@@ -1,49 +1,14 @@
 #include "plain.h"
 
-#include <stdbool.h>
-
-enum { INTEGER, BOOLEAN, CHARACTER, DECLARED };          /* types */
-enum { RECORD = 1, ARRAY, PROCESS };                     /* kinds of declared types */
-enum { PROGRAM, MODULE, PROCEDURE };                     /* kinds of blocks */
-enum { LOCAL, VALUE_PARAMETER, VAR_PARAMETER };          /* modes */
-enum { CONSTANT, WHOLE, FIELD, ELEMENT, VALUE, UNARY, BINARY, TRANSFER };
-enum { SKIP, ASSIGN, LOCAL_CALL, PROCESS_CALL, CREATE, START, IF, WHILE, WHEN, CYCLE, ARM, END, WRITE, BLOCK_END };
-enum { NONE = -1 };
-
-struct type { int kind, p, q, low, high; };
-struct variable { int mode, type; };
-struct block { int kind, owner, first, parameters, variables, statement, space; };
-struct node { int kind, p, q, v; };
-struct statement { int kind, a, b, c, d, link; };
-
-struct program {
-    int types, fields, variables, blocks, arguments, nodes, statements;
-    struct type type[258]; /* by type number, from DECLARED on */
-    int field[256];
-    struct variable variable[256];
-    struct block block[256];
-    int argument[256];
-    struct node node[256];
-    struct statement statement[256];
-    int type_of[256];    /* the type of a node, NONE where it has none */
-    int words[258];      /* the words of a type */
-    int block_of[256];   /* the block of a node */
-    int block_at[256];   /* the block of a statement */
-    int home[256];       /* the block of a variable */
-};
+#include "program.h"
 
 /* ---- 2: sections */
 
 struct reader { const uint8_t *at, *end; };
 
-static int word(const uint8_t *p)
+static uint16_t word(const uint8_t *p)
 {
-    return p[0] + 256 * p[1];
-}
-
-static int integer(int w)
-{
-    return w < 32768 ? w : w - 65536;
+    return (uint16_t)(p[0] | p[1] << 8);
 }
 
 static const uint8_t *rows(struct reader *r, int size, int *count)
@@ -100,6 +65,17 @@ static bool is_call(int kind)
     return kind == LOCAL_CALL || kind == PROCESS_CALL || kind == START;
 }
 
+/* The bits that must be 0, by kind. */
+enum { X = 0xFF };
+static const uint8_t unused_q[] = {X, X, 0, 0, X, 0, 0, 0};
+static const uint16_t unused_v[] = {0, 0xFFFF, 0xFFFF, 0xFFFF, 0xFFFF, 0xFFFF, 0, 0xFFFF};
+static const struct statement unused[] = {
+    [SKIP] = {0, X, X, X, X, X}, [ASSIGN] = {0, 0, 0, X, X, X}, [LOCAL_CALL] = {0, 0, X, 0, 0, X}, [PROCESS_CALL] = {0, 0, 0, 0, 0, X},
+    [CREATE] = {0, 0, X, X, X, X}, [START] = {0, 0, X, 0, 0, X}, [IF] = {0, X, X, X, X, X}, [WHILE] = {0, X, X, X, X, X},
+    [WHEN] = {0, X, X, X, X, X}, [CYCLE] = {0, X, X, X, X, X}, [ARM] = {0, 0, X, X, X, 0}, [END] = {0, X, X, X, X, 0},
+    [WRITE] = {0, 0, 0, X, X, X}, [BLOCK_END] = {0, 0, X, X, X, X},
+};
+
 static bool kinds(const struct program *g)
 {
     for (int i = DECLARED; i < DECLARED + g->types; i++) {
@@ -114,20 +90,18 @@ static bool kinds(const struct program *g)
         if (g->block[i].kind > PROCEDURE)
             return false;
     for (int i = 0; i < g->nodes; i++) {
-        struct node n = g->node[i];
-        bool uses_q = n.kind == FIELD || n.kind == ELEMENT || n.kind >= UNARY;
-        bool uses_v = n.kind == CONSTANT || n.kind == BINARY;
-        if (n.kind > TRANSFER || (!uses_q && n.q) || (!uses_v && n.v))
+        const struct node *n = &g->node[i];
+        if (n->kind > TRANSFER || (n->q & unused_q[n->kind]) || (n->v & unused_v[n->kind]))
             return false;
-        if ((n.kind == UNARY && (n.q < 1 || n.q > 3)) || (n.kind == BINARY && (n.v < 1 || n.v > 13)))
+        if ((n->kind == UNARY && (n->q < 1 || n->q > 3)) || (n->kind == BINARY && (n->v < 1 || n->v > 13)))
             return false;
     }
     for (int i = 0; i < g->statements; i++) {
-        struct statement s = g->statement[i];
-        bool uses_a = (s.kind >= ASSIGN && s.kind <= START) || s.kind == ARM || s.kind == WRITE || s.kind == BLOCK_END;
-        bool uses_b = s.kind == ASSIGN || s.kind == PROCESS_CALL || s.kind == WRITE;
-        bool uses_link = s.kind == ARM || s.kind == END;
-        if (s.kind > BLOCK_END || (!uses_a && s.a) || (!uses_b && s.b) || (!is_call(s.kind) && (s.c || s.d)) || (!uses_link && s.link))
+        const struct statement *s = &g->statement[i];
+        if (s->kind > BLOCK_END)
+            return false;
+        const struct statement *u = &unused[s->kind];
+        if ((s->a & u->a) | (s->b & u->b) | (s->c & u->c) | (s->d & u->d) | (s->link & u->link))
             return false;
     }
     return true;
@@ -189,7 +163,7 @@ static bool blocks_numbered(struct program *g)
         for (int i = 0; i < k.variables; i++, free++) {
             if ((g->variable[free].mode == LOCAL) != (i >= k.parameters))
                 return false;
-            g->home[free] = b;
+            g->home[free] = (uint8_t)b;
         }
         if (k.kind == PROCEDURE ? k.owner >= g->blocks || g->block[k.owner].kind == PROCEDURE : k.owner != b)
             return false;
@@ -200,57 +174,57 @@ static bool blocks_numbered(struct program *g)
 }
 
 /* The type of a variable node, read off the table. */
-static int variable_type(const struct program *g, struct node n)
+static int variable_type(const struct program *g, const struct node *n)
 {
-    if (n.kind == WHOLE)
-        return g->variable[n.p].type;
-    int t = g->type_of[n.p];
-    if (t < DECLARED || g->type[t].kind != (n.kind == FIELD ? RECORD : ARRAY))
+    if (n->kind == WHOLE)
+        return g->variable[n->p].type;
+    int t = g->type_of[n->p];
+    if (t < DECLARED || g->type[t].kind != (n->kind == FIELD ? RECORD : ARRAY))
         return NONE;
-    return n.kind == FIELD ? g->field[g->type[t].p + n.q] : g->type[t].q;
+    return n->kind == FIELD ? g->field[g->type[t].p + n->q] : g->type[t].q;
 }
 
 static bool node_numbered(struct program *g, int i)
 {
-    struct node n = g->node[i];
-    switch (n.kind) {
-    case CONSTANT: return n.p <= CHARACTER;
-    case WHOLE: if (n.p >= g->variables) return false; break;
+    const struct node *n = &g->node[i];
+    switch (n->kind) {
+    case CONSTANT: return n->p <= CHARACTER;
+    case WHOLE: if (n->p >= g->variables) return false; break;
     case FIELD: {
-        if (!is_variable(g, i, n.p))
+        if (!is_variable(g, i, n->p))
             return false;
-        int t = g->type_of[n.p];
-        if (t >= DECLARED && g->type[t].kind == RECORD && n.q >= g->type[t].q)
+        int t = g->type_of[n->p];
+        if (t >= DECLARED && g->type[t].kind == RECORD && n->q >= g->type[t].q)
             return false;
         break;
     }
-    case ELEMENT: if (!is_variable(g, i, n.p) || !is_expression(g, i, n.q)) return false; break;
-    case VALUE: return is_variable(g, i, n.p);
-    case UNARY: return is_expression(g, i, n.p);
-    case BINARY: return is_expression(g, i, n.p) && is_expression(g, i, n.q);
-    default: return is_expression(g, i, n.p) && n.q <= CHARACTER;
+    case ELEMENT: if (!is_variable(g, i, n->p) || !is_expression(g, i, n->q)) return false; break;
+    case VALUE: return is_variable(g, i, n->p);
+    case UNARY: return is_expression(g, i, n->p);
+    case BINARY: return is_expression(g, i, n->p) && is_expression(g, i, n->q);
+    default: return is_expression(g, i, n->p) && n->q <= CHARACTER;
     }
-    g->type_of[i] = variable_type(g, n);
+    g->type_of[i] = (int16_t)variable_type(g, n);
     return true;
 }
 
-static bool statement_numbered(const struct program *g, struct statement s, int *free)
+static bool statement_numbered(const struct program *g, const struct statement *s, int *free)
 {
-    if (is_call(s.kind)) {
-        if (s.c != *free || s.c + s.d > g->arguments)
+    if (is_call(s->kind)) {
+        if (s->c != *free || s->c + s->d > g->arguments)
             return false;
-        *free = s.c + s.d;
+        *free = s->c + s->d;
     }
-    switch (s.kind) {
-    case ASSIGN: return is_variable(g, g->nodes, s.a) && is_expression(g, g->nodes, s.b);
-    case LOCAL_CALL: return is_block(g, s.a, PROCEDURE);
-    case PROCESS_CALL: return is_variable(g, g->nodes, s.a) && is_block(g, s.b, PROCEDURE);
+    switch (s->kind) {
+    case ASSIGN: return is_variable(g, g->nodes, s->a) && is_expression(g, g->nodes, s->b);
+    case LOCAL_CALL: return is_block(g, s->a, PROCEDURE);
+    case PROCESS_CALL: return is_variable(g, g->nodes, s->a) && is_block(g, s->b, PROCEDURE);
     case CREATE:
-    case START: return is_variable(g, g->nodes, s.a);
-    case ARM: return is_expression(g, g->nodes, s.a) && s.link < g->statements;
-    case END: return s.link < g->statements;
-    case WRITE: return is_expression(g, g->nodes, s.a) && is_expression(g, g->nodes, s.b);
-    case BLOCK_END: return s.a < g->blocks;
+    case START: return is_variable(g, g->nodes, s->a);
+    case ARM: return is_expression(g, g->nodes, s->a) && s->link < g->statements;
+    case END: return s->link < g->statements;
+    case WRITE: return is_expression(g, g->nodes, s->a) && is_expression(g, g->nodes, s->b);
+    case BLOCK_END: return s->a < g->blocks;
     default: return true;
     }
 }
@@ -267,31 +241,38 @@ static bool numbers(struct program *g)
         if (!node_numbered(g, i))
             return false;
     for (int i = 0; i < g->statements; i++)
-        if (!statement_numbered(g, g->statement[i], &free))
+        if (!statement_numbered(g, &g->statement[i], &free))
             return false;
     return free == g->arguments;
 }
 
 /* ---- 5: each node is used once */
 
+/* Which fields name nodes, by kind: of a node p and q, of a statement a and b. */
+enum { FIRST = 1, SECOND = 2 };
+static const uint8_t node_operands[] = {0, 0, FIRST, FIRST | SECOND, FIRST, FIRST, FIRST | SECOND, FIRST};
+static const uint8_t statement_operands[] = {0, FIRST | SECOND, 0, FIRST, FIRST, FIRST, 0, 0, 0, 0, FIRST, 0, FIRST | SECOND, 0};
+
 static bool uses(const struct program *g)
 {
-    int used[256] = {0};
+    uint16_t used[256];
+    for (int i = 0; i < g->nodes; i++)
+        used[i] = 0;
     for (int i = 0; i < g->arguments; i++)
         used[g->argument[i]]++;
     for (int i = 0; i < g->nodes; i++) {
-        struct node n = g->node[i];
-        if (n.kind >= FIELD)
-            used[n.p]++;
-        if (n.kind == ELEMENT || n.kind == BINARY)
-            used[n.q]++;
+        const struct node *n = &g->node[i];
+        if (node_operands[n->kind] & FIRST)
+            used[n->p]++;
+        if (node_operands[n->kind] & SECOND)
+            used[n->q]++;
     }
     for (int i = 0; i < g->statements; i++) {
-        struct statement s = g->statement[i];
-        if (s.kind == ASSIGN || (s.kind >= PROCESS_CALL && s.kind <= START) || s.kind == ARM || s.kind == WRITE)
-            used[s.a]++;
-        if (s.kind == ASSIGN || s.kind == WRITE)
-            used[s.b]++;
+        const struct statement *s = &g->statement[i];
+        if (statement_operands[s->kind] & FIRST)
+            used[s->a]++;
+        if (statement_operands[s->kind] & SECOND)
+            used[s->b]++;
     }
     for (int i = 0; i < g->nodes; i++)
         if (used[i] != 1)
@@ -344,7 +325,7 @@ static bool nesting(struct program *g)
         if (end == NONE || end >= g->statements || g->statement[end].kind != BLOCK_END || g->statement[end].a != b)
             return false;
         for (; i <= end; i++)
-            g->block_at[i] = b;
+            g->block_at[i] = (uint8_t)b;
     }
     return i == g->statements;
 }
@@ -354,11 +335,6 @@ static bool nesting(struct program *g)
 static bool in_type(int type, int value)
 {
     return type == INTEGER || (value >= 0 && value <= (type == BOOLEAN ? 1 : 127));
-}
-
-static int elements(const struct type *t)
-{
-    return integer(t->high) - integer(t->low) + 1;
 }
 
 static bool sizes(struct program *g)
@@ -380,7 +356,7 @@ static bool sizes(struct program *g)
         }
         if (words > 200)
             return false;
-        g->words[i] = words;
+        g->words[i] = (uint8_t)words;
     }
     for (int b = 0; b < g->blocks; b++) {
         int words = 0;
@@ -394,34 +370,28 @@ static bool sizes(struct program *g)
 
 /* ---- 8: scopes */
 
-static void place(struct program *g, int node, int block)
-{
-    g->block_of[node] = block;
-}
-
 static bool scopes(struct program *g)
 {
     for (int i = 0; i < g->statements; i++) {
-        struct statement s = g->statement[i];
-        int b = g->block_at[i];
-        if (s.kind == ASSIGN || (s.kind >= PROCESS_CALL && s.kind <= START) || s.kind == ARM || s.kind == WRITE)
-            place(g, s.a, b);
-        if (s.kind == ASSIGN || s.kind == WRITE)
-            place(g, s.b, b);
-        if (is_call(s.kind))
-            for (int k = 0; k < s.d; k++)
-                place(g, g->argument[s.c + k], b);
-        if (s.kind == LOCAL_CALL && g->block[s.a].owner != g->block[b].owner)
+        const struct statement *s = &g->statement[i];
+        uint8_t b = g->block_at[i];
+        if (statement_operands[s->kind] & FIRST)
+            g->block_of[s->a] = b;
+        if (statement_operands[s->kind] & SECOND)
+            g->block_of[s->b] = b;
+        for (int k = s->c; k < s->c + s->d; k++) /* 0 but in calls and starts */
+            g->block_of[g->argument[k]] = b;
+        if (s->kind == LOCAL_CALL && g->block[s->a].owner != g->block[b].owner)
             return false;
     }
     for (int i = g->nodes; i-- > 0;) {
-        struct node n = g->node[i];
-        int b = g->block_of[i];
-        if (n.kind >= FIELD)
-            place(g, n.p, b);
-        if (n.kind == ELEMENT || n.kind == BINARY)
-            place(g, n.q, b);
-        if (n.kind == WHOLE && g->home[n.p] != b && g->home[n.p] != g->block[b].owner)
+        const struct node *n = &g->node[i];
+        uint8_t b = g->block_of[i];
+        if (node_operands[n->kind] & FIRST)
+            g->block_of[n->p] = b;
+        if (node_operands[n->kind] & SECOND)
+            g->block_of[n->q] = b;
+        if (n->kind == WHOLE && g->home[n->p] != b && g->home[n->p] != g->block[b].owner)
             return false;
     }
     return true;
@@ -457,28 +427,28 @@ static int binary_type(const struct program *g, int operator, int a, int b)
     return a <= BOOLEAN ? a : NONE;
 }
 
-static int node_type(const struct program *g, struct node n)
+static int node_type(const struct program *g, const struct node *n)
 {
-    int p = n.kind == CONSTANT || n.kind == WHOLE ? NONE : g->type_of[n.p];
-    switch (n.kind) {
-    case CONSTANT: return in_type(n.p, integer(n.v)) ? n.p : NONE;
+    int p = n->kind == CONSTANT || n->kind == WHOLE ? NONE : g->type_of[n->p];
+    switch (n->kind) {
+    case CONSTANT: return in_type(n->p, integer(n->v)) ? n->p : NONE;
     case WHOLE:
     case FIELD: return variable_type(g, n);
-    case ELEMENT: return kind_of(g, p) == ARRAY && g->type_of[n.q] == g->type[p].p ? g->type[p].q : NONE;
+    case ELEMENT: return kind_of(g, p) == ARRAY && g->type_of[n->q] == g->type[p].p ? g->type[p].q : NONE;
     case VALUE: return p;
-    case UNARY: return p == INTEGER || (p == BOOLEAN && n.q == 2) ? p : NONE;
-    case BINARY: return binary_type(g, n.v, p, g->type_of[n.q]);
-    default: return p <= CHARACTER ? n.q : NONE;
+    case UNARY: return p == INTEGER || (p == BOOLEAN && n->q == 2) ? p : NONE;
+    case BINARY: return binary_type(g, n->v, p, g->type_of[n->q]);
+    default: return p <= CHARACTER ? n->q : NONE;
     }
 }
 
-static bool arguments_typed(const struct program *g, const struct block *b, struct statement s)
+static bool arguments_typed(const struct program *g, const struct block *b, const struct statement *s)
 {
-    if (s.d != b->parameters)
+    if (s->d != b->parameters)
         return false;
-    for (int k = 0; k < s.d; k++) {
+    for (int k = 0; k < s->d; k++) {
         struct variable x = g->variable[b->first + k];
-        int n = g->argument[s.c + k];
+        int n = g->argument[s->c + k];
         bool is_var = g->node[n].kind >= WHOLE && g->node[n].kind <= ELEMENT;
         if (x.mode == VAR_PARAMETER ? !is_var || g->type_of[n] != x.type : is_var || !match(g, g->type_of[n], x.type))
             return false;
@@ -486,21 +456,21 @@ static bool arguments_typed(const struct program *g, const struct block *b, stru
     return true;
 }
 
-static bool statement_typed(const struct program *g, struct statement s)
+static bool statement_typed(const struct program *g, const struct statement *s)
 {
     int a;
-    switch (s.kind) {
-    case ASSIGN: return match(g, g->type_of[s.a], g->type_of[s.b]);
-    case LOCAL_CALL: return arguments_typed(g, &g->block[s.a], s);
+    switch (s->kind) {
+    case ASSIGN: return match(g, g->type_of[s->a], g->type_of[s->b]);
+    case LOCAL_CALL: return arguments_typed(g, &g->block[s->a], s);
     case PROCESS_CALL:
-        a = g->type_of[s.a];
-        return kind_of(g, a) == PROCESS && g->block[s.b].owner == g->type[a].p && arguments_typed(g, &g->block[s.b], s);
-    case CREATE: return kind_of(g, g->type_of[s.a]) == PROCESS;
+        a = g->type_of[s->a];
+        return kind_of(g, a) == PROCESS && g->block[s->b].owner == g->type[a].p && arguments_typed(g, &g->block[s->b], s);
+    case CREATE: return kind_of(g, g->type_of[s->a]) == PROCESS;
     case START:
-        a = g->type_of[s.a];
+        a = g->type_of[s->a];
         return kind_of(g, a) == PROCESS && arguments_typed(g, &g->block[g->type[a].p], s);
-    case ARM: return g->type_of[s.a] == BOOLEAN;
-    case WRITE: return g->type_of[s.a] == INTEGER && g->type_of[s.b] == INTEGER;
+    case ARM: return g->type_of[s->a] == BOOLEAN;
+    case WRITE: return g->type_of[s->a] == INTEGER && g->type_of[s->b] == INTEGER;
     default: return true;
     }
 }
@@ -508,10 +478,10 @@ static bool statement_typed(const struct program *g, struct statement s)
 static bool types(struct program *g)
 {
     for (int i = 0; i < g->nodes; i++)
-        if ((g->type_of[i] = node_type(g, g->node[i])) == NONE)
+        if ((g->type_of[i] = (int16_t)node_type(g, &g->node[i])) == NONE)
             return false;
     for (int i = 0; i < g->statements; i++)
-        if (!statement_typed(g, g->statement[i]))
+        if (!statement_typed(g, &g->statement[i]))
             return false;
     for (int b = 0; b < g->blocks; b++)
         for (int k = 0; g->block[b].kind == MODULE && k < g->block[b].parameters; k++) {
@@ -522,8 +492,13 @@ static bool types(struct program *g)
     return true;
 }
 
+uint32_t plain_decode(struct program *g, const uint8_t *table, size_t length)
+{
+    return !decode(g, table, length) ? 2 : !kinds(g) ? 3 : !numbers(g) ? 4 : !uses(g) ? 5 : !nesting(g) ? 6 : !sizes(g) ? 7 : !scopes(g) ? 8 : !types(g) ? 9 : 0;
+}
+
 uint32_t plain_check(const uint8_t *table, size_t length)
 {
     struct program g;
-    return !decode(&g, table, length) ? 2 : !kinds(&g) ? 3 : !numbers(&g) ? 4 : !uses(&g) ? 5 : !nesting(&g) ? 6 : !sizes(&g) ? 7 : !scopes(&g) ? 8 : !types(&g) ? 9 : 0;
+    return plain_decode(&g, table, length);
 }

@@ -1,0 +1,593 @@
+/* Replays step logs of an independent interpreter. A line 'ok NAME' or 'FAIL NAME: why' a test.
+ *
+ *     logs RUNS [EVERY]
+ *
+ * Where EVERY is given, only every so manyth record is replayed. RUNS holds records one after the other, each a program and a run of it. Words are two bytes, low first:
+ *
+ *     word L; L bytes of table
+ *     word number of calls; for each call
+ *         word number of pokes; each: word byte position in the page, word value; they are done before the call
+ *         word n; n bytes of schedule; n bytes of answers
+ *         word number of device words that the call changed; each: word byte position, word value
+ *     word number of looks after the last call; each: word process, word variable, word place, 4 bytes result
+ *
+ * The calls are those of joyce.h or, built with -DPLAIN, those of bench/plain.h. */
+#include "plain.h"
+#ifndef PLAIN
+#include "joyce.h"
+#endif
+
+#include <stdarg.h>
+#include <stdbool.h>
+#include <stdio.h>
+#include <stdlib.h>
+#include <string.h>
+
+enum { STATE = 35328, PAGE = 8192, LONGEST = 7657 }; /* the longest seven sections */
+
+struct calls {
+    const char *name;
+    uint32_t (*check)(const uint8_t *, size_t);
+    uint32_t (*begin)(const uint8_t *, size_t, uint8_t *, size_t);
+    uint32_t (*run)(const uint8_t *, size_t, uint8_t *, size_t, uint8_t *, size_t, const uint8_t *, size_t, uint8_t *, size_t);
+    uint32_t (*look)(const uint8_t *, size_t, const uint8_t *, size_t, uint32_t, uint32_t, uint32_t);
+};
+
+static const struct calls plain = {"plain", plain_check, plain_begin, plain_run, plain_look};
+#ifdef PLAIN
+static const struct calls *const ours = &plain;
+#else
+static const struct calls joyce = {"joyce", joyce_check, joyce_begin, joyce_run, joyce_look};
+static const struct calls *const ours = &joyce;
+#endif
+
+/* ---- results */
+
+static int failures;
+static char why[400];
+
+static bool bad(const char *format, ...)
+{
+    va_list args;
+    va_start(args, format);
+    vsnprintf(why, sizeof why, format, args);
+    va_end(args);
+    return false;
+}
+
+static void report(const char *name, bool is_ok, size_t count, const char *what)
+{
+    if (is_ok) {
+        printf("ok logs/%s/%s: %zu %s\n", ours->name, name, count, what);
+    } else {
+        printf("FAIL logs/%s/%s: %s\n", ours->name, name, why);
+        failures++;
+    }
+    fflush(stdout);
+}
+
+/* ---- the records */
+
+struct call {
+    size_t pokes, steps, changes;
+    const uint8_t *poke, *schedule, *answer, *change;
+};
+
+struct record {
+    size_t length, calls, looks;
+    const uint8_t *table, *look;
+    struct call *call;
+};
+
+static struct record *records;
+static size_t count;
+
+struct reader { const uint8_t *at, *end; };
+
+static size_t word(const uint8_t *p)
+{
+    return p[0] | (size_t)p[1] << 8;
+}
+
+static const uint8_t *take(struct reader *r, size_t n)
+{
+    if ((size_t)(r->end - r->at) < n) {
+        fprintf(stderr, "the logs end early\n");
+        exit(2);
+    }
+    const uint8_t *p = r->at;
+    r->at += n;
+    return p;
+}
+
+static size_t take_word(struct reader *r)
+{
+    return word(take(r, 2));
+}
+
+static void *room(size_t n)
+{
+    void *p = malloc(n ? n : 1);
+    if (!p) {
+        fprintf(stderr, "no memory\n");
+        exit(2);
+    }
+    return p;
+}
+
+static struct call read_call(struct reader *r)
+{
+    struct call c;
+    c.pokes = take_word(r);
+    c.poke = take(r, 4 * c.pokes);
+    c.steps = take_word(r);
+    c.schedule = take(r, c.steps);
+    c.answer = take(r, c.steps);
+    c.changes = take_word(r);
+    c.change = take(r, 4 * c.changes);
+    return c;
+}
+
+static struct record read_record(struct reader *r)
+{
+    struct record d;
+    d.length = take_word(r);
+    d.table = take(r, d.length);
+    d.calls = take_word(r);
+    d.call = room(d.calls * sizeof *d.call);
+    for (size_t i = 0; i < d.calls; i++)
+        d.call[i] = read_call(r);
+    d.looks = take_word(r);
+    d.look = take(r, 10 * d.looks);
+    return d;
+}
+
+static bool load(const char *name, size_t every)
+{
+    FILE *file = fopen(name, "rb");
+    if (!file || fseek(file, 0, SEEK_END))
+        return false;
+    size_t length = (size_t)ftell(file);
+    uint8_t *bytes = room(length);
+    rewind(file);
+    if (fread(bytes, 1, length, file) != length)
+        return false;
+    fclose(file);
+    struct reader r = {bytes, bytes + length};
+    for (size_t i = 0; r.at < r.end; i++) {
+        if ((count & (count + 1)) == 0 && !(records = realloc(records, (2 * count + 2) * sizeof *records)))
+            return false;
+        records[count] = read_record(&r);
+        if (i % every == 0)
+            count++;
+        else
+            free(records[count].call);
+    }
+    return count > 0;
+}
+
+/* ---- a run under way */
+
+struct run {
+    const struct calls *calls;
+    size_t cut; /* the most steps of one call; 0 for all at once */
+    uint8_t *state, *page;
+};
+
+static struct run make_run(const struct calls *calls, size_t cut)
+{
+    return (struct run){calls, cut, room(STATE), room(PAGE)};
+}
+
+static void free_run(struct run *x)
+{
+    free(x->state);
+    free(x->page);
+}
+
+static bool begin(struct run *x, const struct record *d)
+{
+    memset(x->state, 0xA5, STATE); /* begin fills all of it */
+    memset(x->page, 0, PAGE);
+    uint32_t r = x->calls->check(d->table, d->length);
+    if (r != 0)
+        return bad("check returns %u", r);
+    r = x->calls->begin(d->table, d->length, x->state, STATE);
+    return r == 0 || bad("begin returns %u", r);
+}
+
+static void put(uint8_t *page, const uint8_t *pairs, size_t n)
+{
+    for (; n > 0; n--, pairs += 4)
+        memcpy(page + word(pairs), pairs + 2, 2);
+}
+
+/* Steps, in slices of the exact length, so that a sanitizer sees what lies outside them. */
+static bool steps(struct run *x, const struct record *d, const uint8_t *schedule, const uint8_t *answer, size_t n)
+{
+    size_t most = x->cut ? x->cut : n ? n : 1, done = 0;
+    uint8_t *answers = room(n);
+    bool is_ok = true;
+    do {
+        size_t piece = n - done < most ? n - done : most;
+        uint32_t r = x->calls->run(d->table, d->length, x->state, STATE, x->page, PAGE, schedule + done, piece, answers, piece);
+        if (r != 0)
+            is_ok = bad("step %zu: run returns %u", done, r);
+        for (size_t i = 0; is_ok && i < piece; i++)
+            if (answers[i] != answer[done + i])
+                is_ok = bad("step %zu of process %u answers %u, not %u", done + i, schedule[done + i], answers[i], answer[done + i]);
+        done += piece;
+    } while (is_ok && done < n);
+    free(answers);
+    return is_ok;
+}
+
+/* One call of the log: its pokes, its answers, and the page that it leaves. */
+static bool replay_call(struct run *x, const struct record *d, const struct call *c)
+{
+    static uint8_t page[PAGE];
+    put(x->page, c->poke, c->pokes);
+    memcpy(page, x->page, PAGE);
+    put(page, c->change, c->changes);
+    if (!steps(x, d, c->schedule, c->answer, c->steps))
+        return false;
+    for (size_t i = 0; i < PAGE; i += 2)
+        if (memcmp(page + i, x->page + i, 2) != 0)
+            return bad("the device word at %zu is %zu, not %zu", i, word(x->page + i), word(page + i));
+    return true;
+}
+
+static bool replay_looks(const struct run *x, const struct record *d)
+{
+    for (size_t i = 0; i < d->looks; i++) {
+        const uint8_t *p = d->look + 10 * i;
+        uint32_t expected = (uint32_t)(word(p + 6) | word(p + 8) << 16);
+        uint32_t process = (uint32_t)word(p), variable = (uint32_t)word(p + 2), place = (uint32_t)word(p + 4);
+        uint32_t r = x->calls->look(d->table, d->length, x->state, STATE, process, variable, place);
+        if (r != expected)
+            return bad("look at %u, %u, %u returns %u, not %u", process, variable, place, r, expected);
+    }
+    return true;
+}
+
+/* Says in which record the fault is. */
+static bool in_record(size_t i, size_t call)
+{
+    char what[sizeof why];
+    memcpy(what, why, sizeof why);
+    return bad("run %zu, call %zu: %.300s", i, call, what);
+}
+
+/* ---- tests */
+
+/* Every record, as it is logged. */
+static bool agree(void)
+{
+    struct run x = make_run(ours, 0);
+    bool is_ok = true;
+    for (size_t i = 0; is_ok && i < count; i++) {
+        const struct record *d = &records[i];
+        size_t k = 0;
+        is_ok = begin(&x, d);
+        for (; is_ok && k < d->calls; k++)
+            is_ok = replay_call(&x, d, &d->call[k]);
+        is_ok = (is_ok && replay_looks(&x, d)) || in_record(i, k);
+    }
+    free_run(&x);
+    return is_ok;
+}
+
+/* Two runs of each record, which must leave the same states. */
+static bool same_states(const struct calls *other, size_t cut, size_t *done)
+{
+    struct run x = make_run(ours, 0), y = make_run(other, cut);
+    bool is_ok = true;
+    for (size_t i = 0; is_ok && i < count; i++) {
+        const struct record *d = &records[i];
+        size_t k = 0;
+        is_ok = begin(&x, d) && begin(&y, d);
+        for (; is_ok && k < d->calls; k++) {
+            is_ok = replay_call(&x, d, &d->call[k]) && replay_call(&y, d, &d->call[k]);
+            for (size_t at = 0; is_ok && at < STATE; at += 2)
+                if (memcmp(x.state + at, y.state + at, 2) != 0)
+                    is_ok = bad("byte %zu of the state: %zu and %zu", at, word(x.state + at), word(y.state + at));
+            *done += d->call[k].steps;
+        }
+        if (!is_ok)
+            in_record(i, k);
+    }
+    free_run(&x);
+    free_run(&y);
+    return is_ok;
+}
+
+/* How many calls from k on can be one: a later one may have no pokes. */
+static size_t joint(const struct record *d, size_t k)
+{
+    size_t end = k + 1;
+    while (end < d->calls && d->call[end].pokes == 0)
+        end++;
+    return end - k;
+}
+
+/* The calls from k on as one, on y; x has done them one by one. */
+static bool replay_joint(struct run *y, const struct record *d, size_t k, size_t n)
+{
+    size_t length = 0;
+    for (size_t i = k; i < k + n; i++)
+        length += d->call[i].steps;
+    uint8_t *schedule = room(length), *answer = room(length);
+    length = 0;
+    for (size_t i = k; i < k + n; length += d->call[i++].steps) {
+        memcpy(schedule + length, d->call[i].schedule, d->call[i].steps);
+        memcpy(answer + length, d->call[i].answer, d->call[i].steps);
+    }
+    put(y->page, d->call[k].poke, d->call[k].pokes);
+    bool is_ok = steps(y, d, schedule, answer, length);
+    free(schedule);
+    free(answer);
+    return is_ok;
+}
+
+/* Calls with no poke between them, joined. */
+static bool joined(size_t *done)
+{
+    struct run x = make_run(ours, 0), y = make_run(ours, 0);
+    bool is_ok = true;
+    for (size_t i = 0; is_ok && i < count; i++) {
+        const struct record *d = &records[i];
+        size_t k = 0, n;
+        is_ok = begin(&x, d) && begin(&y, d);
+        for (; is_ok && k < d->calls; k += n) {
+            n = joint(d, k);
+            for (size_t j = k; is_ok && j < k + n; j++)
+                is_ok = replay_call(&x, d, &d->call[j]);
+            is_ok = is_ok && replay_joint(&y, d, k, n);
+            if (is_ok && (memcmp(x.state, y.state, STATE) != 0 || memcmp(x.page, y.page, PAGE) != 0))
+                is_ok = bad("the state or the page differs");
+            *done += n > 1;
+        }
+        if (!is_ok)
+            in_record(i, k);
+    }
+    free_run(&x);
+    free_run(&y);
+    return is_ok;
+}
+
+/* ---- refusals: each is tried on a run as the log leaves it, and changes no lent byte */
+
+enum { ROOM = 64 };
+
+struct lent {
+    uint8_t table[LONGEST + 1], state[STATE + 1], page[PAGE + 1], schedule[ROOM], answers[ROOM];
+};
+
+static struct lent now, before; /* what is lent, and a copy */
+
+static bool nothing_changed(void)
+{
+    return memcmp(&now, &before, sizeof now) == 0 || bad("a refusal has changed a byte");
+}
+
+static bool refused(const char *what, uint32_t result, uint32_t expected)
+{
+    return result == expected ? nothing_changed() : bad("%s returns %u, not %u", what, result, expected);
+}
+
+static uint32_t run_lengths(size_t table, size_t state, size_t page, size_t schedule, size_t answers)
+{
+    return ours->run(now.table, table, now.state, state, now.page, page, now.schedule, schedule, now.answers, answers);
+}
+
+static bool lengths_refused(size_t n)
+{
+    static const size_t states[] = {0, STATE - 1, STATE + 1}, pages[] = {0, PAGE - 1, PAGE + 1};
+    bool is_ok = true;
+    for (size_t i = 0; is_ok && i < 3; i++) {
+        is_ok = refused("begin of a wrong state", ours->begin(now.table, n, now.state, states[i]), 1)
+            && refused("look at a wrong state", ours->look(now.table, n, now.state, states[i], 1, 0, 0), 1)
+            && refused("run of a wrong state", run_lengths(n, states[i], PAGE, ROOM, ROOM), 1)
+            && refused("run with a wrong page", run_lengths(n, STATE, pages[i], ROOM, ROOM), 1)
+            && refused("run with few answers", run_lengths(n, STATE, PAGE, ROOM, ROOM - 1 - i), 1)
+            && refused("run of a wrong table and page", run_lengths(n + 1, STATE, pages[i], ROOM, ROOM), 1);
+    }
+    return is_ok;
+}
+
+/* A table has the verdict of check in every call. */
+static bool table_refused(size_t n)
+{
+    uint32_t verdict = ours->check(now.table, n);
+    if (verdict == 0)
+        return true;
+    return refused("begin", ours->begin(now.table, n, now.state, STATE), verdict)
+        && refused("run", run_lengths(n, STATE, PAGE, ROOM, ROOM), verdict)
+        && refused("run of nothing", run_lengths(n, STATE, PAGE, 0, 0), verdict)
+        && refused("look", ours->look(now.table, n, now.state, STATE, 1, 0, 0), verdict);
+}
+
+static bool looks_refused(size_t n)
+{
+    static const uint32_t asked[][3] = {{0, 0, 0}, {65, 0, 0}, {257, 0, 0}, {UINT32_MAX, 0, 0}, {1, 255, 0}, {1, 256, 0},
+                                        {1, 65536, 0}, {1, UINT32_MAX, 0}, {1, 0, 201}, {1, 0, 65536}, {1, 0, UINT32_MAX}};
+    bool is_ok = true;
+    for (size_t i = 0; is_ok && i < sizeof asked / sizeof *asked; i++)
+        is_ok = refused("look", ours->look(now.table, n, now.state, STATE, asked[i][0], asked[i][1], asked[i][2]), 11);
+    return is_ok;
+}
+
+/* Answers beyond the schedule's stay, and an empty schedule changes nothing. */
+static bool later_answers_stay(size_t n)
+{
+    if (!refused("run of nothing", run_lengths(n, STATE, PAGE, 0, ROOM), 0))
+        return false;
+    uint32_t r = run_lengths(n, STATE, PAGE, ROOM / 2, ROOM);
+    if (r != 0)
+        return bad("run returns %u", r);
+    return memcmp(now.answers + ROOM / 2, before.answers + ROOM / 2, ROOM - ROOM / 2) == 0 || bad("a later answer byte has changed");
+}
+
+/* ---- pseudo-random numbers: xorshift64*, a fixed seed a test */
+
+static uint64_t seed;
+
+static uint32_t below(uint32_t limit)
+{
+    seed ^= seed >> 12;
+    seed ^= seed << 25;
+    seed ^= seed >> 27;
+    return (uint32_t)((seed * 0x2545F4914F6CDD1Du) >> 33) % limit;
+}
+
+/* What is lent: the table, and state and page after the first calls of a record. */
+static bool lend(struct run *x, const struct record *d, size_t calls)
+{
+    if (!begin(x, d))
+        return false;
+    for (size_t k = 0; k < calls; k++)
+        if (!replay_call(x, d, &d->call[k]))
+            return false;
+    memcpy(now.table, d->table, d->length);
+    memcpy(now.state, x->state, STATE);
+    memcpy(now.page, x->page, PAGE);
+    for (size_t i = 0; i < ROOM; i++) {
+        now.schedule[i] = (uint8_t)below(x->state[2 * (16384 + 8)] + 2u);
+        now.answers[i] = (uint8_t)below(256);
+    }
+    before = now;
+    return true;
+}
+
+static bool refusals(void)
+{
+    struct run x = make_run(ours, 0);
+    bool is_ok = true;
+    seed = 11;
+    for (size_t i = 0; is_ok && i < count; i++) {
+        const struct record *d = &records[i];
+        is_ok = lend(&x, d, d->calls) && lengths_refused(d->length) && looks_refused(d->length) && table_refused(d->length - 1)
+            && table_refused(d->length + 1);
+        for (int round = 0; is_ok && round < 10; round++) {
+            size_t at = below((uint32_t)d->length);
+            now.table[at] = before.table[at] = (uint8_t)below(20);
+            is_ok = table_refused(d->length);
+            now.table[at] = before.table[at] = d->table[at];
+        }
+        is_ok = (is_ok && later_answers_stay(d->length)) || in_record(i, d->calls);
+    }
+    free_run(&x);
+    return is_ok;
+}
+
+/* ---- damaged states: some words of a state that a log reaches are changed. The plain interpreter is the second opinion. */
+
+static size_t word_at(size_t i)
+{
+    return word(before.state + 2 * i);
+}
+
+/* A word that the state rule reads, as a rule. */
+static size_t pick_word(void)
+{
+    size_t p = below((uint32_t)word_at(16384 + 8)), record = 16384 + 20 * p, top = word_at(record + 4);
+    return below(2) ? record + below(10) : 256 * p + below(top ? (uint32_t)top : 8);
+}
+
+static void damage(void)
+{
+    for (uint32_t changes = 1 + below(2); changes > 0; changes--) {
+        size_t at = pick_word();
+        uint32_t old = (uint32_t)word_at(at), how = below(4);
+        uint32_t new = how == 0 ? below(65536) : how == 1 ? below(70) : how == 2 ? old + below(5) - 2 : (uint32_t)word_at(pick_word());
+        now.state[2 * at] = (uint8_t)new;
+        now.state[2 * at + 1] = (uint8_t)(new >> 8);
+    }
+    before = now;
+}
+
+static bool looks_alike(size_t n, uint32_t verdict)
+{
+    uint32_t p = below(6), v = below(12), k = below(4);
+    uint32_t r = ours->look(now.table, n, now.state, STATE, p, v, k), s = plain.look(now.table, n, now.state, STATE, p, v, k);
+    if (r != s)
+        return bad("look at %u, %u, %u returns %u, and %u by the plain interpreter", p, v, k, r, s);
+    return verdict != 0 ? r == verdict || bad("look returns %u, and run %u", r, verdict) : true;
+}
+
+/* Both run it alike, and what is not refused is left in a state that meets the rule. */
+static bool run_alike(size_t n, size_t seen[2])
+{
+    static struct lent other;
+    other = now;
+    uint32_t r = run_lengths(n, STATE, PAGE, ROOM, ROOM);
+    uint32_t s = plain.run(other.table, n, other.state, STATE, other.page, PAGE, other.schedule, ROOM, other.answers, ROOM);
+    if (r != s || (r != 0 && r != 10))
+        return bad("run returns %u, and %u by the plain interpreter", r, s);
+    if (memcmp(&now, &other, sizeof now) != 0)
+        return bad("what is lent differs from what the plain interpreter leaves");
+    seen[r != 0]++;
+    if (r != 0)
+        return nothing_changed() && looks_alike(n, 10);
+    r = run_lengths(n, STATE, PAGE, 0, 0);
+    return r == 0 ? looks_alike(n, 0) : bad("a run reaches a state that it refuses with %u", r);
+}
+
+static bool damaged(size_t *done)
+{
+    struct run x = make_run(ours, 0);
+    size_t seen[2] = {0};
+    bool is_ok = true;
+    seed = 35328;
+    for (size_t i = 0; is_ok && i < 4 * count; i++) {
+        const struct record *d = &records[i % count];
+        size_t calls = below((uint32_t)d->calls + 1);
+        is_ok = lend(&x, d, calls);
+        struct lent *sound = room(sizeof now);
+        *sound = now;
+        for (int round = 0; is_ok && round < 20; round++) {
+            now = before = *sound;
+            damage();
+            is_ok = run_alike(d->length, seen);
+        }
+        free(sound);
+        if (!is_ok)
+            in_record(i % count, calls);
+    }
+    free_run(&x);
+    *done = seen[0] + seen[1];
+    return is_ok && ((seen[0] > 0 && seen[1] > 0) || bad("%zu states meet the rule and %zu do not", seen[0], seen[1]));
+}
+
+int main(int argc, char **argv)
+{
+    static const size_t cuts[] = {1, 2, 3, 5, 7, 11, 64};
+    size_t every = argc == 3 ? strtoul(argv[2], NULL, 10) : 1;
+    if (argc < 2 || argc > 3 || every == 0 || !load(argv[1], every)) {
+        fprintf(stderr, "usage: logs RUNS [EVERY]\n");
+        return 2;
+    }
+    report("agree", agree(), count, "runs");
+    size_t done = 0;
+    bool is_ok;
+    for (size_t i = 0; i < sizeof cuts / sizeof *cuts; i++) {
+        char name[40];
+        snprintf(name, sizeof name, "cut_%zu", cuts[i]);
+        done = 0;
+        is_ok = same_states(ours, cuts[i], &done);
+        report(name, is_ok, done, "steps");
+    }
+    done = 0;
+    is_ok = joined(&done);
+    report("joined", is_ok, done, "joints");
+    if (ours != &plain) {
+        done = 0;
+        is_ok = same_states(&plain, 1, &done);
+        report("second_opinion", is_ok, done, "steps");
+    }
+    report("refusals", refusals(), count, "runs");
+    done = 0;
+    is_ok = damaged(&done);
+    report("damaged", is_ok, done, "states");
+    return failures > 0;
+}
