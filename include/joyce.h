@@ -1,6 +1,45 @@
-/* joyce.h: the C interface of the checker of Joyce program tables.
+/* joyce.h: the C interface of the checker and stepper of Joyce program tables. This page is the whole manual.
+ *
+ * A host lends bytes, calls, and gets a number back. There are four calls:
+ *
+ *     joyce_check   is this table a program?
+ *     joyce_begin   a state in which the program stands at its beginning
+ *     joyce_run     steps, one for each process number of a schedule
+ *     joyce_look    one word of one variable
+ *
+ *     static uint8_t state[JOYCE_STATE_SIZE], page[JOYCE_PAGE_SIZE];
+ *     uint8_t turns[3] = {1, 2, 1}, answers[3];
+ *
+ *     if (joyce_begin(table, length, state, sizeof state) == JOYCE_OK &&
+ *         joyce_run(table, length, state, sizeof state, page, sizeof page, turns, 3, answers, 3) == JOYCE_OK)
+ *         printf("the first step answered %u\n", answers[0]);
  *
  * Link with libjoyce.a. It needs the functions memcpy, memmove, memset and memcmp at most, and nothing else of a C library.
+ *
+ * ---- What holds for every call
+ *
+ * Any input. Any bytes of any lengths, and any numbers, have a result: each call returns, for every input, one of the numbers that its
+ * comment lists. It needs no test before it.
+ *
+ * Refusals. A result of 1..11 is a refusal, and a refusal changes no lent byte. The lowest number that applies is returned: lengths come
+ * first, then the table, then the state, then what is looked at. All calls give a table the same verdict: begin, run and look refuse it
+ * with the number of joyce_check.
+ *
+ * Pointers. A slice is a pointer and a number of bytes. The pointer may be null only where the number is 0; else it is the first of as many
+ * bytes, and needs no alignment. Slices to const are read and not written. A call reads and writes no other byte of the caller's, and keeps no
+ * pointer when it returns.
+ *
+ * Sharing. A slice that a call writes (the state in joyce_begin; state, page and answers in joyce_run) may not overlap another slice of the
+ * same call. Slices that are only read may: table and schedule, say.
+ *
+ * Threads. The library has no variables: all that a run is stands in its state. Calls may be made from any threads at the same time, as long as
+ * nobody writes a slice that another call uses meanwhile. So threads may share one table, and each needs a state, a page and answers of its own. A
+ * call allocates nothing and needs less than 256 KiB of stack.
+ *
+ * States are bytes. A state may be copied, stored, compared and put back at any time. With the same table, and the same device words, equal
+ * states behave alike, wherever the schedule is cut into calls.
+ *
+ * ---- Tables
  *
  * A program table holds a program of Joyce (P. Brinch Hansen, Joyce, a language for computer networks, November 1979) as numbers: seven
  * sections, each a one-byte count and then as many entries. The sections in order, with their fields; a field has one byte but low,
@@ -24,10 +63,39 @@
 extern "C" {
 #endif
 
-/* What joyce_check returns. */
-enum joyce_refusal {
-    /* the table is accepted */
+/* The version of this interface. The first number changes where a host must be changed, the second where something is added. */
+#define JOYCE_VERSION_MAJOR 1
+#define JOYCE_VERSION_MINOR 0
+#define JOYCE_VERSION_PATCH 0
+#define JOYCE_VERSION "1.0.0"
+
+/* Sizes, in bytes. */
+#define JOYCE_STATE_SIZE 35328 /* a state: 64 areas of 512 bytes, then 64 control records of 40 */
+#define JOYCE_PAGE_SIZE 8192   /* a device page */
+#define JOYCE_TABLE_MAX 7657   /* the longest seven sections; every longer table is refused with JOYCE_SECTIONS */
+#define JOYCE_ACCEPTED_MAX 6633 /* the longest table that can be accepted */
+
+/* Limits of a program and of its run. */
+#define JOYCE_PROCESSES_MAX 64    /* processes in one run; they are numbered from 1 */
+#define JOYCE_AREA_WORDS 256      /* words of a process: the variables of its module, then its calls */
+#define JOYCE_TYPE_WORDS_MAX 200  /* words of one type */
+#define JOYCE_CALL_WORDS 4        /* words that a call takes of its caller's area, besides its variables */
+#define JOYCE_INTEGER_MIN (-32768)
+#define JOYCE_INTEGER_MAX 32767
+#define JOYCE_CHARACTER_MAX 127
+
+/* A program reads and writes the device page by even addresses, -8192..-2. The word with an address stands in the two bytes from address +
+ * JOYCE_PAGE_SIZE on, low byte first. */
+#define JOYCE_ADDRESS_MIN (-8192)
+#define JOYCE_ADDRESS_MAX (-2)
+
+/* What the calls return. Which call returns which stands at the call. */
+enum joyce_result {
+    /* done; of a table: accepted */
+    JOYCE_OK = 0,
     JOYCE_ACCEPTED = 0,
+    /* a lent length is wrong */
+    JOYCE_LENGTH = 1,
     /* the sections end early, or bytes are left over */
     JOYCE_SECTIONS = 2,
     /* a kind, mode or operator is unknown, or an unused field is not 0 */
@@ -49,19 +117,133 @@ enum joyce_refusal {
     /* an operand, guard, index, argument or parameter has a wrong type; a process call names a procedure of another module than its
      * variable's; there are too few or too many arguments, or one is no variable for a var parameter, or no expression for another; a constant
      * lies outside its type */
-    JOYCE_TYPES = 9
+    JOYCE_TYPES = 9,
+    /* the state breaks the state rule for this program: it is another program's, was damaged, or was never begun */
+    JOYCE_STATE = 10,
+    /* there is no such word to look at */
+    JOYCE_ABSENT = 11,
+    /* joyce_look found the word: this number plus the word, 0..65,535 */
+    JOYCE_WORD = 65536
 };
 
-/* The verdict on the length bytes at table: JOYCE_ACCEPTED, or the lowest of the refusals 2..9 that applies.
+/* The answer of a step, one byte. From 16 on the run has failed. */
+enum joyce_answer {
+    /* one statement was carried out */
+    JOYCE_DONE = 0,
+    /* the process waits, and its own block has not ended: it is not started; the variables that it works on are held by another; every guard
+     * of its when or cycle is false; or the target of its process call is not started, or held */
+    JOYCE_WAITS = 1,
+    /* its own block has ended, in this step or before */
+    JOYCE_ENDED = 2,
+    /* there is no such process */
+    JOYCE_NO_PROCESS = 3,
+    /* an integer result lies outside -32,768..32,767 */
+    JOYCE_OVERFLOW = 16,
+    /* a divisor is 0 */
+    JOYCE_DIVISOR = 17,
+    /* an index lies outside the bounds of its array */
+    JOYCE_INDEX = 18,
+    /* a call or start through an empty reference */
+    JOYCE_EMPTY = 19,
+    /* a process was started twice */
+    JOYCE_TWICE = 20,
+    /* a device address is odd, or outside -8,192..-2 */
+    JOYCE_ADDRESS = 21,
+    /* the call does not fit what is left of the process's area */
+    JOYCE_AREA = 22,
+    /* a transferred word is no value of the type */
+    JOYCE_TRANSFER = 23,
+    /* a create while 64 processes exist */
+    JOYCE_PROCESSES = 24
+};
+
+/* The first answer by which a run fails. */
+#define JOYCE_FAILURE 16
+
+/* The verdict on the table_len bytes at table.
  *
- * Any bytes of any length have a verdict: the call always returns, and never returns 1 or any other number. Above 7,657 bytes the
- * verdict is always 2; the longest table that can be accepted has 6,633. The time grows with the length, and not beyond these.
- *
- * table may be null only where length is 0. Else it is the first of length bytes that may be read, and that nobody writes during the
- * call. The call reads no other byte of the caller's and writes none; it keeps neither the pointer nor anything else. It has no state, so it
- * may be called from any thread, also on one table at the same time.
+ * Returns JOYCE_ACCEPTED, or the lowest of the refusals 2..9 that applies; never 1 or any other number. Above JOYCE_TABLE_MAX bytes it is
+ * always JOYCE_SECTIONS. Writes nothing. The time grows with the length, up to JOYCE_TABLE_MAX.
  */
-uint32_t joyce_check(const uint8_t *table, size_t length);
+uint32_t joyce_check(const uint8_t *table, size_t table_len);
+
+/* Fills a state in which process 1 is started and stands at the first statement of block 0, and no other process is created.
+ *
+ * Returns, the first that applies:
+ *     JOYCE_LENGTH   state_len is not JOYCE_STATE_SIZE
+ *     2..9           the verdict on the table
+ *     JOYCE_OK
+ *
+ * Afterwards, on JOYCE_OK, all JOYCE_STATE_SIZE bytes are written, and do not depend on what they were before; all variables are 0, and all
+ * references empty. On a refusal the state is as it was.
+ */
+uint32_t joyce_begin(const uint8_t *table, size_t table_len, uint8_t *state, size_t state_len);
+
+/* Makes one step for each byte of the schedule, in order. The byte is the number of the process that takes the turn, and may be any.
+ *
+ * Returns, the first that applies:
+ *     JOYCE_LENGTH   state_len is not JOYCE_STATE_SIZE, page_len is not JOYCE_PAGE_SIZE, or answers_len is less than schedule_len
+ *     2..9           the verdict on the table
+ *     JOYCE_STATE    the state breaks the state rule for this table
+ *     JOYCE_OK
+ *
+ * Afterwards, on JOYCE_OK:
+ *     state     is as the last step left it
+ *     page      holds what the steps wrote, and else what it held; steps also read it, so it is how a host talks to the program
+ *     answers   the first schedule_len bytes are the answers of the steps, in order, each one of enum joyce_answer; the bytes after them are as
+ *               they were
+ * On a refusal all of them are as they were. An empty schedule is tested like any other, and changes nothing.
+ *
+ * A step that answers JOYCE_DONE carried out one statement. One that answers JOYCE_WAITS changes nothing, but that a when or cycle whose guards are
+ * all false gives up the variables that it works on. JOYCE_ENDED changes the state only in the step in which the block ends, JOYCE_NO_PROCESS never.
+ *
+ * A step that fails changes nothing but the state's failure mark. Each later step then answers the same number, whatever process it names, and
+ * changes nothing; the call still returns JOYCE_OK. Only joyce_begin, or an earlier copy of the state, leads out of it.
+ *
+ * A run may be cut into calls anywhere: one call of n steps and n calls of one step leave the same answers, state and page.
+ */
+uint32_t joyce_run(const uint8_t *table, size_t table_len, uint8_t *state, size_t state_len, uint8_t *page, size_t page_len,
+                   const uint8_t *schedule, size_t schedule_len, uint8_t *answers, size_t answers_len);
+
+/* One word of a variable of a process. The variable is named by its number in the section of variables, and is one of the process's module (of
+ * block 0 for process 1), a parameter too; a procedure's variables cannot be looked at. The place counts the words of the variable from 0: a
+ * simple variable has place 0 only, a record or an array its words in order.
+ *
+ * Returns, the first that applies:
+ *     JOYCE_LENGTH   state_len is not JOYCE_STATE_SIZE
+ *     2..9           the verdict on the table
+ *     JOYCE_STATE    the state breaks the state rule for this table
+ *     JOYCE_ABSENT   the process is not started (an ended one counts as started), the variable is not of its module, or the place lies outside it
+ *     JOYCE_WORD + w where w, 0..65,535, is the word
+ *
+ * process, variable and place may be any numbers. Writes nothing. It answers after a failed run as before.
+ *
+ * An integer is joyce_integer(result); a boolean is 0 or 1; a character 0..127; a reference the number of a process, 2..64, or 0, the empty one.
+ */
+uint32_t joyce_look(const uint8_t *table, size_t table_len, const uint8_t *state, size_t state_len, uint32_t process, uint32_t variable,
+                    uint32_t place);
+
+/* The integer, -32,768..32,767, that a word of joyce_look or of a device page stands for. */
+static inline int joyce_integer(uint32_t word)
+{
+    word &= 0xffffu;
+    return word < 0x8000u ? (int)word : (int)word - 0x10000;
+}
+
+/* The device word with an even address, JOYCE_ADDRESS_MIN..JOYCE_ADDRESS_MAX, of a page of JOYCE_PAGE_SIZE bytes. */
+static inline int joyce_get(const uint8_t *page, int address)
+{
+    const uint8_t *at = page + (address - JOYCE_ADDRESS_MIN);
+    return joyce_integer((uint32_t)(at[0] + 256 * at[1]));
+}
+
+/* Makes it value. */
+static inline void joyce_put(uint8_t *page, int address, int value)
+{
+    uint8_t *at = page + (address - JOYCE_ADDRESS_MIN);
+    at[0] = (uint8_t)((unsigned)value & 0xffu);
+    at[1] = (uint8_t)((unsigned)value >> 8 & 0xffu);
+}
 
 #ifdef __cplusplus
 }

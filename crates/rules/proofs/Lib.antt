@@ -2,3 +2,4 @@ pub mod Reading
 pub mod Values
 pub mod Parts
 pub mod Frames
+pub mod Chains

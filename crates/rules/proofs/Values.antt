@@ -1,15 +1,15 @@
 -- Values of types: the laws of each return of the walk over a value. Assumes nothing.
-use Prim.Native.Nat.{ℕ, suc, _+_, _-_, _*_, _≤_, _<_}
+use Prim.Native.Nat.{ℕ, zero, suc, _+_, _*_, _≤_, _<_}
 use mathlib.Core.Path.{_≡_, refl, sym, ap, _∙_, fun-ext}
 use mathlib.Core.Bool.{Bool, true, false}
-use lib.Dec.{eqb, leb, ltb}
+use lib.Dec.{eqb, ltb}
 use native.Mathlib.Omega.{arith}
 use native.Mathlib.Numerals.{add-one}
 use native.Mathlib.Nat.{add-zero, suc-mul}
 use mir.Val.{Fits}
 use mir.Syntax.{w64}
-use borrow.Author.Tests.{eq-eqb, ne-eqb, lt-ltb, le-ltb, ltb-true, ltb-false, eqb-true, eqb-false}
-use Rattle.basics.specs.Choice.{pick, cases, both, either, allBelow, Passed}
+use borrow.Author.Tests.{ne-eqb, lt-ltb, le-ltb, ltb-false}
+use Rattle.basics.specs.Choice.{pick, cases, both, either, allBelow}
 use Rattle.basics.proofs.Passes.{passed-none, passed-more, passed-fail, passed-all}
 use Rattle.table.specs.Table.{Table}
 use Rattle.table.specs.Entries.{declared, typeKind, typeP, typeQ, typeLow, typeHigh, fieldType}
@@ -21,7 +21,7 @@ use Rattle.machine.specs.Entries.{TypeEntry, integer, boolean, character, recor
 use Rattle.machine.specs.Processes.{refers}
 use Rattle.machine.specs.Values.{holds, typeHolds, nowhere}
 use Rattle.machine.proofs.Courses.{below, holds-is}
-use Rattle.rules.specs.Walks.{Near, Words, simpleHolds, referenceHolds, partHolds, fieldHolds, fieldsHold, elementHolds, elementsHold, RecordAt, ArrayAt, FieldsTo, ElementsTo}
+use Rattle.rules.specs.Walks.{Near, simpleHolds, referenceHolds, partHolds, fieldHolds, fieldsHold, elementHolds, elementsHold, RecordAt, ArrayAt, FieldsTo, ElementsTo}
 
 -- a type with a kind is no standard type
 pub no-standard : (T : Table) (τ : ℕ) → 1 ≤ typeKind T τ → 3 ≤ τ
@@ -206,6 +206,23 @@ module _ (T : Table) (m : Memory) (τ a : ℕ) where
   pub elements-all : (i k n : ℕ) → ElementsTo T m τ a i k → n ≡ elements T τ → i ≤ n → n ≤ i → true ≡ elementsHold T m τ a
   unfolding elementsHold
   elements-all i k n h e l g = passed-all (elementHolds T m τ a) i (elements T τ) (h .passed) (rw e at l) (rw e at g)
+
+-- an array of integers: a word holds one whatever it is
+all-true : (n : ℕ) (f : ℕ → Bool) → ((i : ℕ) → f i ≡ true) → true ≡ allBelow n f
+unfolding allBelow both
+all-true zero f h = refl
+all-true (suc n) f h = rw (h n) (all-true n f h)
+
+pub integer-holds : (T : Table) (m : Memory) (a : ℕ) → holds T m 0 a ≡ true
+unfolding simpleHolds declared
+integer-holds T m a = holds-simple T m 0 a (λ e. absurd (omega arith)) (λ e. absurd (omega arith)) (λ e. absurd (omega arith))
+
+pub elements-integers : (T : Table) (m : Memory) (τ a q : ℕ) → ArrayAt T m τ a → q ≡ typeQ T τ → q ≡ 0 → true ≡ elementsHold T m τ a
+unfolding elementsHold elementHolds partHolds
+elements-integers T m τ a q x e z =
+    let l = no-standard T τ (let k = x .kind in omega arith) in
+    all-true (elements T τ) (elementHolds T m τ a) (λ i.
+    rw (← e, z, lt-ltb 0 τ (omega arith)) (integer-holds T m (a + i * wordsOf T 0)))
 
 -- the next part's location is a number
 pub walk-fits : (T : Table) (τ a w : ℕ) → Near T τ a → w ≡ wordsOf T τ → Fits w64 (a + w)

@@ -6,16 +6,18 @@ ghost use Rattle.basics.specs.Choice.{both};
 ghost use Rattle.table.specs.Table.{tableOf};
 ghost use Rattle.table.specs.Entries.{typeKind};
 ghost use Rattle.table.specs.Reading.{Of, Field};
-ghost use Rattle.sizes.specs.Sizes.{wordsOf, partWords};
+ghost use Rattle.sizes.specs.Sizes.{wordsOf, partWords, moduleWords};
 ghost use Rattle.machine.specs.Memory.{memoryOf};
 ghost use Rattle.machine.specs.Layout.{location, recordAt, createdAt};
 ghost use Rattle.machine.specs.Lent.{Lent};
 ghost use Rattle.machine.specs.Processes.{refers};
-ghost use Rattle.machine.specs.Variables.{varWords};
+ghost use Rattle.machine.specs.Entries.{stmtAt};
+ghost use Rattle.machine.specs.Variables.{varWords, frameWords, isModule, isProcedure};
 ghost use Rattle.machine.specs.Step.{inRange};
 ghost use Rattle.machine.specs.Values.{holds, part, partOfBlock};
-ghost use Rattle.machine.specs.Rule.{owns, lives, modulesHold, framesHold};
+ghost use Rattle.machine.specs.Rule.{nextFirst, liesIn, calls, owns, lives, modulesHold, framesHold, frameOk, startedOk, moduleOk, processOk, rule};
 ghost use Rattle.rules.specs.Frames.{variableHolds, livesInModule, ownedIn, frameVariable};
+ghost use Rattle.rules.specs.Chains.{Sum, createdOf, frameFits, calledOk, callOk, baseOk, runningOk, failureHolds, processesHold};
 ghost use Rattle.rules.specs.Walks.{Ready, Near, Words, simpleHolds, referenceHolds, fieldsHold, elementsHold, RecordAt, ArrayAt, fieldBegins, fieldsBegin, elementBegins, variableBegins};
 
 fn wide(x: u16) -> usize
@@ -184,6 +186,7 @@ fn fields_hold(
     true
 }
 
+// Every word is an integer, so an array of integers needs no pass.
 fn elements_hold(
     t: &[u8],
     s: table::Sections,
@@ -199,6 +202,9 @@ fn elements_hold(
     ensures { λ r. ⌜ r ≡ elementsHold (tableOf (s .w) (now (t .entry))) (memoryOf (now (state .entry))) x a ⌝ }
 {
     let q = table::type_q(t, s, x);
+    if q == 0 {
+        return true;
+    }
     let count = types::elements_of(t, s, x);
     let words = words_of(t, s, sizes, q);
     let mut at = a;
@@ -645,4 +651,371 @@ fn frames_hold(
         }
     }
     true
+}
+
+// Where the statements of block b end: at the first of the next block, or at the end of all.
+fn next_first(t: &[u8], s: table::Sections, b: usize) -> usize
+    requires { ⌜ Of (now t) s ⌝ }
+    requires { ⌜ b < 65536 ⌝ }
+    ensures { λ r. ⌜ r ≡ nextFirst (tableOf (s .w) (now (t .entry))) b ⌝ }
+{
+    if b + 1 < table::blocks(t, s) {
+        return table::first_stmt(t, s, b + 1);
+    }
+    table::statements(t, s)
+}
+
+// Statement c is one of block b's.
+fn lies_in(t: &[u8], s: table::Sections, b: usize, c: usize) -> bool
+    requires { ⌜ Of (now t) s ⌝ }
+    requires { ⌜ b < 65536 ⌝ }
+    ensures { λ r. ⌜ r ≡ liesIn (tableOf (s .w) (now (t .entry))) b c ⌝ }
+{
+    if table::first_stmt(t, s, b) <= c {
+        return c < next_first(t, s, b);
+    }
+    false
+}
+
+fn is_procedure(t: &[u8], s: table::Sections, b: usize) -> bool
+    requires { ⌜ Of (now t) s ⌝ }
+    ensures { λ r. ⌜ r ≡ isProcedure (tableOf (s .w) (now (t .entry))) b ⌝ }
+{
+    if b < table::blocks(t, s) {
+        return table::block_kind(t, s, b) == 2;
+    }
+    false
+}
+
+fn is_module(t: &[u8], s: table::Sections, b: usize) -> bool
+    requires { ⌜ Of (now t) s ⌝ }
+    ensures { λ r. ⌜ r ≡ isModule (tableOf (s .w) (now (t .entry))) b ⌝ }
+{
+    if b < table::blocks(t, s) {
+        return table::block_kind(t, s, b) == 1;
+    }
+    false
+}
+
+// Statement c calls procedure q: a local call (kind 2), or one of another process (kind 3).
+fn calls_procedure(t: &[u8], s: table::Sections, q: usize, c: usize) -> bool
+    requires { ⌜ Of (now t) s ⌝ }
+    ensures { λ r. ⌜ r ≡ calls q (stmtAt (tableOf (s .w) (now (t .entry))) c) ⌝ }
+{
+    if c < table::statements(t, s) {
+        let kind = table::stmt_kind(t, s, c);
+        if kind == 2 {
+            return table::stmt_a(t, s, c) == q;
+        }
+        if kind == 3 {
+            return table::stmt_b(t, s, c) == q;
+        }
+        return false;
+    }
+    false
+}
+
+// The words of a procedure's variables in its frame.
+fn frame_words(t: &[u8], s: table::Sections, sizes: &[u16], q: usize) -> usize
+    requires { ⌜ Of (now t) s ⌝ }
+    requires { ⌜ Ready (tableOf (s .w) (now t)) (now sizes) ⌝ }
+    ensures { λ r. ⌜ Sum (frameWords (tableOf (s .w) (now (t .entry))) q) r ⌝ }
+{
+    let first = table::first_var(t, s, q);
+    let count = table::block_vars(t, s, q);
+    let mut sum = 0;
+    let mut i = 0;
+    while i < count {
+        sum += var_words(t, s, sizes, first + i);
+        i += 1;
+    }
+    sum
+}
+
+// The words of the variables of a module or of block 0.
+fn module_words(t: &[u8], s: table::Sections, sizes: &[u16], b: usize) -> usize
+    requires { ⌜ Of (now t) s ⌝ }
+    requires { ⌜ Ready (tableOf (s .w) (now t)) (now sizes) ⌝ }
+    ensures { λ r. ⌜ Sum (moduleWords (tableOf (s .w) (now (t .entry))) b) r ⌝ }
+{
+    let first = table::first_var(t, s, b);
+    let count = table::block_vars(t, s, b);
+    let mut sum = 0;
+    let mut i = 0;
+    while i < count {
+        let x = table::var_type(t, s, first + i);
+        sum += words_of(t, s, sizes, x);
+        i += 1;
+    }
+    sum
+}
+
+// w is a created process of block b.
+fn is_of(state: &[u8], b: usize, w: usize) -> bool
+    requires { ⌜ Lent 17664 (now state) ⌝ }
+    ensures { λ r. ⌜ r ≡ createdOf (memoryOf (now (state .entry))) b w ⌝ }
+{
+    if 1 <= w {
+        if w <= created(state) {
+            return b == record_word(state, w, 1);
+        }
+        return false;
+    }
+    false
+}
+
+// q is a procedure of the block of the process w.
+fn called_ok(t: &[u8], s: table::Sections, state: &[u8], w: usize, q: usize) -> bool
+    requires { ⌜ Of (now t) s ⌝ }
+    requires { ⌜ Lent 17664 (now state) ⌝ }
+    ensures { λ r. ⌜ r ≡ calledOk (tableOf (s .w) (now (t .entry))) (memoryOf (now (state .entry))) w q ⌝ }
+{
+    if is_procedure(t, s, q) {
+        return is_of(state, table::block_owner(t, s, q), w);
+    }
+    false
+}
+
+// The frame of procedure q at f ends at the top, within the area. The words are added up only where the frame can fit.
+fn frame_fits(t: &[u8], s: table::Sections, sizes: &[u16], f: usize, top: usize, q: usize) -> bool
+    requires { ⌜ Of (now t) s ⌝ }
+    requires { ⌜ Ready (tableOf (s .w) (now t)) (now sizes) ⌝ }
+    requires { ⌜ f < 65536 ⌝ }
+    ensures { λ r. ⌜ r ≡ frameFits (tableOf (s .w) (now (t .entry))) f top q ⌝ }
+{
+    if f + 4 <= 256 {
+        if top <= 256 {
+            return f + 4 + frame_words(t, s, sizes, q) == top;
+        }
+        return false;
+    }
+    false
+}
+
+// A call of procedure q, with its frame at f, that stands at statement c and works on process w; its frame ends at the top.
+fn frame_ok(
+    t: &[u8],
+    s: table::Sections,
+    sizes: &[u16],
+    state: &[u8],
+    f: usize,
+    w: usize,
+    c: usize,
+    top: usize,
+    q: usize,
+) -> bool
+    requires { ⌜ Of (now t) s ⌝ }
+    requires { ⌜ Ready (tableOf (s .w) (now t)) (now sizes) ⌝ }
+    requires { ⌜ Lent 17664 (now state) ⌝ }
+    requires { ⌜ (f < 65536) × (q < 65536) ⌝ }
+    ensures { λ r. ⌜ r ≡ frameOk (tableOf (s .w) (now (t .entry))) (memoryOf (now (state .entry))) f w c top q ⌝ }
+{
+    if called_ok(t, s, state, w, q) {
+        if lies_in(t, s, q, c) {
+            return frame_fits(t, s, sizes, f, top, q);
+        }
+        return false;
+    }
+    false
+}
+
+// The call with its frame at f, d calls below it: its frame, the statement that called, and its variables, which take longest.
+fn call_ok(
+    t: &[u8],
+    s: table::Sections,
+    sizes: &[u16],
+    state: &[u8],
+    p: usize,
+    d: usize,
+    f: usize,
+    w: usize,
+    c: usize,
+    top: usize,
+) -> bool
+    requires { ⌜ Of (now t) s ⌝ }
+    requires { ⌜ Ready (tableOf (s .w) (now t)) (now sizes) ⌝ }
+    requires { ⌜ Lent 17664 (now state) ⌝ }
+    requires { ⌜ (1 ≤ p) × ((p ≤ 64) × (f < 65536)) ⌝ }
+    ensures { λ r. ⌜ r ≡ callOk (tableOf (s .w) (now (t .entry))) (memoryOf (now (state .entry))) p d f w c top ⌝ }
+{
+    let q = area_word(state, p, f + 3);
+    if frame_ok(t, s, sizes, state, f, w, c, top, q) {
+        if calls_procedure(t, s, q, area_word(state, p, f + 1)) {
+            return frames_hold(t, s, sizes, state, p, d, f, q);
+        }
+        return false;
+    }
+    false
+}
+
+// Below its calls process p stands at statement c of its own block, and works on itself.
+fn base_ok(
+    t: &[u8],
+    s: table::Sections,
+    sizes: &[u16],
+    state: &[u8],
+    p: usize,
+    f: usize,
+    w: usize,
+    c: usize,
+    top: usize,
+) -> bool
+    requires { ⌜ Of (now t) s ⌝ }
+    requires { ⌜ Ready (tableOf (s .w) (now t)) (now sizes) ⌝ }
+    requires { ⌜ Lent 17664 (now state) ⌝ }
+    requires { ⌜ (1 ≤ p) × (p ≤ 64) ⌝ }
+    ensures { λ r. ⌜ r ≡ baseOk (tableOf (s .w) (now (t .entry))) (memoryOf (now (state .entry))) p f w c top ⌝ }
+{
+    let b = record_word(state, p, 1);
+    if stands_alone(p, f, w) {
+        if lies_in(t, s, b, c) {
+            return top == module_words(t, s, sizes, b);
+        }
+        return false;
+    }
+    false
+}
+
+fn stands_alone(p: usize, f: usize, w: usize) -> bool
+    ensures { λ r. ⌜ r ≡ both (eqb f 0) (eqb w p) ⌝ }
+{
+    if f == 0 {
+        return w == p;
+    }
+    false
+}
+
+// The calls of process p that have not ended, the innermost first. A frame has at least 4 of the 256 words: there are no more than 64.
+fn chain_ok(t: &[u8], s: table::Sections, sizes: &[u16], state: &[u8], p: usize) -> bool
+    requires { ⌜ Of (now t) s ⌝ }
+    requires { ⌜ Ready (tableOf (s .w) (now t)) (now sizes) ⌝ }
+    requires { ⌜ Lent 17664 (now state) ⌝ }
+    requires { ⌜ (1 ≤ p) × (p ≤ 64) ⌝ }
+    ensures { λ r. ⌜ r ≡ startedOk (tableOf (s .w) (now (t .entry))) (memoryOf (now (state .entry))) p ⌝ }
+{
+    let mut n = record_word(state, p, 7);
+    let mut f = record_word(state, p, 3);
+    let mut w = record_word(state, p, 5);
+    let mut c = record_word(state, p, 2);
+    let mut top = record_word(state, p, 4);
+    if 64 < n {
+        return false;
+    }
+    while 0 < n {
+        if call_ok(t, s, sizes, state, p, n - 1, f, w, c, top) {
+            top = f;
+            c = area_word(state, p, f + 1);
+            w = area_word(state, p, f + 2);
+            f = area_word(state, p, f);
+            n -= 1;
+        } else {
+            return false;
+        }
+    }
+    base_ok(t, s, sizes, state, p, f, w, c, top)
+}
+
+// Process 1 is started and runs block 0; the others are created, of a process module.
+fn module_ok(t: &[u8], s: table::Sections, state: &[u8], p: usize) -> bool
+    requires { ⌜ Of (now t) s ⌝ }
+    requires { ⌜ Lent 17664 (now state) ⌝ }
+    requires { ⌜ (1 ≤ p) × (p ≤ 64) ⌝ }
+    ensures { λ r. ⌜ r ≡ moduleOk (tableOf (s .w) (now (t .entry))) (memoryOf (now (state .entry))) p ⌝ }
+{
+    let status = record_word(state, p, 0);
+    let b = record_word(state, p, 1);
+    if p == 1 {
+        if in_range(2, 3, status) {
+            return b == 0;
+        }
+        return false;
+    }
+    if in_range(1, 3, status) {
+        return is_module(t, s, b);
+    }
+    false
+}
+
+// A started process has calls, and stands at a statement.
+fn running_ok(t: &[u8], s: table::Sections, sizes: &[u16], state: &[u8], p: usize) -> bool
+    requires { ⌜ Of (now t) s ⌝ }
+    requires { ⌜ Ready (tableOf (s .w) (now t)) (now sizes) ⌝ }
+    requires { ⌜ Lent 17664 (now state) ⌝ }
+    requires { ⌜ (1 ≤ p) × (p ≤ 64) ⌝ }
+    ensures { λ r. ⌜ r ≡ runningOk (tableOf (s .w) (now (t .entry))) (memoryOf (now (state .entry))) p ⌝ }
+{
+    if record_word(state, p, 0) == 2 {
+        return chain_ok(t, s, sizes, state, p);
+    }
+    true
+}
+
+fn process_ok(t: &[u8], s: table::Sections, sizes: &[u16], state: &[u8], p: usize) -> bool
+    requires { ⌜ Of (now t) s ⌝ }
+    requires { ⌜ Ready (tableOf (s .w) (now t)) (now sizes) ⌝ }
+    requires { ⌜ Lent 17664 (now state) ⌝ }
+    requires { ⌜ (1 ≤ p) × (p ≤ 64) ⌝ }
+    ensures { λ r. ⌜ r ≡ processOk (tableOf (s .w) (now (t .entry))) (memoryOf (now (state .entry))) p ⌝ }
+{
+    if module_ok(t, s, state, p) {
+        if record_word(state, p, 6) <= created(state) {
+            if modules_hold(t, s, sizes, state, p, record_word(state, p, 1)) {
+                return running_ok(t, s, sizes, state, p);
+            }
+            return false;
+        }
+        return false;
+    }
+    false
+}
+
+fn failure_ok(state: &[u8]) -> bool
+    requires { ⌜ Lent 17664 (now state) ⌝ }
+    ensures { λ r. ⌜ r ≡ failureHolds (memoryOf (now (state .entry))) ⌝ }
+{
+    let n = record_word(state, 1, 9);
+    if n == 0 {
+        return true;
+    }
+    in_range(16, 24, n)
+}
+
+// Each created process.
+fn processes_hold(t: &[u8], s: table::Sections, sizes: &[u16], state: &[u8]) -> bool
+    requires { ⌜ Of (now t) s ⌝ }
+    requires { ⌜ Ready (tableOf (s .w) (now t)) (now sizes) ⌝ }
+    requires { ⌜ Lent 17664 (now state) ⌝ }
+    requires { ⌜ memoryOf (now state) createdAt ≤ 64 ⌝ }
+    ensures { λ r. ⌜ r ≡ processesHold (tableOf (s .w) (now (t .entry))) (memoryOf (now (state .entry))) ⌝ }
+{
+    let processes = created(state);
+    let mut i = 0;
+    while i < processes {
+        if process_ok(t, s, sizes, state, i + 1) {
+            i += 1;
+        } else {
+            return false;
+        }
+    }
+    true
+}
+
+// THE STATE RULE: the lent state is one that a run of the table can be in, as far as its words show.
+pub fn rule_holds(t: &[u8], s: table::Sections, sizes: &[u16], state: &[u8]) -> bool
+    requires { ⌜ Of (now t) s ⌝ }
+    requires { ⌜ Ready (tableOf (s .w) (now t)) (now sizes) ⌝ }
+    requires { ⌜ Lent 17664 (now state) ⌝ }
+    ensures { λ r. ⌜ r ≡ rule (tableOf (s .w) (now (t .entry))) (memoryOf (now (state .entry))) ⌝ }
+{
+    let n = created(state);
+    if 1 <= n {
+        if n <= 64 {
+            if failure_ok(state) {
+                return processes_hold(t, s, sizes, state);
+            }
+            return false;
+        }
+        return false;
+    }
+    false
 }

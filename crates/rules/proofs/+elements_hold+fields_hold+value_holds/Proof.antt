@@ -3,7 +3,7 @@ use borrow.Author.Needs.{needs}
 use Rattle.table.specs.Table.{tableOf}
 use Rattle.machine.specs.Memory.{memoryOf}
 use Rattle.rules.specs.Walks.{FieldsTo, ElementsTo}
-use Rattle.rules.proofs.Values.{values, elements-more, fieldwalks, elementwalks, walk-fits}
+use Rattle.rules.proofs.Values.{values, elements-more, elements-integers, fieldwalks, elementwalks, walk-fits}
 use Prim.Native.Nat.{ℕ, _<_, _≤_, _+_, _-_, _*_}
 use borrow.Fn.Kinds.{In}
 use borrow.Fn.PlainCycle.{Measures, is, falls, and}
@@ -70,633 +70,64 @@ elements-hold-Inv-loop t s sizes state x a q count words at₀ i₀ at i = (i �
 abbrev elements-hold-μ-loop : elements-hold-lts.MeasureT-loop
 elements-hold-μ-loop t s sizes state x a q count words at₀ i₀ at i = count - i
 
--- src/lib.rt:176:9
-elements-hold-type-q-requires : (t : ℕ) → elements-hold-lts.Need-type-q-requires (
-  type-q-reads.Asked,
-  type-q-reads.Learnt,
-  elements-of-reads.Asked,
-  elements-of-reads.Learnt,
-  words-of-reads.Asked,
-  words-of-reads.Learnt,
-  value-holds-below t,
-  value-holds.Post,
-) (elements-hold-at t) elements-hold.Post elements-hold-Inv-loop elements-hold-μ-loop
-elements-hold-type-q-requires t c κs = search needs
-
--- src/lib.rt:177:9
-elements-hold-elements-of-requires : (t : ℕ) → elements-hold-lts.Need-elements-of-requires (
-  type-q-reads.Asked,
-  type-q-reads.Learnt,
-  elements-of-reads.Asked,
-  elements-of-reads.Learnt,
-  words-of-reads.Asked,
-  words-of-reads.Learnt,
-  value-holds-below t,
-  value-holds.Post,
-) (elements-hold-at t) elements-hold.Post elements-hold-Inv-loop elements-hold-μ-loop
-elements-hold-elements-of-requires t c κs = search needs
-
--- src/lib.rt:178:9
-elements-hold-words-of-requires : (t : ℕ) → elements-hold-lts.Need-words-of-requires (
-  type-q-reads.Asked,
-  type-q-reads.Learnt,
-  elements-of-reads.Asked,
-  elements-of-reads.Learnt,
-  words-of-reads.Asked,
-  words-of-reads.Learnt,
-  value-holds-below t,
-  value-holds.Post,
-) (elements-hold-at t) elements-hold.Post elements-hold-Inv-loop elements-hold-μ-loop
-elements-hold-words-of-requires t c κs = search needs
-
--- src/lib.rt:181:5
-elements-hold-loop-holds : (t : ℕ) → elements-hold-lts.Need-loop-holds (
-  type-q-reads.Asked,
-  type-q-reads.Learnt,
-  elements-of-reads.Asked,
-  elements-of-reads.Learnt,
-  words-of-reads.Asked,
-  words-of-reads.Learnt,
-  value-holds-below t,
-  value-holds.Post,
-) (elements-hold-at t) elements-hold.Post elements-hold-Inv-loop elements-hold-μ-loop
-elements-hold-loop-holds t c = (search needs, search elementwalks)
-
--- src/lib.rt:183:13
-elements-hold-returns : (t : ℕ) → elements-hold-lts.Need-returns (
-  type-q-reads.Asked,
-  type-q-reads.Learnt,
-  elements-of-reads.Asked,
-  elements-of-reads.Learnt,
-  words-of-reads.Asked,
-  words-of-reads.Learnt,
-  value-holds-below t,
-  value-holds.Post,
-) (elements-hold-at t) elements-hold.Post elements-hold-Inv-loop elements-hold-μ-loop
-elements-hold-returns t c = search elementwalks
-
--- src/lib.rt:185:12
-elements-hold-value-holds-requires : (t : ℕ) → elements-hold-lts.Need-value-holds-requires (
-  type-q-reads.Asked,
-  type-q-reads.Learnt,
-  elements-of-reads.Asked,
-  elements-of-reads.Learnt,
-  words-of-reads.Asked,
-  words-of-reads.Learnt,
-  value-holds-below t,
-  value-holds.Post,
-) (elements-hold-at t) elements-hold.Post elements-hold-Inv-loop elements-hold-μ-loop
-elements-hold-value-holds-requires t c κs = (search needs, (search needs, (search needs, (search needs, search elementwalks))))
-
--- src/lib.rt:186:13
-elements-hold-add-at : (t : ℕ) → elements-hold-lts.Need-add-at (
-  type-q-reads.Asked,
-  type-q-reads.Learnt,
-  elements-of-reads.Asked,
-  elements-of-reads.Learnt,
-  words-of-reads.Asked,
-  words-of-reads.Learnt,
-  value-holds-below t,
-  value-holds.Post,
-) (elements-hold-at t) elements-hold.Post elements-hold-Inv-loop elements-hold-μ-loop
-elements-hold-add-at t c = search (walk-fits, elementwalks)
-
--- src/lib.rt:187:13
-elements-hold-add-i : (t : ℕ) → elements-hold-lts.Need-add-i (
-  type-q-reads.Asked,
-  type-q-reads.Learnt,
-  elements-of-reads.Asked,
-  elements-of-reads.Learnt,
-  words-of-reads.Asked,
-  words-of-reads.Learnt,
-  value-holds-below t,
-  value-holds.Post,
-) (elements-hold-at t) elements-hold.Post elements-hold-Inv-loop elements-hold-μ-loop
-elements-hold-add-i t c = search needs
-
--- src/lib.rt:181:5
-elements-hold-loop-less : (t : ℕ) → elements-hold-lts.Need-loop-less (
-  type-q-reads.Asked,
-  type-q-reads.Learnt,
-  elements-of-reads.Asked,
-  elements-of-reads.Learnt,
-  words-of-reads.Asked,
-  words-of-reads.Learnt,
-  value-holds-below t,
-  value-holds.Post,
-) (elements-hold-at t) elements-hold.Post elements-hold-Inv-loop elements-hold-μ-loop
-elements-hold-loop-less t c = omega arith
-
--- src/lib.rt:181:5
-elements-hold-loop-again : (t : ℕ) → elements-hold-lts.Need-loop-again (
-  type-q-reads.Asked,
-  type-q-reads.Learnt,
-  elements-of-reads.Asked,
-  elements-of-reads.Learnt,
-  words-of-reads.Asked,
-  words-of-reads.Learnt,
-  value-holds-below t,
-  value-holds.Post,
-) (elements-hold-at t) elements-hold.Post elements-hold-Inv-loop elements-hold-μ-loop
-elements-hold-loop-again t c =
-    let h = c .before .before .before .before .loop .inv .1 in
-    let hq = c .before .before .before .before .before .before .before .type-q .ensures .is in
-    let hw = c .before .before .before .before .before .words-of .ensures .is in
-    (omega arith, elements-more _ _ _ _ _ _ _ h hq _ _ (search needs) (c .before .value-holds .ensures) (search needs) (hw))
-
--- src/lib.rt:189:13
-elements-hold-returns-2 : (t : ℕ) → elements-hold-lts.Need-returns-2 (
-  type-q-reads.Asked,
-  type-q-reads.Learnt,
-  elements-of-reads.Asked,
-  elements-of-reads.Learnt,
-  words-of-reads.Asked,
-  words-of-reads.Learnt,
-  value-holds-below t,
-  value-holds.Post,
-) (elements-hold-at t) elements-hold.Post elements-hold-Inv-loop elements-hold-μ-loop
-elements-hold-returns-2 t c = search elementwalks
-
--- src/lib.rt:169:1
-elements-hold-returns-3 : (t : ℕ) → elements-hold-lts.Need-returns-3 (
-  type-q-reads.Asked,
-  type-q-reads.Learnt,
-  elements-of-reads.Asked,
-  elements-of-reads.Learnt,
-  words-of-reads.Asked,
-  words-of-reads.Learnt,
-  value-holds-below t,
-  value-holds.Post,
-) (elements-hold-at t) elements-hold.Post elements-hold-Inv-loop elements-hold-μ-loop
-elements-hold-returns-3 t c = search elementwalks
-
 abbrev fields-hold-Inv-loop : fields-hold-lts.InvT-loop
 fields-hold-Inv-loop t s sizes state x a first count at₀ i₀ at i = (i ≤ count) × FieldsTo (tableOf (s .w) t) (memoryOf state) x a i at
 
 abbrev fields-hold-μ-loop : fields-hold-lts.MeasureT-loop
 fields-hold-μ-loop t s sizes state x a first count at₀ i₀ at i = count - i
 
--- src/lib.rt:150:9
-fields-hold-type-p-requires : (t : ℕ) → fields-hold-lts.Need-type-p-requires (
-  type-p-reads.Asked,
-  type-p-reads.Learnt,
-  type-q-reads.Asked,
-  type-q-reads.Learnt,
-  field-type-reads.Asked,
-  field-type-reads.Learnt,
-  value-holds-below t,
-  value-holds.Post,
-  words-of-reads.Asked,
-  words-of-reads.Learnt,
-) (fields-hold-at t) fields-hold.Post fields-hold-Inv-loop fields-hold-μ-loop
-fields-hold-type-p-requires t c κs = search needs
-
--- src/lib.rt:151:9
-fields-hold-type-q-requires : (t : ℕ) → fields-hold-lts.Need-type-q-requires (
-  type-p-reads.Asked,
-  type-p-reads.Learnt,
-  type-q-reads.Asked,
-  type-q-reads.Learnt,
-  field-type-reads.Asked,
-  field-type-reads.Learnt,
-  value-holds-below t,
-  value-holds.Post,
-  words-of-reads.Asked,
-  words-of-reads.Learnt,
-) (fields-hold-at t) fields-hold.Post fields-hold-Inv-loop fields-hold-μ-loop
-fields-hold-type-q-requires t c κs = search needs
-
--- src/lib.rt:154:5
-fields-hold-loop-holds : (t : ℕ) → fields-hold-lts.Need-loop-holds (
-  type-p-reads.Asked,
-  type-p-reads.Learnt,
-  type-q-reads.Asked,
-  type-q-reads.Learnt,
-  field-type-reads.Asked,
-  field-type-reads.Learnt,
-  value-holds-below t,
-  value-holds.Post,
-  words-of-reads.Asked,
-  words-of-reads.Learnt,
-) (fields-hold-at t) fields-hold.Post fields-hold-Inv-loop fields-hold-μ-loop
-fields-hold-loop-holds t c = (search needs, search fieldwalks)
-
--- src/lib.rt:155:41
-fields-hold-add-field-type : (t : ℕ) → fields-hold-lts.Need-add-field-type (
-  type-p-reads.Asked,
-  type-p-reads.Learnt,
-  type-q-reads.Asked,
-  type-q-reads.Learnt,
-  field-type-reads.Asked,
-  field-type-reads.Learnt,
-  value-holds-below t,
-  value-holds.Post,
-  words-of-reads.Asked,
-  words-of-reads.Learnt,
-) (fields-hold-at t) fields-hold.Post fields-hold-Inv-loop fields-hold-μ-loop
-fields-hold-add-field-type t c = search needs
-
--- src/lib.rt:155:13
-fields-hold-field-type-requires : (t : ℕ) → fields-hold-lts.Need-field-type-requires (
-  type-p-reads.Asked,
-  type-p-reads.Learnt,
-  type-q-reads.Asked,
-  type-q-reads.Learnt,
-  field-type-reads.Asked,
-  field-type-reads.Learnt,
-  value-holds-below t,
-  value-holds.Post,
-  words-of-reads.Asked,
-  words-of-reads.Learnt,
-) (fields-hold-at t) fields-hold.Post fields-hold-Inv-loop fields-hold-μ-loop
-fields-hold-field-type-requires t c κs = search needs
-
--- src/lib.rt:157:13
-fields-hold-returns : (t : ℕ) → fields-hold-lts.Need-returns (
-  type-p-reads.Asked,
-  type-p-reads.Learnt,
-  type-q-reads.Asked,
-  type-q-reads.Learnt,
-  field-type-reads.Asked,
-  field-type-reads.Learnt,
-  value-holds-below t,
-  value-holds.Post,
-  words-of-reads.Asked,
-  words-of-reads.Learnt,
-) (fields-hold-at t) fields-hold.Post fields-hold-Inv-loop fields-hold-μ-loop
-fields-hold-returns t c = search fieldwalks
-
--- src/lib.rt:159:12
-fields-hold-value-holds-requires : (t : ℕ) → fields-hold-lts.Need-value-holds-requires (
-  type-p-reads.Asked,
-  type-p-reads.Learnt,
-  type-q-reads.Asked,
-  type-q-reads.Learnt,
-  field-type-reads.Asked,
-  field-type-reads.Learnt,
-  value-holds-below t,
-  value-holds.Post,
-  words-of-reads.Asked,
-  words-of-reads.Learnt,
-) (fields-hold-at t) fields-hold.Post fields-hold-Inv-loop fields-hold-μ-loop
-fields-hold-value-holds-requires t c κs = (search needs, (search needs, (search needs, (search needs, search fieldwalks))))
-
--- src/lib.rt:160:19
-fields-hold-words-of-requires : (t : ℕ) → fields-hold-lts.Need-words-of-requires (
-  type-p-reads.Asked,
-  type-p-reads.Learnt,
-  type-q-reads.Asked,
-  type-q-reads.Learnt,
-  field-type-reads.Asked,
-  field-type-reads.Learnt,
-  value-holds-below t,
-  value-holds.Post,
-  words-of-reads.Asked,
-  words-of-reads.Learnt,
-) (fields-hold-at t) fields-hold.Post fields-hold-Inv-loop fields-hold-μ-loop
-fields-hold-words-of-requires t c κs = search needs
-
--- src/lib.rt:160:13
-fields-hold-add-at : (t : ℕ) → fields-hold-lts.Need-add-at (
-  type-p-reads.Asked,
-  type-p-reads.Learnt,
-  type-q-reads.Asked,
-  type-q-reads.Learnt,
-  field-type-reads.Asked,
-  field-type-reads.Learnt,
-  value-holds-below t,
-  value-holds.Post,
-  words-of-reads.Asked,
-  words-of-reads.Learnt,
-) (fields-hold-at t) fields-hold.Post fields-hold-Inv-loop fields-hold-μ-loop
-fields-hold-add-at t c = search (walk-fits, fieldwalks)
-
--- src/lib.rt:161:13
-fields-hold-add-i : (t : ℕ) → fields-hold-lts.Need-add-i (
-  type-p-reads.Asked,
-  type-p-reads.Learnt,
-  type-q-reads.Asked,
-  type-q-reads.Learnt,
-  field-type-reads.Asked,
-  field-type-reads.Learnt,
-  value-holds-below t,
-  value-holds.Post,
-  words-of-reads.Asked,
-  words-of-reads.Learnt,
-) (fields-hold-at t) fields-hold.Post fields-hold-Inv-loop fields-hold-μ-loop
-fields-hold-add-i t c = search needs
-
--- src/lib.rt:154:5
-fields-hold-loop-less : (t : ℕ) → fields-hold-lts.Need-loop-less (
-  type-p-reads.Asked,
-  type-p-reads.Learnt,
-  type-q-reads.Asked,
-  type-q-reads.Learnt,
-  field-type-reads.Asked,
-  field-type-reads.Learnt,
-  value-holds-below t,
-  value-holds.Post,
-  words-of-reads.Asked,
-  words-of-reads.Learnt,
-) (fields-hold-at t) fields-hold.Post fields-hold-Inv-loop fields-hold-μ-loop
-fields-hold-loop-less t c = omega arith
-
--- src/lib.rt:154:5
-fields-hold-loop-again : (t : ℕ) → fields-hold-lts.Need-loop-again (
-  type-p-reads.Asked,
-  type-p-reads.Learnt,
-  type-q-reads.Asked,
-  type-q-reads.Learnt,
-  field-type-reads.Asked,
-  field-type-reads.Learnt,
-  value-holds-below t,
-  value-holds.Post,
-  words-of-reads.Asked,
-  words-of-reads.Learnt,
-) (fields-hold-at t) fields-hold.Post fields-hold-Inv-loop fields-hold-μ-loop
-fields-hold-loop-again t c = (omega arith, search fieldwalks)
-
--- src/lib.rt:163:13
-fields-hold-returns-2 : (t : ℕ) → fields-hold-lts.Need-returns-2 (
-  type-p-reads.Asked,
-  type-p-reads.Learnt,
-  type-q-reads.Asked,
-  type-q-reads.Learnt,
-  field-type-reads.Asked,
-  field-type-reads.Learnt,
-  value-holds-below t,
-  value-holds.Post,
-  words-of-reads.Asked,
-  words-of-reads.Learnt,
-) (fields-hold-at t) fields-hold.Post fields-hold-Inv-loop fields-hold-μ-loop
-fields-hold-returns-2 t c = search fieldwalks
-
--- src/lib.rt:143:1
-fields-hold-returns-3 : (t : ℕ) → fields-hold-lts.Need-returns-3 (
-  type-p-reads.Asked,
-  type-p-reads.Learnt,
-  type-q-reads.Asked,
-  type-q-reads.Learnt,
-  field-type-reads.Asked,
-  field-type-reads.Learnt,
-  value-holds-below t,
-  value-holds.Post,
-  words-of-reads.Asked,
-  words-of-reads.Learnt,
-) (fields-hold-at t) fields-hold.Post fields-hold-Inv-loop fields-hold-μ-loop
-fields-hold-returns-3 t c = search fieldwalks
-
--- src/lib.rt:130:9
-value-holds-type-kind-requires : (t : ℕ) → value-holds-lts.Need-type-kind-requires (
-  type-kind-reads.Asked,
-  type-kind-reads.Learnt,
-  fields-hold-below t,
-  fields-hold.Post,
-  elements-hold-below t,
-  elements-hold.Post,
-  type-p-reads.Asked,
-  type-p-reads.Learnt,
-  reference-holds-reads.Asked,
-  reference-holds-reads.Learnt,
-  simple-holds-reads.Asked,
-  simple-holds-reads.Learnt,
-) (value-holds-at t) value-holds.Post
-value-holds-type-kind-requires t c κs = search needs
-
--- src/lib.rt:132:9
-value-holds-fields-hold-requires : (t : ℕ) → value-holds-lts.Need-fields-hold-requires (
-  type-kind-reads.Asked,
-  type-kind-reads.Learnt,
-  fields-hold-below t,
-  fields-hold.Post,
-  elements-hold-below t,
-  elements-hold.Post,
-  type-p-reads.Asked,
-  type-p-reads.Learnt,
-  reference-holds-reads.Asked,
-  reference-holds-reads.Learnt,
-  simple-holds-reads.Asked,
-  simple-holds-reads.Learnt,
-) (value-holds-at t) value-holds.Post
-value-holds-fields-hold-requires t c κs = (search needs, (search needs, (search needs, (search needs, search values))))
-
--- src/lib.rt:132:9
-value-holds-returns : (t : ℕ) → value-holds-lts.Need-returns (
-  type-kind-reads.Asked,
-  type-kind-reads.Learnt,
-  fields-hold-below t,
-  fields-hold.Post,
-  elements-hold-below t,
-  elements-hold.Post,
-  type-p-reads.Asked,
-  type-p-reads.Learnt,
-  reference-holds-reads.Asked,
-  reference-holds-reads.Learnt,
-  simple-holds-reads.Asked,
-  simple-holds-reads.Learnt,
-) (value-holds-at t) value-holds.Post
-value-holds-returns t c = search values
-
--- src/lib.rt:135:9
-value-holds-elements-hold-requires : (t : ℕ) → value-holds-lts.Need-elements-hold-requires (
-  type-kind-reads.Asked,
-  type-kind-reads.Learnt,
-  fields-hold-below t,
-  fields-hold.Post,
-  elements-hold-below t,
-  elements-hold.Post,
-  type-p-reads.Asked,
-  type-p-reads.Learnt,
-  reference-holds-reads.Asked,
-  reference-holds-reads.Learnt,
-  simple-holds-reads.Asked,
-  simple-holds-reads.Learnt,
-) (value-holds-at t) value-holds.Post
-value-holds-elements-hold-requires t c κs = (search needs, (search needs, (search needs, (search needs, search values))))
-
--- src/lib.rt:135:9
-value-holds-returns-2 : (t : ℕ) → value-holds-lts.Need-returns-2 (
-  type-kind-reads.Asked,
-  type-kind-reads.Learnt,
-  fields-hold-below t,
-  fields-hold.Post,
-  elements-hold-below t,
-  elements-hold.Post,
-  type-p-reads.Asked,
-  type-p-reads.Learnt,
-  reference-holds-reads.Asked,
-  reference-holds-reads.Learnt,
-  simple-holds-reads.Asked,
-  simple-holds-reads.Learnt,
-) (value-holds-at t) value-holds.Post
-value-holds-returns-2 t c = search values
-
--- src/lib.rt:138:39
-value-holds-type-p-requires : (t : ℕ) → value-holds-lts.Need-type-p-requires (
-  type-kind-reads.Asked,
-  type-kind-reads.Learnt,
-  fields-hold-below t,
-  fields-hold.Post,
-  elements-hold-below t,
-  elements-hold.Post,
-  type-p-reads.Asked,
-  type-p-reads.Learnt,
-  reference-holds-reads.Asked,
-  reference-holds-reads.Learnt,
-  simple-holds-reads.Asked,
-  simple-holds-reads.Learnt,
-) (value-holds-at t) value-holds.Post
-value-holds-type-p-requires t c κs = search needs
-
--- src/lib.rt:138:9
-value-holds-reference-holds-requires : (t : ℕ) → value-holds-lts.Need-reference-holds-requires (
-  type-kind-reads.Asked,
-  type-kind-reads.Learnt,
-  fields-hold-below t,
-  fields-hold.Post,
-  elements-hold-below t,
-  elements-hold.Post,
-  type-p-reads.Asked,
-  type-p-reads.Learnt,
-  reference-holds-reads.Asked,
-  reference-holds-reads.Learnt,
-  simple-holds-reads.Asked,
-  simple-holds-reads.Learnt,
-) (value-holds-at t) value-holds.Post
-value-holds-reference-holds-requires t c κs = search needs
-
--- src/lib.rt:138:9
-value-holds-returns-3 : (t : ℕ) → value-holds-lts.Need-returns-3 (
-  type-kind-reads.Asked,
-  type-kind-reads.Learnt,
-  fields-hold-below t,
-  fields-hold.Post,
-  elements-hold-below t,
-  elements-hold.Post,
-  type-p-reads.Asked,
-  type-p-reads.Learnt,
-  reference-holds-reads.Asked,
-  reference-holds-reads.Learnt,
-  simple-holds-reads.Asked,
-  simple-holds-reads.Learnt,
-) (value-holds-at t) value-holds.Post
-value-holds-returns-3 t c = search values
-
--- src/lib.rt:140:5
-value-holds-simple-holds-requires : (t : ℕ) → value-holds-lts.Need-simple-holds-requires (
-  type-kind-reads.Asked,
-  type-kind-reads.Learnt,
-  fields-hold-below t,
-  fields-hold.Post,
-  elements-hold-below t,
-  elements-hold.Post,
-  type-p-reads.Asked,
-  type-p-reads.Learnt,
-  reference-holds-reads.Asked,
-  reference-holds-reads.Learnt,
-  simple-holds-reads.Asked,
-  simple-holds-reads.Learnt,
-) (value-holds-at t) value-holds.Post
-value-holds-simple-holds-requires t c κs = search needs
-
--- src/lib.rt:123:1
-value-holds-returns-4 : (t : ℕ) → value-holds-lts.Need-returns-4 (
-  type-kind-reads.Asked,
-  type-kind-reads.Learnt,
-  fields-hold-below t,
-  fields-hold.Post,
-  elements-hold-below t,
-  elements-hold.Post,
-  type-p-reads.Asked,
-  type-p-reads.Learnt,
-  reference-holds-reads.Asked,
-  reference-holds-reads.Learnt,
-  simple-holds-reads.Asked,
-  simple-holds-reads.Learnt,
-) (value-holds-at t) value-holds.Post
-value-holds-returns-4 t c = search values
-
 pub +elements-hold+fields-hold+value-holds-spec : {M : Type 1} → statement M
 +elements-hold+fields-hold+value-holds-spec =
-    close μ-elements-hold μ-fields-hold μ-value-holds (λ t. elements-hold-lts.spec (
-      type-q-reads.Asked,
-      type-q-reads.Learnt,
-      elements-of-reads.Asked,
-      elements-of-reads.Learnt,
-      words-of-reads.Asked,
-      words-of-reads.Learnt,
-      value-holds-below t,
-      value-holds.Post,
-    )
+    close μ-elements-hold μ-fields-hold μ-value-holds (λ t. elements-hold-lts.spec
+    (type-q-reads.Asked, type-q-reads.Learnt, elements-of-reads.Asked, elements-of-reads.Learnt, words-of-reads.Asked, words-of-reads.Learnt, value-holds-below t, value-holds.Post)
     (elements-hold-at t)
     elements-hold.Post
     elements-hold-Inv-loop
     elements-hold-μ-loop
-    (elements-hold-type-q-requires t)
-    (elements-hold-elements-of-requires t)
-    (elements-hold-words-of-requires t)
-    (elements-hold-loop-holds t)
-    (elements-hold-returns t)
-    (elements-hold-value-holds-requires t)
-    (elements-hold-add-at t)
-    (elements-hold-add-i t)
-    (elements-hold-loop-less t)
-    (elements-hold-loop-again t)
-    (elements-hold-returns-2 t)
-    (elements-hold-returns-3 t))
-    (λ t. fields-hold-lts.spec (
-      type-p-reads.Asked,
-      type-p-reads.Learnt,
-      type-q-reads.Asked,
-      type-q-reads.Learnt,
-      field-type-reads.Asked,
-      field-type-reads.Learnt,
-      value-holds-below t,
-      value-holds.Post,
-      words-of-reads.Asked,
-      words-of-reads.Learnt,
-    )
+    (λ c κs. search needs)
+    (λ c. search elements-integers)
+    (λ c κs. search needs)
+    (λ c κs. search needs)
+    (λ c. (search needs, search elementwalks))
+    (λ c. search elementwalks)
+    (λ c κs. (search needs, (search needs, (search needs, (search needs, search elementwalks)))))
+    (λ c. search (walk-fits, elementwalks))
+    (λ c. search needs)
+    (λ c. omega arith)
+    (λ c. let h = c .before .before .before .before .loop .inv .1 in let hq = c .before .before .before .before .before .before .before .before .type-q .ensures .is in let hw = c .before .before .before .before .before .words-of .ensures .is in (omega arith, elements-more _ _ _ _ _ _ _ h hq _ _ (search needs) (c .before .value-holds .ensures) (search needs) (hw)))
+    (λ c. search elementwalks)
+    (λ c. search elementwalks))
+    (λ t. fields-hold-lts.spec
+    (type-p-reads.Asked, type-p-reads.Learnt, type-q-reads.Asked, type-q-reads.Learnt, field-type-reads.Asked, field-type-reads.Learnt, value-holds-below t, value-holds.Post, words-of-reads.Asked, words-of-reads.Learnt)
     (fields-hold-at t)
     fields-hold.Post
     fields-hold-Inv-loop
     fields-hold-μ-loop
-    (fields-hold-type-p-requires t)
-    (fields-hold-type-q-requires t)
-    (fields-hold-loop-holds t)
-    (fields-hold-add-field-type t)
-    (fields-hold-field-type-requires t)
-    (fields-hold-returns t)
-    (fields-hold-value-holds-requires t)
-    (fields-hold-words-of-requires t)
-    (fields-hold-add-at t)
-    (fields-hold-add-i t)
-    (fields-hold-loop-less t)
-    (fields-hold-loop-again t)
-    (fields-hold-returns-2 t)
-    (fields-hold-returns-3 t))
-    λ t. value-holds-lts.spec (
-      type-kind-reads.Asked,
-      type-kind-reads.Learnt,
-      fields-hold-below t,
-      fields-hold.Post,
-      elements-hold-below t,
-      elements-hold.Post,
-      type-p-reads.Asked,
-      type-p-reads.Learnt,
-      reference-holds-reads.Asked,
-      reference-holds-reads.Learnt,
-      simple-holds-reads.Asked,
-      simple-holds-reads.Learnt,
-    )
+    (λ c κs. search needs)
+    (λ c κs. search needs)
+    (λ c. (search needs, search fieldwalks))
+    (λ c. search needs)
+    (λ c κs. search needs)
+    (λ c. search fieldwalks)
+    (λ c κs. (search needs, (search needs, (search needs, (search needs, search fieldwalks)))))
+    (λ c κs. search needs)
+    (λ c. search (walk-fits, fieldwalks))
+    (λ c. search needs)
+    (λ c. omega arith)
+    (λ c. (omega arith, search fieldwalks))
+    (λ c. search fieldwalks)
+    (λ c. search fieldwalks))
+    λ t. value-holds-lts.spec
+    (type-kind-reads.Asked, type-kind-reads.Learnt, fields-hold-below t, fields-hold.Post, elements-hold-below t, elements-hold.Post, type-p-reads.Asked, type-p-reads.Learnt, reference-holds-reads.Asked, reference-holds-reads.Learnt, simple-holds-reads.Asked, simple-holds-reads.Learnt)
     (value-holds-at t)
     value-holds.Post
-    (value-holds-type-kind-requires t)
-    (value-holds-fields-hold-requires t)
-    (value-holds-returns t)
-    (value-holds-elements-hold-requires t)
-    (value-holds-returns-2 t)
-    (value-holds-type-p-requires t)
-    (value-holds-reference-holds-requires t)
-    (value-holds-returns-3 t)
-    (value-holds-simple-holds-requires t)
-    (value-holds-returns-4 t)
+    (λ c κs. search needs)
+    (λ c κs. (search needs, (search needs, (search needs, (search needs, search values)))))
+    (λ c. search values)
+    (λ c κs. (search needs, (search needs, (search needs, (search needs, search values)))))
+    (λ c. search values)
+    (λ c κs. search needs)
+    (λ c κs. search needs)
+    (λ c. search values)
+    (λ c κs. search needs)
+    (λ c. search values)

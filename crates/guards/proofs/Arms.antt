@@ -1,0 +1,146 @@
+-- Arms, ends and openers by their kinds, where what follows is not stuck. Assumes nothing.
+use Prim.Native.Nat.{ℕ, _<_}
+use mathlib.Core.Path.{_≡_, refl, sym, _∙_}
+use mathlib.Core.Bool.{Bool, true, false}
+use lib.Dec.{eqb, ltb}
+use native.Mathlib.Omega.{arith}
+use borrow.Author.Tests.{eqb-true, eqb-false, ltb-true, lt-ltb, ne-eqb}
+use Rattle.basics.specs.Choice.{cases}
+use Rattle.table.specs.Table.{Table}
+use Rattle.table.specs.Entries.{stmtCount, stmtKind, stmtA, stmtLink}
+use Rattle.words.specs.Outcomes as words
+use Rattle.words.specs.Outcomes.{failureNumber, outcomeOf}
+use Rattle.words.specs.declared.values.Failure.{Failure}
+use Rattle.words.specs.declared.values.Value.{Value}
+use Rattle.words.specs.declared.values.Value.the-variants.{Word, Fail}
+use Rattle.machine.specs.Outcomes.{Outcome, ok, fail, stuck, andThen, need, Operand, place, value, valued, onValue, onWord, wordOf}
+use Rattle.machine.specs.Entries.{Opener, statementOf, stmtAt}
+use Rattle.machine.specs.Statements.{onArms, onOpener}
+use Rattle.operands.specs.Answers.{firstWord, Unstuck, goes, fails}
+use Rattle.operands.proofs.Yielding.{failed}
+use Rattle.guards.specs.Guards.{openerOf}
+
+-- what is not stuck came through its tests
+pub through : {A : Type 0} (b : Bool) (o : Outcome A) → (need b o ≡ stuck → ⊥) → b ≡ true
+unfolding need
+through true o g = refl
+through false o g = absurd (g refl)
+
+pub need-is : {A : Type 0} (b : Bool) (o : Outcome A) → b ≡ true → need b o ≡ o
+unfolding need
+need-is b o e = rw e
+
+pub first-outcome : {A B : Type 0} (o : Outcome A) (f : A → Outcome B) → (andThen o f ≡ stuck → ⊥) → o ≡ stuck → ⊥
+unfolding andThen
+first-outcome o f g e = g (rw e)
+
+pub same-unstuck : {A : Type 0} {o u : Outcome A} → o ≡ u → (u ≡ stuck → ⊥) → o ≡ stuck → ⊥
+same-unstuck e g q = g (sym e ∙ q)
+
+-- a word that is asked for
+module _ {A : Type 0} (τ : ℕ) (f : ℕ → Outcome A) where
+  pub word-unstuck : (o : Outcome Operand) → (onWord o τ f ≡ stuck → ⊥) → Unstuck o
+  unfolding onWord onValue andThen
+  word-unstuck (ok x) g = goes
+  word-unstuck (fail k) g = fails
+  word-unstuck stuck g = absurd (g refl)
+
+  pub word-failed : (o : Outcome Operand) (v : Value) (e : Failure) → outcomeOf v ≡ firstWord o → v ≡ Fail e → onWord o τ f ≡ fail (failureNumber e)
+  unfolding onWord onValue andThen
+  word-failed o v e h k = let q = failed o (failureNumber e) (rw k at h) in rw q
+
+  word-is : (o : Outcome Operand) (w : ℕ) → words.word w ≡ firstWord o → (onWord o τ f ≡ stuck → ⊥) → onWord o τ f ≡ f w
+  unfolding onWord onValue andThen valued firstWord need
+  word-is (ok (place a σ)) w h g = absurd (g refl)
+  word-is (ok (value σ ws)) w h g =
+      let b = through (eqb σ τ) (f (wordOf ws)) g in let e : w ≡ wordOf ws = cc in rw (b, e)
+  word-is (fail k) w h g = let q : _≡_ {A = ℕ} 0 1 = cc in absurd (omega arith)
+  word-is stuck w h g = absurd (g refl)
+
+  pub word-given : (o : Outcome Operand) (v : Value) (w : ℕ) → outcomeOf v ≡ firstWord o → v ≡ Word w → (onWord o τ f ≡ stuck → ⊥) → onWord o τ f ≡ f w
+  word-given o v w h k g = word-is o w (rw k at h) g
+
+-- ---- statements by their kinds
+
+module _ {A : Type 0} (T : Table) (i : ℕ) (f : ℕ → ℕ → Outcome A) (g : ℕ → Outcome A) where
+  pub at-arm : i < stmtCount T → stmtKind T i ≡ 10 → onArms (stmtAt T i) f g ≡ f (stmtA T i) (stmtLink T i)
+  unfolding stmtAt statementOf onArms
+  at-arm l e = rw (lt-ltb i (stmtCount T) l, e)
+
+  pub at-end : i < stmtCount T → stmtKind T i ≡ 11 → onArms (stmtAt T i) f g ≡ g (stmtLink T i)
+  unfolding stmtAt statementOf onArms
+  at-end l e = rw (lt-ltb i (stmtCount T) l, e)
+
+  pub arms-there : (onArms (stmtAt T i) f g ≡ stuck → ⊥) → i < stmtCount T
+  unfolding stmtAt onArms
+  arms-there n =
+      cases (ltb i (stmtCount T)) (λ e. ltb-true i (stmtCount T) e) (λ e. absurd (n (rw e)))
+
+  no-arms : (k a b c d l : ℕ) → (k ≡ 10 → ⊥) → (k ≡ 11 → ⊥) → onArms (statementOf k a b c d l) f g ≡ stuck
+  unfolding statementOf onArms
+  no-arms k a b c d l n m =
+      let u = ne-eqb k 10 n in
+      let v = ne-eqb k 11 m in
+      cases (eqb k 0) (λ e. rw e) (λ e0.
+      cases (eqb k 1) (λ e. rw (e0, e)) (λ e1.
+      cases (eqb k 2) (λ e. rw (e0, e1, e)) (λ e2.
+      cases (eqb k 3) (λ e. rw (e0, e1, e2, e)) (λ e3.
+      cases (eqb k 4) (λ e. rw (e0, e1, e2, e3, e)) (λ e4.
+      cases (eqb k 5) (λ e. rw (e0, e1, e2, e3, e4, e)) (λ e5.
+      cases (eqb k 6) (λ e. rw (e0, e1, e2, e3, e4, e5, e)) (λ e6.
+      cases (eqb k 7) (λ e. rw (e0, e1, e2, e3, e4, e5, e6, e)) (λ e7.
+      cases (eqb k 8) (λ e. rw (e0, e1, e2, e3, e4, e5, e6, e7, e)) (λ e8.
+      cases (eqb k 9) (λ e. rw (e0, e1, e2, e3, e4, e5, e6, e7, e8, e)) (λ e9.
+      cases (eqb k 12) (λ e. rw (e0, e1, e2, e3, e4, e5, e6, e7, e8, e9, u, v, e)) (λ f2.
+      cases (eqb k 13) (λ e. rw (e0, e1, e2, e3, e4, e5, e6, e7, e8, e9, u, v, f2, e)) (λ f3.
+      rw (e0, e1, e2, e3, e4, e5, e6, e7, e8, e9, u, v, f2, f3)))))))))))))
+
+  -- what is not an arm is the end
+  pub end-kind : (onArms (stmtAt T i) f g ≡ stuck → ⊥) → (stmtKind T i ≡ 10 → ⊥) → stmtKind T i ≡ 11
+  unfolding stmtAt
+  end-kind n m =
+      cases (eqb (stmtKind T i) 11)
+      (λ e. eqb-true (stmtKind T i) 11 e)
+      (λ e. absurd (n (rw (lt-ltb i (stmtCount T) (arms-there n)) (no-arms (stmtKind T i) _ _ _ _ _ m (eqb-false (stmtKind T i) 11 e)))))
+
+  pub end-is : (onArms (stmtAt T i) f g ≡ stuck → ⊥) → (stmtKind T i ≡ 10 → ⊥) → onArms (stmtAt T i) f g ≡ g (stmtLink T i)
+  end-is n m = at-end (arms-there n) (end-kind n m)
+
+-- an opener is followed by its first arm
+pub opener-follows : {A : Type 0} (T : Table) (i : ℕ) (o : Outcome A)
+    → (onArms (stmtAt T i) (λ g l. o) (λ l. stuck) ≡ stuck → ⊥) → onArms (stmtAt T i) (λ g l. o) (λ l. stuck) ≡ o
+opener-follows T i o g =
+    cases (eqb (stmtKind T i) 10)
+    (λ e. at-arm T i _ _ (arms-there T i _ _ g) (eqb-true (stmtKind T i) 10 e))
+    (λ e. absurd (g (end-is T i _ _ g (eqb-false (stmtKind T i) 10 e))))
+
+module _ {A : Type 0} (T : Table) (i : ℕ) (f : Opener → Outcome A) where
+  pub opener-there : (onOpener (stmtAt T i) f ≡ stuck → ⊥) → i < stmtCount T
+  unfolding stmtAt onOpener
+  opener-there n =
+      cases (ltb i (stmtCount T)) (λ e. ltb-true i (stmtCount T) e) (λ e. absurd (n (rw e)))
+
+  opener-of : (k a b c d l : ℕ) → (onOpener (statementOf k a b c d l) f ≡ stuck → ⊥) → onOpener (statementOf k a b c d l) f ≡ f (openerOf k)
+  unfolding statementOf onOpener openerOf
+  opener-of k a b c d l n =
+      cases (eqb k 0) (λ e. absurd (n (rw e))) (λ e0.
+      cases (eqb k 1) (λ e. absurd (n (rw (e0, e)))) (λ e1.
+      cases (eqb k 2) (λ e. absurd (n (rw (e0, e1, e)))) (λ e2.
+      cases (eqb k 3) (λ e. absurd (n (rw (e0, e1, e2, e)))) (λ e3.
+      cases (eqb k 4) (λ e. absurd (n (rw (e0, e1, e2, e3, e)))) (λ e4.
+      cases (eqb k 5) (λ e. absurd (n (rw (e0, e1, e2, e3, e4, e)))) (λ e5.
+      cases (eqb k 6) (λ e. let q = eqb-true k 6 e in rw q) (λ e6.
+      cases (eqb k 7) (λ e. let q = eqb-true k 7 e in rw q) (λ e7.
+      cases (eqb k 8) (λ e. let q = eqb-true k 8 e in rw q) (λ e8.
+      cases (eqb k 9) (λ e. let q = eqb-true k 9 e in rw q) (λ e9.
+      cases (eqb k 10) (λ e. absurd (n (rw (e0, e1, e2, e3, e4, e5, e6, e7, e8, e9, e)))) (λ f0.
+      cases (eqb k 11) (λ e. absurd (n (rw (e0, e1, e2, e3, e4, e5, e6, e7, e8, e9, f0, e)))) (λ f1.
+      cases (eqb k 12) (λ e. absurd (n (rw (e0, e1, e2, e3, e4, e5, e6, e7, e8, e9, f0, f1, e)))) (λ f2.
+      cases (eqb k 13) (λ e. absurd (n (rw (e0, e1, e2, e3, e4, e5, e6, e7, e8, e9, f0, f1, f2, e)))) (λ f3.
+      absurd (n (rw (e0, e1, e2, e3, e4, e5, e6, e7, e8, e9, f0, f1, f2, f3)))))))))))))))))
+
+  pub opener-is : (onOpener (stmtAt T i) f ≡ stuck → ⊥) → onOpener (stmtAt T i) f ≡ f (openerOf (stmtKind T i))
+  unfolding stmtAt
+  opener-is n =
+      let l = lt-ltb i (stmtCount T) (opener-there n) in
+      rw l (opener-of (stmtKind T i) _ _ _ _ _ (rw l at n))

@@ -1,0 +1,141 @@
+-- The guards of arms in the order written: what each evaluation may ask, and each return. Assumes nothing.
+use Prim.Native.Nat.{ℕ, zero, suc, _-_, _<_}
+use mathlib.Core.Path.{_≡_, refl, sym, ap, _∙_}
+use mathlib.Core.List.{List}
+use lib.Dec.{eqb, ltb}
+use native.Mathlib.Omega.{arith}
+use borrow.Author.Tests.{ne-eqb, ltb-true}
+use Rattle.basics.specs.Choice.{pick}
+use Rattle.table.specs.Table.{Table}
+use Rattle.table.specs.Entries.{stmtCount, stmtKind, stmtA, stmtLink}
+use Rattle.table.specs.Reading.{Field}
+use Rattle.table.specs.declared.Sections.{Sections}
+use Rattle.numbers.proofs.OperandPromise.{arm-guard}
+use Rattle.words.specs.Outcomes.{outcomeOf}
+use Rattle.words.specs.declared.values.Failure.{Failure}
+use Rattle.words.specs.declared.values.Value.{Value}
+use Rattle.words.specs.declared.values.Value.the-variants as value
+use Rattle.machine.specs.Memory.{Memory, memoryOf}
+use Rattle.machine.specs.Context as machine
+use Rattle.machine.specs.Outcomes.{Outcome, ok, stuck, need, onWord}
+use Rattle.machine.specs.Operands.{operand}
+use Rattle.machine.specs.Statements.{Choice, enters, skips, choose}
+use Rattle.operands.specs.declared.Context.{Context}
+use Rattle.operands.specs.Answers.{firstWord, Unstuck, Evaluable}
+use Rattle.operands.specs.Ready.{contextIn, Ready}
+use Rattle.operands.proofs.Selecting.{tab}
+use Rattle.guards.specs.declared.Found.the-variants.{Arm, End, Fails}
+use Rattle.guards.specs.Guards.{Choosable, Choosing, Chosen}
+use Rattle.guards.proofs.Arms.{through, same-unstuck, word-unstuck, word-failed, word-given, at-arm, arms-there, end-is}
+
+-- after the arm i: what its guard, a word, comes to; at most n arms follow
+unfoldable pub judged : Table → Memory → Memory → machine.Context → ℕ → ℕ → ℕ → Outcome Choice
+judged T m page x n i w =
+    pick (eqb w 0) (need (ltb i (stmtLink T i)) (choose T m page x n (stmtLink T i))) (ok (enters i))
+
+module _ (T : Table) (m page : Memory) (x : machine.Context) where
+  -- an arm that is tried
+  record Tried (n i : ℕ) : Type 0 where
+    pub left : ℕ
+    pub below : i < stmtCount T
+    pub is : choose T m page x n i ≡ onWord (operand T m page x (stmtA T i)) 1 (judged T m page x left i)
+
+  tried : (n i : ℕ) → (choose T m page x n i ≡ stuck → ⊥) → stmtKind T i ≡ 10 → Tried n i
+  unfolding choose judged
+  tried zero i g e = absurd (g refl)
+  tried (suc n) i g e =
+      let l = arms-there T i _ _ g in record { left = n; below = l; is = at-arm T i _ _ l e }
+
+  reached : (n i : ℕ) → (choose T m page x n i ≡ stuck → ⊥) → (stmtKind T i ≡ 10 → ⊥) → (choose T m page x n i ≡ ok (skips i)) × (i < stmtCount T)
+  unfolding choose
+  reached zero i g e = absurd (g refl)
+  reached (suc n) i g e = (end-is T i _ _ g e, arms-there T i _ _ g)
+
+  judged-false : (n i : ℕ) → (judged T m page x n i 0 ≡ stuck → ⊥) → (i < stmtLink T i) × (judged T m page x n i 0 ≡ choose T m page x n (stmtLink T i))
+  unfolding judged need
+  judged-false n i g = let b = through (ltb i (stmtLink T i)) _ g in (ltb-true i (stmtLink T i) b, rw b)
+
+  judged-true : (n i w : ℕ) → (w ≡ 0 → ⊥) → judged T m page x n i w ≡ ok (enters i)
+  unfolding judged
+  judged-true n i w g = rw (ne-eqb w 0 g)
+
+  pub choosing-none : (i : ℕ) → Choosable T m page x i → Choosing T m page x i i
+  choosing-none i c = record { left = stmtCount T; rest = refl; unstuck = c .unstuck }
+
+  module _ (i j : ℕ) (c : Choosing T m page x i j) (k : ℕ) (hk : Field (stmtKind T j) k) where
+    free : choose T m page x (c .left) j ≡ stuck → ⊥
+    free = same-unstuck (c .rest) (c .unstuck)
+
+    pub choose-ends : (k ≡ 10 → ⊥) → Chosen T m page x i (End j)
+    choose-ends n =
+        let d = reached (c .left) j free (λ e. n (hk .is ∙ e)) in record { is = sym (d .0) ∙ c .rest; below = d .1 }
+
+    module _ (e : k ≡ 10) where
+      here : Tried (c .left) j
+      here = tried (c .left) j free (sym (hk .is) ∙ e)
+
+      asked : onWord (operand T m page x (stmtA T j)) 1 (judged T m page x (here .left) j) ≡ stuck → ⊥
+      asked = same-unstuck (sym (here .is)) free
+
+      pub guard-below : j < stmtCount T
+      guard-below = here .below
+
+      pub guard-unstuck : Unstuck (operand T m page x (stmtA T j))
+      guard-unstuck = word-unstuck 1 _ _ asked
+
+      module _ (v : Value) (hv : outcomeOf v ≡ firstWord (operand T m page x (stmtA T j))) where
+        pub choose-fails : (f : Failure) → v ≡ value.Fail f → Chosen T m page x i (Fails f)
+        choose-fails f g =
+            record {
+              is = sym (word-failed 1 _ _ v f hv g) ∙ (sym (here .is) ∙ c .rest);
+              below = let b = here .below in omega arith;
+            }
+
+        module _ (w : ℕ) (hw : v ≡ value.Word w) where
+          gives : onWord (operand T m page x (stmtA T j)) 1 (judged T m page x (here .left) j) ≡ judged T m page x (here .left) j w
+          gives = word-given 1 _ _ v w hv hw asked
+
+          pub choose-enters : (w ≡ 0 → ⊥) → Chosen T m page x i (Arm j)
+          choose-enters n =
+              record {
+                is = sym (judged-true (here .left) j w n) ∙ (sym gives ∙ (sym (here .is) ∙ c .rest));
+                below = here .below;
+              }
+
+          module _ (z : w ≡ 0) where
+            false-guard : (j < stmtLink T j) × (judged T m page x (here .left) j 0 ≡ choose T m page x (here .left) (stmtLink T j))
+            false-guard = judged-false (here .left) j (same-unstuck (ap (judged T m page x (here .left) j) (sym z) ∙ sym gives) asked)
+
+            module _ (l : ℕ) (hl : Field (stmtLink T j) l) where
+              pub choosing-less : stmtCount T - l < stmtCount T - j
+              choosing-less = let b = here .below in let q = hl .is in let r = false-guard .0 in omega arith
+
+              pub choosing-more : Choosing T m page x i l
+              choosing-more =
+                  record {
+                    left = here .left;
+                    rest = rw (hl .is) (sym (false-guard .1) ∙ (ap (judged T m page x (here .left) j) (sym z) ∙ (sym gives ∙ (sym (here .is) ∙ c .rest))));
+                    unstuck = c .unstuck;
+                  }
+
+module _ (t : List ℕ) (s : Sections) (y z o f m p : List ℕ) (x : Context) (h : Ready t s y z o f m p x) (i j : ℕ) where
+  pub guard-evaluable : Choosing (tab t s) (memoryOf m) (memoryOf p) (contextIn x) i j
+      → (k : ℕ) → Field (stmtKind (tab t s) j) k → k ≡ 10
+      → Evaluable (tab t s) (memoryOf m) (memoryOf p) (contextIn x) (stmtA (tab t s) j)
+  guard-evaluable c k hk e =
+      record {
+        expression = arm-guard (tab t s) (h .prepared .ranged) j (guard-below (tab t s) (memoryOf m) (memoryOf p) (contextIn x) i j c k hk e) (sym (hk .is) ∙ e);
+        unstuck = guard-unstuck (tab t s) (memoryOf m) (memoryOf p) (contextIn x) i j c k hk e;
+      }
+
+pub ruleset chooses = (choosing-none, choose-ends, choose-fails, choose-enters, choosing-less, choosing-more, guard-evaluable)
+
+-- ---- the laws of `guard`
+module _ (T : Table) (m page : Memory) (x : machine.Context) (i a : ℕ) (ha : Field (stmtA T i) a) where
+  pub guard-asks : Evaluable T m page x (stmtA T i) → Evaluable T m page x a
+  guard-asks c = rw (ha .is) c
+
+  pub guard-returns : (v : Value) → outcomeOf v ≡ firstWord (operand T m page x a) → outcomeOf v ≡ firstWord (operand T m page x (stmtA T i))
+  guard-returns v e = rw (ha .is) at e
+
+pub ruleset guards = (guard-asks, guard-returns)

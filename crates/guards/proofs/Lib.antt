@@ -1,0 +1,4 @@
+pub mod Arms
+pub mod Choosing
+pub mod Linking
+pub mod Opening

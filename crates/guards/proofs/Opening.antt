@@ -1,0 +1,180 @@
+-- An if, while, when or cycle: what its guards may ask, and each return. Assumes nothing.
+use Prim.Native.Nat.{ℕ, _+_, _≤_, _<_}
+use mathlib.Core.Path.{_≡_, refl, sym, _∙_}
+use mathlib.Core.Bool.{Bool, true, false}
+use mathlib.Core.List.{List}
+use lib.Dec.{eqb, leb}
+use native.Mathlib.Omega.{arith}
+use borrow.Author.Tests.{eqb-true, eqb-false, lt-leb}
+use mir.Val.{Fits}
+use mir.Syntax.{w64}
+use Rattle.basics.specs.Choice.{pick, cases}
+use Rattle.table.specs.Table.{Table}
+use Rattle.table.specs.Entries.{stmtCount, stmtKind}
+use Rattle.table.specs.Reading.{Of, Field}
+use Rattle.table.specs.declared.Sections.{Sections}
+use Rattle.words.specs.Outcomes.{failureNumber}
+use Rattle.words.specs.declared.values.Failure.{Failure}
+use Rattle.machine.specs.Memory.{Memory, memoryOf, update}
+use Rattle.machine.specs.Layout.{statementAt, holderAt, failureAt}
+use Rattle.machine.specs.Lent.{Lent, Changed}
+use Rattle.machine.specs.Context as machine
+use Rattle.machine.specs.Outcomes.{stuck, andThen}
+use Rattle.machine.specs.Entries.{Opener, waits, stmtAt}
+use Rattle.machine.specs.Statements.{goTo, wait, choose, chosen, doOpener, perform}
+use Rattle.operands.specs.declared.Context.{Context}
+use Rattle.operands.specs.Ready.{contextIn, Ready}
+use Rattle.effects.specs.Effects.{carried, Stepped, Standing}
+use Rattle.effects.proofs.Carrying.{statement-there, performs-if, performs-while, performs-when, performs-cycle, stepped, stepped-fail}
+use Rattle.operands.proofs.Selecting.{tab}
+use Rattle.guards.specs.declared.Found.{Found}
+use Rattle.guards.specs.declared.Found.the-variants.{Arm, End, Fails}
+use Rattle.guards.specs.Guards.{openerOf, Choosable, Chosen, Going}
+use Rattle.guards.proofs.Arms.{first-outcome, same-unstuck, opener-follows}
+use Rattle.guards.proofs.Linking.{count-small}
+
+waits-is : (k v : ℕ) → k ≤ 9 → v ≡ k → leb 8 v ≡ waits (openerOf k)
+unfolding openerOf waits
+waits-is k v h e =
+    rw e
+    (cases (eqb k 7) (λ q. let r = eqb-true k 7 q in rw r) (λ q.
+    cases (eqb k 8) (λ r. let u = eqb-true k 8 r in rw u) (λ r.
+    cases (eqb k 9) (λ u. let w = eqb-true k 9 u in rw w) (λ u.
+    let a = eqb-false k 8 r in let b = eqb-false k 9 u in rw (q, r, u, lt-leb 8 k (omega arith))))))
+
+-- ---- the laws of `enter` and `pass`
+module _ (m m1 : List ℕ) (h q v c : ℕ) (b : Bool) where
+  pub enter-holding : b ≡ true → Changed 17664 m1 (update (update (memoryOf m) h v) q c)
+      → Changed 17664 m1 (update (pick b (update (memoryOf m) h v) (memoryOf m)) q c)
+  enter-holding e i = rw e i
+
+  pub enter-only : b ≡ false → Changed 17664 m1 (update (memoryOf m) q c)
+      → Changed 17664 m1 (update (pick b (update (memoryOf m) h v) (memoryOf m)) q c)
+  enter-only e i = rw e i
+
+module _ (m m1 : List ℕ) (h q c : ℕ) (b : Bool) where
+  pub pass-blocked : b ≡ true → Changed 17664 m1 (update (memoryOf m) h 0)
+      → Changed 17664 m1 (pick b (update (memoryOf m) h 0) (update (memoryOf m) q c))
+  pass-blocked e i = rw e i
+
+  pub pass-on : b ≡ false → Changed 17664 m1 (update (memoryOf m) q c)
+      → Changed 17664 m1 (pick b (update (memoryOf m) h 0) (update (memoryOf m) q c))
+  pass-on e i = rw e i
+
+pub ruleset goings = (enter-holding, enter-only, pass-blocked, pass-on)
+
+-- ---- the laws of `open`
+module _ (T : Table) (m page : Memory) (x : machine.Context) (k : Opener) where
+  opens : (doOpener T m page x k ≡ stuck → ⊥)
+      → doOpener T m page x k ≡ andThen (choose T m page x (stmtCount T) (x .statement + 1)) (chosen T m page x k)
+  unfolding doOpener
+  opens g = opener-follows T (x .statement + 1) _ g
+
+module _ (t : List ℕ) (s : Sections) (y z o f m p : List ℕ) (x : Context) (h : Standing t s y z o f m p x) where
+  pub stands-ready : Ready t s y z o f m p x
+  stands-ready = h .ready
+
+  pub stands-table : Of t s
+  stands-table = h .ready .table
+
+  pub stands-lent : Lent 17664 m
+  stands-lent = record { long = h .ready .state }
+
+  stands-page : Changed 4096 p (memoryOf p)
+  stands-page = record { long = h .ready .page; is = refl }
+
+  opener-small : x .statement < 65535
+  unfolding contextIn
+  opener-small =
+      let b = statement-there (tab t s) (memoryOf m) (memoryOf p) (contextIn x) (h .unstuck) in
+      let c = count-small t s (h .ready .table) in omega arith
+
+  pub opener-fits : Fits w64 (x .statement + 1)
+  opener-fits = let l = opener-small in record { fits = omega arith }
+
+  module _ (l : 6 ≤ stmtKind (tab t s) (x .statement)) (k : stmtKind (tab t s) (x .statement) ≤ 9) where
+    performs : perform (tab t s) (memoryOf m) (memoryOf p) (contextIn x) (stmtAt (tab t s) (x .statement))
+        ≡ doOpener (tab t s) (memoryOf m) (memoryOf p) (contextIn x) (openerOf (stmtKind (tab t s) (x .statement)))
+    unfolding contextIn openerOf
+    performs =
+        cases (eqb (stmtKind (tab t s) (x .statement)) 7)
+        (λ e. rw e (performs-while (tab t s) (memoryOf m) (memoryOf p) (contextIn x) (h .unstuck) (eqb-true (stmtKind (tab t s) (x .statement)) 7 e)))
+        (λ e7.
+        cases (eqb (stmtKind (tab t s) (x .statement)) 8)
+        (λ e. rw (e7, e) (performs-when (tab t s) (memoryOf m) (memoryOf p) (contextIn x) (h .unstuck) (eqb-true (stmtKind (tab t s) (x .statement)) 8 e)))
+        (λ e8.
+        cases (eqb (stmtKind (tab t s) (x .statement)) 9)
+        (λ e. rw (e7, e8, e) (performs-cycle (tab t s) (memoryOf m) (memoryOf p) (contextIn x) (h .unstuck) (eqb-true (stmtKind (tab t s) (x .statement)) 9 e)))
+        (λ e9.
+        let a = eqb-false (stmtKind (tab t s) (x .statement)) 7 e7 in
+        let b = eqb-false (stmtKind (tab t s) (x .statement)) 8 e8 in
+        let c = eqb-false (stmtKind (tab t s) (x .statement)) 9 e9 in
+        rw (e7, e8, e9) (performs-if (tab t s) (memoryOf m) (memoryOf p) (contextIn x) (h .unstuck) (omega arith)))))
+
+    chooses : perform (tab t s) (memoryOf m) (memoryOf p) (contextIn x) (stmtAt (tab t s) (x .statement))
+        ≡ andThen (choose (tab t s) (memoryOf m) (memoryOf p) (contextIn x) (stmtCount (tab t s)) (x .statement + 1))
+        (chosen (tab t s) (memoryOf m) (memoryOf p) (contextIn x) (openerOf (stmtKind (tab t s) (x .statement))))
+    unfolding contextIn
+    chooses = performs ∙ opens (tab t s) (memoryOf m) (memoryOf p) (contextIn x) _ (same-unstuck (sym performs) (h .unstuck))
+
+    pub opener-choosable : Choosable (tab t s) (memoryOf m) (memoryOf p) (contextIn x) (x .statement + 1)
+    opener-choosable = record { unstuck = first-outcome _ _ (same-unstuck (sym chooses) (h .unstuck)) }
+
+    module _ (r : Found) (c : Chosen (tab t s) (memoryOf m) (memoryOf p) (contextIn x) (x .statement + 1) r) where
+      going : (i : ℕ) → i < stmtCount (tab t s) → Going m x i
+      going i b =
+          record {
+            state = stands-lent;
+            processLow = h .ready .context .processLow;
+            processHigh = h .ready .context .processHigh;
+            worksLow = h .ready .context .worksLow;
+            worksHigh = h .ready .context .worksHigh;
+            small = let d = count-small t s (h .ready .table) in omega arith;
+          }
+
+      pub arm-going : (i : ℕ) → r ≡ Arm i → Going m x i
+      arm-going i e = let b = rw e at c in going i (b .below)
+
+      pub end-going : (i : ℕ) → r ≡ End i → Going m x i
+      end-going i e = let b = rw e at c in going i (b .below)
+
+      pub opener-fails : (e : Failure) → r ≡ Fails e → (n : ℕ) (m1 : List ℕ) → n ≡ failureNumber e
+          → Changed 17664 m1 (update (memoryOf m) failureAt (failureNumber e))
+          → Stepped n m1 p (carried (tab t s) (memoryOf m) (memoryOf p) (contextIn x))
+      unfolding andThen contextIn
+      opener-fails e q n m1 u v =
+          let d = rw q at c in
+          stepped-fail (tab t s) m p m1 p (contextIn x) (failureNumber e) n
+          (chooses ∙ rw (← d .is)) u v (h .ready .page)
+
+      module _ (v : ℕ) (hv : Field (stmtKind (tab t s) (x .statement)) v) where
+        same : leb 8 v ≡ waits (openerOf (stmtKind (tab t s) (x .statement)))
+        same = waits-is (stmtKind (tab t s) (x .statement)) v k (hv .is)
+
+        pub opener-enters : (i : ℕ) → r ≡ Arm i → (n : ℕ) (m1 : List ℕ) → n ≡ 0
+            → Changed 17664 m1 (update (pick (leb 8 v) (update (memoryOf m) (holderAt (x .works)) (x .process)) (memoryOf m)) (statementAt (x .process)) (i + 1))
+            → Stepped n m1 p (carried (tab t s) (memoryOf m) (memoryOf p) (contextIn x))
+        unfolding andThen chosen goTo contextIn
+        opener-enters i q n m1 u w =
+            let d = rw q at c in
+            rw u
+            (stepped (tab t s) m p m1 p (contextIn x) 0 _ (memoryOf p)
+            (chooses ∙ rw (← d .is)) (rw same at w) stands-page)
+
+        pub opener-passes : (i : ℕ) → r ≡ End i → (n : ℕ) (m1 : List ℕ) → n ≡ pick (leb 8 v) 1 0
+            → Changed 17664 m1 (pick (leb 8 v) (update (memoryOf m) (holderAt (x .works)) 0) (update (memoryOf m) (statementAt (x .process)) (i + 1)))
+            → Stepped n m1 p (carried (tab t s) (memoryOf m) (memoryOf p) (contextIn x))
+        unfolding andThen chosen goTo wait contextIn
+        opener-passes i q n m1 u w =
+            let d = rw q at c in
+            cases (waits (openerOf (stmtKind (tab t s) (x .statement))))
+            (λ e.
+            let g : n ≡ 1 = u ∙ rw (same, e) in
+            rw g
+            (stepped (tab t s) m p m1 p (contextIn x) 1 _ (memoryOf p) (chooses ∙ rw (← d .is, e)) (rw (same, e) at w) stands-page))
+            (λ e.
+            let g : n ≡ 0 = u ∙ rw (same, e) in
+            rw g
+            (stepped (tab t s) m p m1 p (contextIn x) 0 _ (memoryOf p) (chooses ∙ rw (← d .is, e)) (rw (same, e) at w) stands-page))
+
+pub ruleset opening = (stands-ready, stands-table, stands-lent, opener-fits, opener-choosable, arm-going, end-going, opener-fails, opener-enters, opener-passes)

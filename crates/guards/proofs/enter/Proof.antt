@@ -1,0 +1,17 @@
+use Rattle.guards.proofs.Opening.{goings}
+use borrow.Author.Needs.{needs}
+use Rattle.guards.proofs.enter.Statement.{statement}
+use Rattle.guards.proofs.enter.Tie as tie
+
+pub enter-spec : {M : Type 1} → statement M
+enter-spec =
+    tie.close
+    (tie.spec
+    (λ c. search needs)
+    (λ c. search needs)
+    (λ c κs. search needs)
+    (λ c κs. search needs)
+    (λ c. search needs)
+    (λ c. search goings)
+    (λ c. search needs)
+    (λ c. search goings))

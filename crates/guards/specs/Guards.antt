@@ -1,0 +1,89 @@
+-- What the code finds of arms and ends, and what it may be asked. Assumes nothing.
+use Prim.Native.Nat.{ℕ, _≤_, _<_}
+use mathlib.Core.Path.{_≡_}
+use mathlib.Core.List.{List}
+use lib.ListN.{length}
+use lib.Dec.{eqb}
+use Rattle.basics.specs.Choice.{pick}
+use Rattle.table.specs.Table.{Table, tableOf}
+use Rattle.table.specs.Entries.{stmtCount}
+use Rattle.table.specs.Reading.{Of}
+use Rattle.table.specs.declared.Sections.{Sections}
+use Rattle.words.specs.Outcomes.{failureNumber}
+use Rattle.machine.specs.Memory.{Memory, memoryOf}
+use Rattle.machine.specs.Lent.{Lent}
+use Rattle.machine.specs.Outcomes.{Outcome, ok, fail, stuck}
+use Rattle.machine.specs.Entries.{Opener, if, while, when, cycle, stmtAt}
+use Rattle.machine.specs.Context as machine
+use Rattle.machine.specs.Statements.{Choice, enters, skips, endOf, choose, perform}
+use Rattle.operands.specs.declared.Context.{Context}
+use Rattle.operands.specs.Ready.{contextIn}
+use Rattle.guards.specs.declared.Found.{Found}
+use Rattle.guards.specs.declared.Found.the-variants.{Arm, End, Fails}
+
+-- the structured statement of kind k (01, The table): if 6, while 7, when 8, cycle 9
+unfoldable pub openerOf : ℕ → Opener
+openerOf k = pick (eqb k 7) while (pick (eqb k 8) when (pick (eqb k 9) cycle if))
+
+-- what the guards came to
+abbrev pub found : Found → Outcome Choice
+found (Arm i) = ok (enters i)
+found (End i) = ok (skips i)
+found (Fails f) = fail (failureNumber f)
+
+-- the statement that they lead to
+abbrev pub foundAt : Found → ℕ
+foundAt (Arm i) = i
+foundAt (End i) = i
+foundAt (Fails f) = 0
+
+-- the guards of the arms from i on can be evaluated
+pub record Choosable (T : Table) (m page : Memory) (x : machine.Context) (i : ℕ) : Type 0 where
+  pub unstuck : choose T m page x (stmtCount T) i ≡ stuck → ⊥
+
+-- the guards from i up to j are false
+pub record Choosing (T : Table) (m page : Memory) (x : machine.Context) (i j : ℕ) : Type 0 where
+  pub left : ℕ
+  pub rest : choose T m page x left j ≡ choose T m page x (stmtCount T) i
+  pub unstuck : choose T m page x (stmtCount T) i ≡ stuck → ⊥
+
+-- r is what the guards from i on come to, a statement that exists
+pub record Chosen (T : Table) (m page : Memory) (x : machine.Context) (i : ℕ) (r : Found) : Type 0 where
+  pub is : found r ≡ choose T m page x (stmtCount T) i
+  pub below : foundAt r < stmtCount T
+
+-- the end of the arms from i on, by the links of at most n
+unfoldable pub endAt : Table → ℕ → ℕ → Outcome ℕ
+endAt T n i = endOf T n i λ j link. ok j
+
+pub record Linked (T : Table) (i : ℕ) : Type 0 where
+  pub unstuck : endAt T (stmtCount T) i ≡ stuck → ⊥
+
+-- j is an arm or the end of the arms from i on
+pub record Linking (T : Table) (i j : ℕ) : Type 0 where
+  pub left : ℕ
+  pub rest : endAt T left j ≡ endAt T (stmtCount T) i
+  pub unstuck : endAt T (stmtCount T) i ≡ stuck → ⊥
+
+-- r is the end of the arms from i on, a statement that exists
+pub record Ended (T : Table) (i r : ℕ) : Type 0 where
+  pub is : ok r ≡ endAt T (stmtCount T) i
+  pub below : r < stmtCount T
+
+-- what process and works are, and a statement that another can follow
+pub record Going (m : List ℕ) (x : Context) (i : ℕ) : Type 0 where
+  pub state : Lent 17664 m
+  pub processLow : 1 ≤ x .process
+  pub processHigh : x .process ≤ 64
+  pub worksLow : 1 ≤ x .works
+  pub worksHigh : x .works ≤ 64
+  pub small : i < 65535
+
+-- what a statement with no operands is carried out with: less than effects' Standing
+pub record Plain (t : List ℕ) (s : Sections) (m p : List ℕ) (x : Context) : Type 0 where
+  pub table : Of t s
+  pub state : length m ≡ 35328
+  pub page : length p ≡ 8192
+  pub low : 1 ≤ x .process
+  pub high : x .process ≤ 64
+  pub unstuck : perform (tableOf (s .w) t) (memoryOf m) (memoryOf p) (contextIn x) (stmtAt (tableOf (s .w) t) (x .statement)) ≡ stuck → ⊥

@@ -1,0 +1,196 @@
+-- Write statements that are not stuck (12.3): what each call may ask, and each return. Assumes nothing.
+use Prim.Native.Nat.{ℕ, _+_, _*_, _/_, _<_, _≤_}
+use mathlib.Core.Path.{_≡_, sym, ap, _∙_}
+use mathlib.Core.Bool.{true, false}
+use mathlib.Core.List.{List}
+use lib.Dec.{eqb}
+use lib.ListN.{length}
+use native.Mathlib.Omega.{arith}
+use Rattle.basics.specs.Choice.{cases}
+use Rattle.table.specs.Table.{Table}
+use Rattle.table.specs.Entries.{stmtKind, stmtA, stmtB}
+use Rattle.table.specs.declared.Sections.{Sections}
+use Rattle.types.specs.Types.{typeOf}
+use Rattle.numbers.proofs.OperandPromise.{write-address, write-value}
+use Rattle.words.specs.Memory.{putAtByte, putWord}
+use Rattle.words.specs.Numbers.{intOf}
+use Rattle.words.specs.Devices.{isDevice, positionOf, writeDevice, pageAfter}
+use Rattle.words.specs.Outcomes as words
+use Rattle.words.specs.Outcomes.{failureNumber, outcomeOf}
+use Rattle.words.specs.declared.values.Failure.{Failure}
+use Rattle.words.specs.declared.values.Value.{Value}
+use Rattle.words.specs.declared.values.Value.the-variants.{Word, Fail}
+use Rattle.words.proofs.MemoryLaws.{length-put-at}
+use Rattle.words.proofs.DeviceLaws.{position-even, position-le}
+use Rattle.machine.specs.Memory.{memoryOf, update}
+use Rattle.machine.specs.Layout.{statementAt, failureAt}
+use Rattle.machine.specs.Lent.{Lent, Changed}
+use Rattle.machine.specs.Outcomes.{Outcome, fail, stuck, need, failWhere, Operand, onWord, wordOf}
+use Rattle.machine.specs.Entries.{stmtAt}
+use Rattle.machine.specs.Operands.{operand, deviceWord}
+use Rattle.machine.specs.Statements.{doWrite, perform}
+use Rattle.machine.specs.Step.{settled}
+use Rattle.machine.proofs.Memories.{memory-put}
+use Rattle.operands.specs.declared.Context.{Context}
+use Rattle.operands.specs.Answers.{firstWord}
+use Rattle.operands.specs.Ready.{contextIn, Ready}
+use Rattle.operands.proofs.Typed.{OfType, typed-expression}
+use Rattle.operands.proofs.Yielding.{failed}
+use Rattle.operands.proofs.Selecting.{tab, out}
+use Rattle.operands.proofs.Evaluating.{Ev}
+use Rattle.effects.specs.Effects.{carried, Stepped, Standing}
+use Rattle.effects.proofs.Carrying.{performs-write}
+use Rattle.transfers.specs.Devices.{writes, Writing}
+use Rattle.transfers.proofs.Following.{apart, no-word, need-done, value-failed, value-goes, value-unstuck, value-gave}
+use Rattle.transfers.proofs.Steps.{stands-there, stands-bounds, stands-lent, stands-fail}
+
+-- ---- the laws of `write_word`
+
+-- the word of the page that the store changes
+page-put : (d : List ℕ) (i v : ℕ) → length d ≡ 8192 → i < 65536 → v < 65536 → isDevice (intOf i) ≡ true
+    → memoryOf (putAtByte d (positionOf (intOf i)) v) ≡ update (memoryOf d) (deviceWord i) v
+unfolding deviceWord putWord
+page-put d i v l a b t =
+    let e = position-even i a t in
+    let k = position-le i a t in
+    let q : positionOf (intOf i) / 2 * 2 ≡ positionOf (intOf i) = omega arith in
+    ap (λ (k : ℕ). memoryOf (putAtByte d k v)) (sym q) ∙ memory-put d (positionOf (intOf i) / 2) v (omega arith) b
+
+no-device : (i v : ℕ) (k : ℕ) → words.fail k ≡ writeDevice i v → (isDevice (intOf i) ≡ false) × (k ≡ 21)
+unfolding writeDevice
+no-device i v k e =
+    cases (isDevice (intOf i))
+    (λ t. no-word v k (sym (rw t at e)))
+    (λ t. (t, fails-by k 21 (rw t at e)))
+  where
+    fails-by : (a b : ℕ) → words.fail a ≡ words.fail b → a ≡ b
+    fails-by a b e = cc
+
+is-device : (i v w : ℕ) → words.word w ≡ writeDevice i v → isDevice (intOf i) ≡ true
+unfolding writeDevice
+is-device i v w e =
+    cases (isDevice (intOf i))
+    (λ t. t)
+    (λ t. no-word w 21 (rw t at e))
+
+module _ (s d d1 : List ℕ) (x : Context) (i v : ℕ) (l : length d ≡ 8192) (w : Value) (hw : outcomeOf w ≡ writeDevice i v) (hd : d1 ≡ pageAfter d i v) where
+  pub write-fails : (e : Failure) (r : ℕ) (s1 : List ℕ) → w ≡ Fail e → r ≡ failureNumber e
+      → Changed 17664 s1 (update (memoryOf s) failureAt (failureNumber e))
+      → Stepped r s1 d1 (settled (memoryOf s) (memoryOf d) (writes (memoryOf s) (memoryOf d) x i v))
+  unfolding settled writes failWhere pageAfter
+  write-fails e r s1 g k c =
+      let q = no-device i v (failureNumber e) (rw g at hw) in
+      let same : d1 ≡ d = hd ∙ rw (q .0) in
+      record { long = c .long; wide = rw same l; is = rw (q .0, same, k, c .is, q .1) }
+
+  pub write-returns : (u : ℕ) (s1 : List ℕ) → w ≡ Word u → i < 65536 → v < 65536
+      → Changed 17664 s1 (update (memoryOf s) (statementAt (x .process)) (x .statement + 1))
+      → Stepped 0 s1 d1 (settled (memoryOf s) (memoryOf d) (writes (memoryOf s) (memoryOf d) x i v))
+  unfolding settled writes failWhere pageAfter
+  write-returns u s1 g a b c =
+      let q = is-device i v u (rw g at hw) in
+      let put : d1 ≡ putAtByte d (positionOf (intOf i)) v = hd ∙ rw q in
+      record {
+        long = c .long;
+        wide = rw put (length-put-at d (positionOf (intOf i)) v ∙ l);
+        is = rw (q, put, c .is, page-put d i v l a b q);
+      }
+
+-- ---- the laws of `write`
+
+-- an operand of type integer, whose word is w
+word-goes : {A : Type 0} (T : Table) (τ : ℕ) (o : Outcome Operand) (f : ℕ → Outcome A) (w : ℕ)
+    → (onWord o 0 f ≡ stuck → ⊥) → OfType T τ o → words.word w ≡ firstWord o → onWord o 0 f ≡ f w
+unfolding onWord
+word-goes T τ o f w g t e =
+    let j = value-gave T τ o _ w g t e in
+    let d = value-goes o (λ σ ws. need (eqb σ 0) (f (wordOf ws))) τ (j .words) (j .is) in
+    d ∙ (need-done _ _ (apart _ _ d g) ∙ ap f (j .first))
+
+module _ (t : List ℕ) (s : Sections) (y z o f m p : List ℕ) (x : Context) (h : Standing t s y z o f m p x) (hk : stmtKind (tab t s) (x .statement) ≡ 12) where
+  does : perform (tab t s) (memoryOf m) (memoryOf p) (contextIn x) (stmtAt (tab t s) (x .statement))
+      ≡ onWord (out t s m p x (stmtA (tab t s) (x .statement))) 0 (λ i. onWord (out t s m p x (stmtB (tab t s) (x .statement))) 0 (λ v. writes (memoryOf m) (memoryOf p) x i v))
+  unfolding contextIn doWrite writes
+  does = performs-write (tab t s) (memoryOf m) (memoryOf p) (contextIn x) (h .unstuck) hk
+
+  address-there : Ev t s m p x (stmtA (tab t s) (x .statement))
+  unfolding onWord
+  address-there =
+      record {
+        expression = write-address (tab t s) (h .ready .prepared .ranged) (x .statement) (stands-there t s y z o f m p x h) hk;
+        unstuck = value-unstuck _ _ (apart _ _ does (h .unstuck));
+      }
+
+  module _ (a : ℕ) (ha : a ≡ stmtA (tab t s) (x .statement)) where
+    pub address-evaluable : Ev t s m p x a
+    address-evaluable = rw ha address-there
+
+    module _ (v : Value) (hv : outcomeOf v ≡ firstWord (out t s m p x a)) where
+      pub address-fails : (e : Failure) (r : ℕ) (s1 : List ℕ) → v ≡ Fail e → r ≡ failureNumber e
+          → Changed 17664 s1 (update (memoryOf m) failureAt (failureNumber e))
+          → Stepped r s1 p (carried (tab t s) (memoryOf m) (memoryOf p) (contextIn x))
+      unfolding onWord
+      address-fails e r s1 g k c =
+          let q = failed _ _ (rw (g, ha) at hv) in
+          stands-fail t s y z o f m p x h (failureNumber e) r s1 (does ∙ value-failed _ _ (failureNumber e) q) k c
+
+      pub address-writing : (i : ℕ) → v ≡ Word i → Writing t s y z o f m p x i
+      address-writing i g = record { standing = h; kind = hk; address = rw (g, ha) at hv }
+
+-- ---- the laws of `write_value`
+
+module _ (t : List ℕ) (s : Sections) (y z o f m p : List ℕ) (x : Context) (i : ℕ) (c : Writing t s y z o f m p x i) where
+  pub writing-ready : Ready t s y z o f m p x
+  writing-ready = c .standing .ready
+
+  pub writing-lent : Lent 17664 m
+  writing-lent = stands-lent t s y z o f m p x (c .standing)
+
+  pub writing-page : length p ≡ 8192
+  writing-page = c .standing .ready .page
+
+  pub writing-bounds : (1 ≤ x .process) × ((x .process ≤ 64) × (x .statement < 65535))
+  writing-bounds = stands-bounds t s y z o f m p x (c .standing)
+
+  then : perform (tab t s) (memoryOf m) (memoryOf p) (contextIn x) (stmtAt (tab t s) (x .statement))
+      ≡ onWord (out t s m p x (stmtB (tab t s) (x .statement))) 0 (λ v. writes (memoryOf m) (memoryOf p) x i v)
+  then =
+      let d = does t s y z o f m p x (c .standing) (c .kind) in
+      d
+      ∙ word-goes (tab t s) (typeOf (tab t s) (stmtA (tab t s) (x .statement))) _ _ i (apart _ _ d (c .standing .unstuck))
+      (typed-expression (tab t s) (memoryOf m) (memoryOf p) (contextIn x) (c .standing .ready .prepared .ranged) (stmtA (tab t s) (x .statement))
+      (address-there t s y z o f m p x (c .standing) (c .kind) .expression))
+      (c .address)
+
+  value-there : Ev t s m p x (stmtB (tab t s) (x .statement))
+  unfolding onWord
+  value-there =
+      record {
+        expression = write-value (tab t s) (c .standing .ready .prepared .ranged) (x .statement) (stands-there t s y z o f m p x (c .standing)) (c .kind);
+        unstuck = value-unstuck _ _ (apart _ _ then (c .standing .unstuck));
+      }
+
+  module _ (b : ℕ) (hb : b ≡ stmtB (tab t s) (x .statement)) where
+    pub writing-evaluable : Ev t s m p x b
+    writing-evaluable = rw hb value-there
+
+    module _ (v : Value) (hv : outcomeOf v ≡ firstWord (out t s m p x b)) where
+      pub writing-fails : (e : Failure) (r : ℕ) (s1 : List ℕ) → v ≡ Fail e → r ≡ failureNumber e
+          → Changed 17664 s1 (update (memoryOf m) failureAt (failureNumber e))
+          → Stepped r s1 p (carried (tab t s) (memoryOf m) (memoryOf p) (contextIn x))
+      unfolding onWord
+      writing-fails e r s1 g k d =
+          let q = failed _ _ (rw (g, hb) at hv) in
+          stands-fail t s y z o f m p x (c .standing) (failureNumber e) r s1 (then ∙ value-failed _ _ (failureNumber e) q) k d
+
+      pub writing-returns : (w r : ℕ) (s1 d1 : List ℕ) → v ≡ Word w
+          → Stepped r s1 d1 (settled (memoryOf m) (memoryOf p) (writes (memoryOf m) (memoryOf p) x i w))
+          → Stepped r s1 d1 (carried (tab t s) (memoryOf m) (memoryOf p) (contextIn x))
+      unfolding carried contextIn
+      writing-returns w r s1 d1 g d =
+          let e = then ∙ word-goes (tab t s) (typeOf (tab t s) (stmtB (tab t s) (x .statement))) _ _ w (apart _ _ then (c .standing .unstuck))
+          (typed-expression (tab t s) (memoryOf m) (memoryOf p) (contextIn x) (c .standing .ready .prepared .ranged) (stmtB (tab t s) (x .statement)) (value-there .expression))
+          (rw (g, hb) at hv) in
+          rw (← e) at d
+
+pub ruleset writings = (write-fails, write-returns, address-evaluable, address-fails, address-writing, writing-ready, writing-lent, writing-page, writing-bounds, writing-evaluable, writing-fails, writing-returns)

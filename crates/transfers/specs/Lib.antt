@@ -1,0 +1,4 @@
+pub mod References
+pub mod Assignments
+pub mod Creations
+pub mod Devices

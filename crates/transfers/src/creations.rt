@@ -1,0 +1,67 @@
+// Create statements (11.4): a new process of the variable's module, to which the variable then refers.
+use operands::Context;
+use operands::Place;
+use operands::eval::select;
+use words::values::Failure;
+ghost use mathlib.Core.Path.{_≡_};
+ghost use Prim.Native.Nat.{_+_, _≤_};
+ghost use Rattle.table.specs.Table.{tableOf};
+ghost use Rattle.table.specs.Entries.{stmtKind};
+ghost use Rattle.machine.specs.Memory.{memoryOf};
+ghost use Rattle.machine.specs.Layout.{createdAt};
+ghost use Rattle.machine.specs.Lent.{Lent};
+ghost use Rattle.machine.specs.Step.{settled};
+ghost use Rattle.operands.specs.Ready.{contextIn};
+ghost use Rattle.effects.specs.Effects.{carried, Stepped, Standing};
+ghost use Rattle.transfers.specs.Creations.{Creating, creates};
+
+// A process of module `block`, for the variable at location i: the next number, or 24 while 64 processes exist (01). The page is left
+// what it is.
+fn create_next(state: &mut [u8], page: &[u8], x: Context, i: usize, block: usize) -> u8
+    requires { ⌜ Lent 17664 (now state) ⌝ }
+    requires { ⌜ Lent 4096 (now page) ⌝ }
+    requires { ⌜ Creating (memoryOf (now state)) x i block ⌝ }
+    ensures { λ r. ⌜ Stepped r (now (state .exit)) (now (page .entry)) (settled (memoryOf (now (state .entry))) (memoryOf (now (page .entry))) (creates (memoryOf (now (state .entry))) (memoryOf (now (page .entry))) x i block)) ⌝ }
+{
+    let n = machine::record_word(state, 1, 8);
+    if n == 64 {
+        return effects::fail(state, Failure::ProcessLimit);
+    }
+    frames::create_at(
+        state,
+        x.process,
+        (x.statement + 1) as u16,
+        n as usize + 1,
+        block as u16,
+        i,
+    );
+    0
+}
+
+// 11.4. The state has no more than 64 processes (01, A state).
+pub fn create(
+    t: &[u8],
+    s: table::Sections,
+    types: &[u16],
+    sizes: &[u16],
+    offsets: &[u16],
+    places: &[u16],
+    state: &mut [u8],
+    page: &[u8],
+    x: Context,
+) -> u8
+    requires { ⌜ Standing (now t) s (now types) (now sizes) (now offsets) (now places) (now state) (now page) x ⌝ }
+    requires { ⌜ stmtKind (tableOf (s .w) (now t)) (x .statement) ≡ 4 ⌝ }
+    requires { ⌜ memoryOf (now state) createdAt ≤ 64 ⌝ }
+    ensures { λ r. ⌜ Stepped r (now (state .exit)) (now (page .entry)) (carried (tableOf (s .w) (now (t .entry))) (memoryOf (now (state .entry))) (memoryOf (now (page .entry))) (contextIn x)) ⌝ }
+{
+    let a = table::stmt_a(t, s, x.statement);
+    let l = select(t, s, types, sizes, offsets, places, state, page, x, a);
+    match l {
+        Place::Fail(f) => effects::fail(state, f),
+        Place::At(i) => {
+            let block = table::type_p(t, s, types::type_of(t, s, types, a));
+            create_next(state, page, x, i, block)
+        }
+    }
+}

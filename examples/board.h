@@ -1,0 +1,36 @@
+/* board.h: a board of three chips and its clock, as a program table. examples/board.c says what each does. */
+#ifndef BOARD_H
+#define BOARD_H
+
+#include <stddef.h>
+#include <stdint.h>
+
+/* The device page: three strips of one word a frame, and the number of the frame. */
+enum {
+    FRAMES_MAX = 1024,
+    PAD_STRIP = -8192,   /* the host writes: the buttons held in each frame */
+    FILM_STRIP = -6144,  /* the sprite unit writes: the sprite's column */
+    SOUND_STRIP = -4096, /* the sound unit writes: the tone, 0 for silence */
+    FRAME = -2048        /* the clock writes */
+};
+
+enum { PAD_NONE, PAD_LEFT, PAD_RIGHT };
+
+/* The processes, by number, and how many turns each takes in a frame. */
+enum { CLOCK = 1, SOUND_UNIT, SPRITE_UNIT, PAD_READER, CHIPS = PAD_READER, TURNS = 64, FRAME_STEPS = CHIPS * TURNS };
+
+/* What the sprite does in a frame in which a direction is held: one and a half pixels, in 256ths. */
+enum { SPEED = 384, START_COLUMN = 10 };
+
+/* The variables that a host may look at: their numbers in the table. */
+struct board_variables {
+    int column, tone, buttons;
+};
+
+/* Writes the board's table; its length, or 0 where there is no room. */
+size_t build_board(uint8_t *table, size_t room, struct board_variables *variables);
+
+/* The turns of some frames: in each, the processes 1..CHIPS one after the other, TURNS times. */
+void frame_turns(uint8_t *schedule, size_t frames);
+
+#endif

@@ -1,0 +1,100 @@
+/* builder.h: writes a program table (see joyce.h) entry by entry, in the order in which one writes the text of a program.
+ *
+ *     static struct builder b;
+ *     start_table(&b);
+ *     int program = add_program(&b);
+ *     int n = add_local(&b, program, INTEGER);
+ *     begin_body(&b, program);
+ *     put_assign(&b, whole(&b, n), binary(&b, '+', value(&b, n), integer(&b, 1)));      n := n + 1
+ *     end_body(&b);
+ *     size_t length = finish_table(&b, bytes, sizeof bytes);
+ *
+ * Functions that add types, blocks, variables and nodes return a number to name the entry by; block numbers and type numbers are those of
+ * the table, and so are those of variables where the variables of each block are added before those of the next. A node may be used once.
+ * The builder tests nothing but that there is room: joyce_check judges what it wrote. Copy it. */
+#ifndef BUILDER_H
+#define BUILDER_H
+
+#include <stdbool.h>
+#include <stddef.h>
+#include <stdint.h>
+
+enum { INTEGER, BOOLEAN, CHARACTER };               /* the standard types */
+enum { ENTRIES = 255 };                             /* the most entries of a section */
+
+struct node {
+    int kind, p, q, v;
+};
+
+struct statement {
+    int block, kind, a, b, first, count, link;      /* first and count: its arguments */
+};
+
+struct builder {
+    int types[ENTRIES][5], fields[ENTRIES], arguments[ENTRIES];
+    int modes[ENTRIES], variable_types[ENTRIES], variable_blocks[ENTRIES];
+    int block_kinds[ENTRIES], block_owners[ENTRIES];
+    struct node nodes[ENTRIES];
+    struct statement statements[ENTRIES];
+    int type_count, field_count, variable_count, block_count, argument_count, node_count, statement_count;
+    int body;                                       /* the block whose statements are being written */
+    int openers[ENTRIES], arms[ENTRIES], depth;     /* the openers not ended yet, each with its last arm */
+    bool is_full;                                   /* some section had no room */
+};
+
+void start_table(struct builder *b);
+
+/* Writes the table; its length, or 0 where a section or the room was too small. */
+size_t finish_table(const struct builder *b, uint8_t *bytes, size_t room);
+
+/* types */
+int record_type(struct builder *b, int count, ...); /* the types of the fields */
+int array_type(struct builder *b, int index, int element, int low, int high);
+int process_type(struct builder *b, int module);
+
+/* blocks; the program is the first */
+int add_program(struct builder *b);
+int add_module(struct builder *b);
+int add_procedure(struct builder *b, int owner);
+
+/* variables of a block, its parameters first */
+int add_value_parameter(struct builder *b, int block, int type);
+int add_var_parameter(struct builder *b, int block, int type);
+int add_local(struct builder *b, int block, int type);
+
+/* nodes: variables */
+int whole(struct builder *b, int variable);
+int field(struct builder *b, int node, int place);
+int element(struct builder *b, int node, int index);
+
+/* nodes: expressions */
+int integer(struct builder *b, int number);
+int boolean(struct builder *b, bool is_true);
+int character(struct builder *b, int number);
+int value(struct builder *b, int variable);         /* of a whole variable */
+int value_at(struct builder *b, int node);          /* of a field or an element */
+int minus(struct builder *b, int node);
+int inverse(struct builder *b, int node);           /* not */
+int device(struct builder *b, int node);            /* val: the device word with that address */
+int transfer(struct builder *b, int node, int type);
+/* = '=', <> '#', < '<', <= 'l', > '>', >= 'g', + '+', - '-', * '*', / '/', mod '%', and '&', or '|' */
+int binary(struct builder *b, char operator, int left, int right);
+
+/* statements, between begin_body and end_body */
+void begin_body(struct builder *b, int block);
+void end_body(struct builder *b);
+void put_skip(struct builder *b);
+void put_assign(struct builder *b, int variable, int expression);
+void put_call(struct builder *b, int procedure, int count, ...);                  /* a local call; the arguments */
+void put_process_call(struct builder *b, int reference, int procedure, int count, ...);
+void put_create(struct builder *b, int reference);
+void put_start(struct builder *b, int reference, int count, ...);
+void put_write(struct builder *b, int address, int expression);
+void put_if(struct builder *b);                     /* an opener: then its arms, then put_end */
+void put_while(struct builder *b);
+void put_when(struct builder *b);
+void put_cycle(struct builder *b);
+void put_arm(struct builder *b, int guard);
+void put_end(struct builder *b);
+
+#endif

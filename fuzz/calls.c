@@ -1,0 +1,255 @@
+/* A fuzz target of the four calls, for libFuzzer (make fuzz) or AFL++, and for fuzz/short.c, which makes inputs of its own.
+ *
+ * An input: a byte of flags; a byte n, and n damages to the state, each a word (where) and a byte (what is flipped); a byte n, and n bytes of
+ * schedule; three bytes, what to look at; and the rest, which is the table.
+ *
+ * What must hold of any input: nothing crashes or is touched beside a slice; a refusal changes no lent byte; begin, run and look give a table the
+ * verdict of check; each answer is one of joyce.h, and after a failure all are the same; a state after a run is a state of its program; a run
+ * cut into single steps is the same run. With -DPLAIN, also: the plain interpreter of bench/ leaves the same. */
+#include "joyce.h"
+#ifdef PLAIN
+#include "plain.h"
+#endif
+
+#include <stdbool.h>
+#include <stdio.h>
+#include <stdlib.h>
+#include <string.h>
+
+int LLVMFuzzerTestOneInput(const uint8_t *data, size_t size);
+
+enum { WRONG_STATE = 1, WRONG_PAGE = 2, SHORT_ANSWERS = 4, LONG_ANSWERS = 8, WARM = 16, SINGLE_STEPS = 32 };
+enum { SCHEDULE_MAX = 255, TAIL = 64 };
+
+struct input {
+    const uint8_t *rest;
+    size_t left;
+    uint8_t flags, damages, turns;
+    const uint8_t *damage, *schedule, *looks, *table;
+    size_t table_len;
+};
+
+/* The bytes lent to a run. They are allocated with their exact lengths, so that a sanitizer sees a byte too far. */
+struct lent {
+    uint8_t *state, *page, *answers;
+    size_t state_len, page_len, answers_len;
+};
+
+static void expect(bool is_so, const char *what)
+{
+    if (is_so)
+        return;
+    fprintf(stderr, "fuzz: %s\n", what);
+    abort();
+}
+
+static const uint8_t *take(struct input *in, size_t count)
+{
+    const uint8_t *at = in->rest;
+    if (count > in->left)
+        return NULL;
+    in->rest += count;
+    in->left -= count;
+    return at;
+}
+
+static bool read_input(struct input *in, const uint8_t *data, size_t size)
+{
+    const uint8_t *head;
+    *in = (struct input){.rest = data, .left = size};
+    if (!(head = take(in, 2)))
+        return false;
+    in->flags = head[0];
+    in->damages = head[1] % 8;
+    if (!(in->damage = take(in, 3u * in->damages)) || !(head = take(in, 1)))
+        return false;
+    in->turns = head[0];
+    if (!(in->schedule = take(in, in->turns)) || !(in->looks = take(in, 3)))
+        return false;
+    in->table = in->rest;
+    in->table_len = in->left;
+    return true;
+}
+
+static void *filled(size_t length, int byte)
+{
+    uint8_t *bytes = malloc(length ? length : 1);
+    expect(bytes != NULL, "no memory");
+    memset(bytes, byte, length ? length : 1);
+    return bytes;
+}
+
+static struct lent lend(const struct input *in)
+{
+    struct lent l = {.state_len = JOYCE_STATE_SIZE, .page_len = JOYCE_PAGE_SIZE, .answers_len = in->turns};
+    if (in->flags & WRONG_STATE)
+        l.state_len = JOYCE_STATE_SIZE - 1 + 2 * (in->damages & 1u);
+    if (in->flags & WRONG_PAGE)
+        l.page_len = in->turns % 2 ? 0 : JOYCE_PAGE_SIZE + 2;
+    if (in->flags & LONG_ANSWERS)
+        l.answers_len += TAIL;
+    else if (in->flags & SHORT_ANSWERS && in->turns > 0)
+        l.answers_len--;
+    l.state = filled(l.state_len, 0x5a);
+    l.page = filled(l.page_len, 0);
+    l.answers = filled(l.answers_len, 0xc3);
+    return l;
+}
+
+static struct lent copy_of(const struct lent *l)
+{
+    struct lent c = *l;
+    c.state = filled(l->state_len, 0);
+    c.page = filled(l->page_len, 0);
+    c.answers = filled(l->answers_len, 0);
+    memcpy(c.state, l->state, l->state_len);
+    memcpy(c.page, l->page, l->page_len);
+    memcpy(c.answers, l->answers, l->answers_len);
+    return c;
+}
+
+static void release(struct lent *l)
+{
+    free(l->state);
+    free(l->page);
+    free(l->answers);
+}
+
+static bool is_same(const struct lent *a, const struct lent *b)
+{
+    return memcmp(a->state, b->state, a->state_len) == 0 && memcmp(a->page, b->page, a->page_len) == 0 &&
+           memcmp(a->answers, b->answers, a->answers_len) == 0;
+}
+
+static uint32_t run(const struct input *in, struct lent *l, size_t first, size_t count)
+{
+    return joyce_run(in->table, in->table_len, l->state, l->state_len, l->page, l->page_len, in->schedule + first, count, l->answers + first,
+                     l->answers_len - first);
+}
+
+/* ---- begin */
+
+static void try_begin(const struct input *in, struct lent *l, uint32_t verdict)
+{
+    struct lent before = copy_of(l);
+    uint32_t result = joyce_begin(in->table, in->table_len, l->state, l->state_len);
+    expect(result == (l->state_len != JOYCE_STATE_SIZE ? (uint32_t)JOYCE_LENGTH : verdict), "begin gives another verdict than check");
+    expect(result == JOYCE_OK || is_same(l, &before), "begin refused and changed the state");
+#ifdef PLAIN
+    uint32_t plain = plain_begin(in->table, in->table_len, before.state, before.state_len);
+    expect(plain == result && is_same(l, &before), "begin is not that of the plain interpreter");
+#endif
+    release(&before);
+}
+
+/* Some steps from the beginning, so that damages meet processes and calls. */
+static void warm_up(const struct input *in, struct lent *l)
+{
+    uint8_t answers[SCHEDULE_MAX];
+    if (l->state_len != JOYCE_STATE_SIZE || l->page_len != JOYCE_PAGE_SIZE)
+        return;
+    uint32_t result = joyce_run(in->table, in->table_len, l->state, l->state_len, l->page, l->page_len, in->schedule, in->turns, answers,
+                                in->turns);
+    expect(result == JOYCE_OK, "a run from the beginning is refused");
+}
+
+/* ---- run */
+
+static void check_answers(const struct input *in, const struct lent *l)
+{
+    unsigned failure = 0;
+    for (size_t i = 0; i < in->turns; i++) {
+        unsigned answer = l->answers[i];
+        expect(answer <= JOYCE_NO_PROCESS || (answer >= JOYCE_FAILURE && answer <= JOYCE_PROCESSES), "an answer that is none");
+        expect(failure == 0 || answer == failure, "an answer after a failure");
+        failure = answer >= JOYCE_FAILURE ? answer : 0;
+    }
+    for (size_t i = in->turns; i < l->answers_len; i++)
+        expect(l->answers[i] == 0xc3, "an answer byte after those of the schedule");
+}
+
+static void check_single_steps(const struct input *in, struct lent *once, struct lent *again)
+{
+    for (size_t i = 0; i < in->turns; i++)
+        expect(run(in, again, i, 1) == JOYCE_OK, "a single step is refused");
+    expect(is_same(once, again), "single steps are another run");
+}
+
+static uint32_t run_verdict(const struct lent *l, size_t turns, uint32_t verdict)
+{
+    bool is_wrong = l->state_len != JOYCE_STATE_SIZE || l->page_len != JOYCE_PAGE_SIZE || l->answers_len < turns;
+    return is_wrong ? (uint32_t)JOYCE_LENGTH : verdict;
+}
+
+static uint32_t try_run(const struct input *in, struct lent *l, uint32_t verdict)
+{
+    struct lent before = copy_of(l);
+    uint32_t result = run(in, l, 0, in->turns), expected = run_verdict(l, in->turns, verdict);
+    expect(result == expected || (expected == JOYCE_OK && result == JOYCE_STATE), "run gives another verdict than check");
+    expect(result == JOYCE_OK || is_same(l, &before), "run refused and changed something");
+    if (result == JOYCE_OK) {
+        check_answers(in, l);
+        expect(run(in, l, in->turns, 0) == JOYCE_OK, "the state after a run is refused");
+        if (in->flags & SINGLE_STEPS) {
+            struct lent again = copy_of(&before);
+            check_single_steps(in, l, &again);
+            release(&again);
+        }
+    }
+#ifdef PLAIN
+    uint32_t plain = plain_run(in->table, in->table_len, before.state, before.state_len, before.page, before.page_len, in->schedule,
+                               in->turns, before.answers, before.answers_len);
+    expect(plain == result && is_same(l, &before), "run is not that of the plain interpreter");
+#endif
+    release(&before);
+    return result;
+}
+
+/* ---- look */
+
+static void try_look(const struct input *in, const struct lent *l, uint32_t verdict)
+{
+    struct lent before = copy_of(l);
+    uint32_t process = in->looks[0], variable = in->looks[1], place = in->looks[2];
+    uint32_t result = joyce_look(in->table, in->table_len, l->state, l->state_len, process, variable, place);
+    uint8_t page[JOYCE_PAGE_SIZE] = {0};
+    expect(is_same(l, &before), "look changed something");
+    if (l->state_len != JOYCE_STATE_SIZE)
+        expect(result == JOYCE_LENGTH, "look takes a wrong length");
+    else if (verdict != JOYCE_ACCEPTED)
+        expect(result == verdict, "look gives another verdict than check");
+    else if (joyce_run(in->table, in->table_len, before.state, before.state_len, page, sizeof page, NULL, 0, NULL, 0) != JOYCE_OK)
+        expect(result == JOYCE_STATE, "look takes a state that run refuses");
+    else
+        expect(result == JOYCE_ABSENT || (result >= JOYCE_WORD && result < 2 * JOYCE_WORD), "look returns what is no result");
+#ifdef PLAIN
+    uint32_t plain = plain_look(in->table, in->table_len, l->state, l->state_len, process, variable, place);
+    expect(plain == result, "look is not that of the plain interpreter");
+#endif
+    release(&before);
+}
+
+int LLVMFuzzerTestOneInput(const uint8_t *data, size_t size)
+{
+    struct input in;
+    if (!read_input(&in, data, size))
+        return 0;
+    uint8_t *table = filled(in.table_len, 0);
+    memcpy(table, in.table, in.table_len);
+    in.table = table;
+    uint32_t verdict = joyce_check(table, in.table_len);
+    expect(verdict != JOYCE_LENGTH && verdict <= JOYCE_TYPES, "check returns what is no verdict");
+
+    struct lent l = lend(&in);
+    try_begin(&in, &l, verdict);
+    if (verdict == JOYCE_ACCEPTED && in.flags & WARM)
+        warm_up(&in, &l);
+    for (unsigned i = 0; i < in.damages; i++)
+        l.state[(in.damage[3 * i] + 256u * in.damage[3 * i + 1]) % l.state_len] ^= in.damage[3 * i + 2];
+    try_look(&in, &l, verdict);
+    try_run(&in, &l, verdict);
+    expect(memcmp(table, data + (size - in.table_len), in.table_len) == 0, "the table was changed");
+    release(&l);
+    free(table);
+    return 0;
+}

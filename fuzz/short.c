@@ -1,0 +1,124 @@
+/* A short run of the fuzz target, the same each time: inputs made from outside vectors by a fixed pseudo-random sequence.
+ *
+ *     short VERDICTS ROUNDS          tries so many inputs
+ *     short VERDICTS ROUNDS FOLDER   writes them there instead, as a first corpus for a fuzzer */
+#include <stdint.h>
+#include <stdio.h>
+#include <stdlib.h>
+#include <string.h>
+
+int LLVMFuzzerTestOneInput(const uint8_t *data, size_t size);
+
+enum { TABLES_MAX = 65536, INPUT_MAX = 65536 + 1024 };
+
+static const uint8_t *tables[TABLES_MAX];
+static size_t lengths[TABLES_MAX], accepted[TABLES_MAX], table_count, accepted_count;
+static uint64_t seed = 1979;
+
+static uint32_t below(uint32_t limit)
+{
+    seed ^= seed >> 12;
+    seed ^= seed << 25;
+    seed ^= seed >> 27;
+    return (uint32_t)((seed * 0x2545F4914F6CDD1Du) >> 33) % limit;
+}
+
+/* The vectors: records of a word L, L bytes of table, one byte of verdict. */
+static void load(const char *name)
+{
+    FILE *file = fopen(name, "rb");
+    static uint8_t all[1 << 24];
+    size_t length = file ? fread(all, 1, sizeof all, file) : 0, size;
+    for (size_t at = 0; at + 2 < length && table_count < TABLES_MAX; at += 3 + size) {
+        size = all[at] + 256u * all[at + 1];
+        if (at + 2 + size >= length)
+            break;
+        if (all[at + 2 + size] == 0)
+            accepted[accepted_count++] = table_count;
+        tables[table_count] = all + at + 2;
+        lengths[table_count++] = size;
+    }
+    if (!file || accepted_count == 0) {
+        fprintf(stderr, "short: cannot read %s\n", name);
+        exit(2);
+    }
+    fclose(file);
+}
+
+/* Where damage tells most: the control records of the first processes, and the beginning of their areas. */
+static uint32_t telling_place(void)
+{
+    uint32_t process = below(below(3) ? 5 : 64);
+    return below(2) ? 32768 + 40 * process + below(20) : 512 * process + below(below(2) ? 24 : 512);
+}
+
+static size_t put_head(uint8_t *input)
+{
+    size_t at = 0;
+    uint32_t damages = below(3) ? 0 : 1 + below(4), turns = below(8) ? below(64) : below(256);
+    input[at++] = (uint8_t)((below(8) ? 0 : below(8)) | (below(3) ? 0 : 8) | (below(4) ? 16 : 0) | (below(4) ? 0 : 32));
+    input[at++] = (uint8_t)damages;
+    for (uint32_t i = 0; i < damages; i++) {
+        uint32_t place = telling_place();
+        input[at++] = (uint8_t)place;
+        input[at++] = (uint8_t)(place >> 8);
+        input[at++] = (uint8_t)(below(4) ? 1u << below(8) : below(256));
+    }
+    input[at++] = (uint8_t)turns;
+    for (uint32_t i = 0; i < turns; i++)
+        input[at++] = (uint8_t)(below(20) ? 1 + below(5) : below(256));
+    input[at++] = (uint8_t)(below(10) ? 1 + below(3) : below(256));
+    input[at++] = (uint8_t)(below(10) ? below(6) : below(256));
+    input[at++] = (uint8_t)(below(2) ? 0 : below(below(2) ? 6 : 256));
+    return at;
+}
+
+/* A table: two of three are accepted ones, and every second has some bytes changed, is cut, or has a byte too many. */
+static size_t put_table(uint8_t *bytes)
+{
+    size_t i = below(3) ? accepted[below((uint32_t)accepted_count)] : below((uint32_t)table_count), length = lengths[i];
+    memcpy(bytes, tables[i], length);
+    if (length == 0 || below(2))
+        return length;
+    for (uint32_t changes = below(3); changes > 0; changes--) {
+        uint8_t *byte = &bytes[below((uint32_t)length)];
+        *byte = (uint8_t)(below(3) ? *byte + below(3) - 1 : below(256));
+    }
+    if (below(8) == 0)
+        length = below((uint32_t)length);
+    if (below(8) == 0)
+        bytes[length++] = (uint8_t)below(256);
+    return length;
+}
+
+static void write_input(const char *folder, long round, const uint8_t *input, size_t length)
+{
+    char name[4096];
+    snprintf(name, sizeof name, "%s/%06ld", folder, round);
+    FILE *file = fopen(name, "wb");
+    if (!file || fwrite(input, 1, length, file) != length || fclose(file) != 0) {
+        perror(name);
+        exit(2);
+    }
+}
+
+int main(int argc, char **argv)
+{
+    static uint8_t input[INPUT_MAX];
+    long rounds = argc == 3 || argc == 4 ? strtol(argv[2], NULL, 10) : 0;
+    if (rounds <= 0) {
+        fprintf(stderr, "usage: short VERDICTS ROUNDS [FOLDER]\n");
+        return 2;
+    }
+    load(argv[1]);
+    for (long round = 0; round < rounds; round++) {
+        size_t length = put_head(input);
+        length += put_table(input + length);
+        if (argc == 4)
+            write_input(argv[3], round, input, length);
+        else
+            LLVMFuzzerTestOneInput(input, length);
+    }
+    printf("%ld inputs\n", rounds);
+    return 0;
+}

@@ -1,0 +1,277 @@
+/* Each refusal on each call that has it, with every lent byte compared before and after; where several apply, the lowest is returned. */
+#include "support.h"
+#include "tests.h"
+
+#include <string.h>
+
+static struct run_state r;
+static uint8_t turns[4096], answers[4096], big[65536], zeros[JOYCE_STATE_SIZE];
+
+/* The board, some frames on, and a schedule for it: all calls succeed. */
+static bool prepare(struct lent *lent)
+{
+    for (size_t i = 0; i < sizeof turns; i++) {
+        turns[i] = (uint8_t)(1 + i % 4);
+        answers[i] = 0xee;
+    }
+    if (!begin(&r, board) || !run_turns(&r, turns, 700, big))
+        return false;
+    memset(big, 0x11, sizeof big);
+    *lent = lend(&r, turns, 100, answers);
+    return true;
+}
+
+static void set(struct lent *lent, enum slice slice, const uint8_t *bytes, size_t length)
+{
+    lent->bytes[slice] = bytes;
+    lent->lengths[slice] = length;
+}
+
+/* ---- 1: lengths */
+
+static const size_t wrong_states[] = {0, 1, 2, 35326, 35327, 35329, 35330, 65536};
+static const size_t wrong_pages[] = {0, 1, 8190, 8191, 8193, 8194, 16384, 65536};
+static const size_t wrong_answers[][2] = {{1, 0}, {2, 1}, {100, 99}, {4096, 4095}, {4096, 0}};
+
+static bool state_lengths(void)
+{
+    struct lent lent;
+    if (!prepare(&lent))
+        return false;
+    for (size_t i = 0; i < sizeof wrong_states / sizeof *wrong_states; i++) {
+        set(&lent, STATE, big, wrong_states[i]);
+        for (int which = BEGIN; which <= LOOK; which++)
+            if (!is_refused((enum call)which, &lent, JOYCE_LENGTH))
+                return false;
+    }
+    return true;
+}
+
+static bool page_lengths(void)
+{
+    struct lent lent;
+    if (!prepare(&lent))
+        return false;
+    for (size_t i = 0; i < sizeof wrong_pages / sizeof *wrong_pages; i++) {
+        set(&lent, PAGE, big, wrong_pages[i]);
+        if (!is_refused(RUN, &lent, JOYCE_LENGTH))
+            return false;
+    }
+    return true;
+}
+
+static bool answer_lengths(void)
+{
+    struct lent lent;
+    if (!prepare(&lent))
+        return false;
+    for (size_t i = 0; i < sizeof wrong_answers / sizeof *wrong_answers; i++) {
+        set(&lent, SCHEDULE, turns, wrong_answers[i][0]);
+        set(&lent, ANSWERS, answers, wrong_answers[i][1]);
+        if (!is_refused(RUN, &lent, JOYCE_LENGTH))
+            return false;
+    }
+    return true;
+}
+
+/* ---- 2 to 9: tables, some of each verdict */
+
+static bool refused_tables(void)
+{
+    struct lent lent;
+    if (!prepare(&lent))
+        return false;
+    for (uint32_t verdict = JOYCE_SECTIONS; verdict <= JOYCE_TYPES; verdict++)
+        for (size_t i = 0; i < 24; i++) {
+            struct table t = table_of(verdict, i);
+            set(&lent, TABLE, t.bytes, t.length);
+            for (int which = CHECK; which <= LOOK; which++)
+                if (!is_refused((enum call)which, &lent, verdict))
+                    return false;
+        }
+    return true;
+}
+
+/* An empty table is refused like any other, and so is one that is longer than any. */
+static bool odd_tables(void)
+{
+    static const size_t lengths[] = {0, 1, 6, 7658, 65536};
+    struct lent lent;
+    if (!prepare(&lent))
+        return false;
+    for (size_t i = 0; i < sizeof lengths / sizeof *lengths; i++) {
+        set(&lent, TABLE, big, lengths[i]);
+        for (int which = CHECK; which <= LOOK; which++)
+            if (!is_refused((enum call)which, &lent, JOYCE_SECTIONS))
+                return false;
+    }
+    return true;
+}
+
+/* ---- 10: states */
+
+struct damage {
+    const char *what;
+    size_t word;
+    unsigned value;
+};
+
+/* Words of the state, by docs/STATE.md, of which the rule says something. */
+static const struct damage damages[] = {
+    {"no process is created", 16384 + 8, 0},
+    {"65 processes are created", 16384 + 8, 65},
+    {"an unknown failure", 16384 + 9, 15},
+    {"an unknown failure", 16384 + 9, 25},
+    {"process 1 is not started", 16384, 1},
+    {"an unknown status", 16384, 4},
+    {"process 1 has another module", 16384 + 1, 1},
+    {"a statement of another block", 16384 + 2, 40},
+    {"a statement out of its section", 16384 + 2, 255},
+    {"a frame where there is no call", 16384 + 3, 4},
+    {"another top", 16384 + 4, 5},
+    {"it works on another process", 16384 + 5, 2},
+    {"a holder that is not created", 16384 + 6, 64},
+    {"a depth without frames", 16384 + 7, 1},
+    {"a module that is a procedure", 16404 + 1, 2},
+    {"a reference to a process of another module", 0, 3},
+    {"a reference to process 1", 0, 1},
+    {"a reference to no process", 0, 9},
+    {"a boolean that is 2", 512 + 4, 2},
+};
+
+static bool damaged_states(void)
+{
+    static struct run_state damaged;
+    struct lent lent;
+    if (!prepare(&lent))
+        return false;
+    lent.variable = 3; /* the clock's beat, an integer */
+    for (size_t i = 0; i < sizeof damages / sizeof *damages; i++) {
+        damaged = r;
+        damaged.state[2 * damages[i].word] = (uint8_t)damages[i].value;
+        damaged.state[2 * damages[i].word + 1] = (uint8_t)(damages[i].value >> 8);
+        set(&lent, STATE, damaged.state, sizeof damaged.state);
+        if (!is_refused(RUN, &lent, JOYCE_STATE) || !is_refused(LOOK, &lent, JOYCE_STATE))
+            return bad("a state in which word %zu is %u: %s", damages[i].word, damages[i].value, damages[i].what);
+    }
+    return true;
+}
+
+static bool unwritten_states(void)
+{
+    static uint8_t fill[JOYCE_STATE_SIZE];
+    struct lent lent;
+    if (!prepare(&lent))
+        return false;
+    for (int byte = 0; byte < 256; byte += 17) {
+        memset(fill, byte, sizeof fill);
+        set(&lent, STATE, fill, sizeof fill);
+        if (!is_refused(RUN, &lent, JOYCE_STATE) || !is_refused(LOOK, &lent, JOYCE_STATE))
+            return false;
+        set(&lent, SCHEDULE, turns, byte % 2 ? 100 : 0); /* an empty schedule is tested like any other */
+    }
+    return true;
+}
+
+/* ---- 11: looks */
+
+static bool absent_words(void)
+{
+    static const uint32_t absent[][3] = {
+        {0, 0, 0}, {5, 0, 0}, {64, 0, 0}, {65, 0, 0}, {255, 0, 0}, {256, 0, 0}, {257, 0, 0}, {65537, 0, 0}, {4294967295u, 0, 0},
+        {1, 4, 0}, {1, 17, 0}, {1, 18, 0}, {1, 255, 0}, {1, 256, 0}, {1, 65536, 0}, {1, 4294967295u, 0}, /* no variable of block 0 */
+        {2, 3, 0}, {2, 7, 0}, {3, 13, 0}, {3, 14, 0},                                                     /* another's; a procedure's */
+        {1, 0, 1}, {1, 0, 256}, {1, 3, 65536}, {1, 3, 4294967295u}, {3, 12, 1},                           /* places */
+        {4294967295u, 4294967295u, 4294967295u},
+    };
+    struct lent lent;
+    if (!prepare(&lent))
+        return false;
+    for (size_t i = 0; i < sizeof absent / sizeof *absent; i++) {
+        lent.process = absent[i][0];
+        lent.variable = absent[i][1];
+        lent.place = absent[i][2];
+        if (!is_refused(LOOK, &lent, JOYCE_ABSENT))
+            return bad("look at process %u, variable %u, place %u", absent[i][0], absent[i][1], absent[i][2]);
+    }
+    return true;
+}
+
+/* Process 2 of the board is created by the first step and started by the second. */
+static bool unstarted_process(void)
+{
+    static const uint8_t one[] = {1};
+    struct lent lent;
+    if (!prepare(&lent) || !begin(&r, board) || !run_turns(&r, one, 1, answers))
+        return false;
+    lent = lend(&r, turns, 0, answers);
+    lent.process = 2;
+    lent.variable = 4;
+    if (!is_refused(LOOK, &lent, JOYCE_ABSENT))
+        return false;
+    return (run_turns(&r, one, 1, answers) && call(LOOK, &lent, true) == JOYCE_WORD) || bad("the word of a started process is not seen");
+}
+
+/* ---- several at once */
+
+static bool lowest_first(void)
+{
+    static const enum call stateful[] = {RUN, LOOK};
+    struct lent lent, worse;
+    struct table t = table_of(JOYCE_TYPES, 3);
+    if (!prepare(&lent))
+        return false;
+    lent.process = 99;
+    set(&lent, STATE, zeros, sizeof zeros);
+    for (int i = 0; i < 2; i++)
+        if (!is_refused(stateful[i], &lent, JOYCE_STATE)) /* before 11 */
+            return false;
+    set(&lent, TABLE, t.bytes, t.length);
+    for (int i = 0; i < 2; i++)
+        if (!is_refused(stateful[i], &lent, JOYCE_TYPES)) /* before 10 */
+            return false;
+    worse = lent;
+    set(&worse, STATE, zeros, sizeof zeros - 1);
+    for (int which = BEGIN; which <= LOOK; which++)
+        if (!is_refused((enum call)which, &worse, JOYCE_LENGTH)) /* before 9 */
+            return false;
+    worse = lent;
+    set(&worse, PAGE, big, 8191);
+    if (!is_refused(RUN, &worse, JOYCE_LENGTH))
+        return false;
+    worse = lent;
+    set(&worse, ANSWERS, answers, 99);
+    return is_refused(RUN, &worse, JOYCE_LENGTH);
+}
+
+/* Null pointers, where there are no bytes. */
+static bool null_slices(void)
+{
+    struct lent lent;
+    if (!prepare(&lent))
+        return false;
+    const uint8_t *t = board.bytes;
+    size_t n = board.length;
+    bool is_so = joyce_check(NULL, 0) == JOYCE_SECTIONS && joyce_begin(NULL, 0, r.state, sizeof r.state) == JOYCE_SECTIONS &&
+                 joyce_begin(t, n, NULL, 0) == JOYCE_LENGTH && joyce_look(t, n, NULL, 0, 1, 0, 0) == JOYCE_LENGTH &&
+                 joyce_look(NULL, 0, r.state, sizeof r.state, 1, 0, 0) == JOYCE_SECTIONS &&
+                 joyce_run(NULL, 0, NULL, 0, NULL, 0, NULL, 0, NULL, 0) == JOYCE_LENGTH &&
+                 joyce_run(NULL, 0, r.state, sizeof r.state, r.page, sizeof r.page, NULL, 0, NULL, 0) == JOYCE_SECTIONS &&
+                 joyce_run(t, n, r.state, sizeof r.state, r.page, sizeof r.page, NULL, 0, NULL, 0) == JOYCE_OK;
+    return is_so || bad("a call with a null slice");
+}
+
+void refusal_tests(void)
+{
+    run_test("refusal_1_state", state_lengths);
+    run_test("refusal_1_page", page_lengths);
+    run_test("refusal_1_answers", answer_lengths);
+    run_test("refusals_2_to_9", refused_tables);
+    run_test("refusal_2_lengths", odd_tables);
+    run_test("refusal_10_damaged", damaged_states);
+    run_test("refusal_10_unwritten", unwritten_states);
+    run_test("refusal_11", absent_words);
+    run_test("refusal_11_unstarted", unstarted_process);
+    run_test("lowest_refusal_first", lowest_first);
+    run_test("null_slices", null_slices);
+}

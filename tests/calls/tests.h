@@ -1,0 +1,10 @@
+/* tests.h: the tests of the calls, by file. */
+#ifndef TESTS_H
+#define TESTS_H
+
+void refusal_tests(void); /* refusals.c: the numbers 1 to 11, and what a refusal leaves */
+void answer_tests(void);  /* answers.c: each answer of a step, the slices that a success leaves */
+void state_tests(void);   /* states.c: states that are stale or damaged, looks, threads */
+void story_tests(void);   /* stories.c: the three tests that a user asked for */
+
+#endif
