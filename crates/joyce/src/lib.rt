@@ -1,6 +1,7 @@
 // What C calls: see include/joyce.h. Each call is thin over the crates below, and its contract is restated whole.
 ghost use mathlib.Core.Path.{_≡_};
 ghost use Rattle.verdict.specs.Verdict.{verdict};
+ghost use Rattle.machine.specs.Public.{begun, called, beginCall, runCall, lookCall};
 
 // The verdict on a table of the small edition, for every input: 0, or the lowest of the refusals 2 to 9 that applies.
 #[no_mangle]
@@ -8,4 +9,34 @@ pub extern "C" fn joyce_check(table: &[u8]) -> u32
     ensures { λ r. ⌜ r ≡ verdict 1 (now (table .entry)) ⌝ }
 {
     verdict::check(table)
+}
+
+// Makes the lent state that in which a run of the table begins, or refuses and changes nothing.
+#[no_mangle]
+pub extern "C" fn joyce_begin(table: &[u8], state: &mut [u8]) -> u32
+    ensures { λ r. ⌜ begun r (now (state .exit)) ≡ beginCall (verdict 1) (now (table .entry)) (now (state .entry)) ⌝ }
+{
+    states::begin(table, state)
+}
+
+// One step for each process of the schedule, in order, with its answer; or refuses and changes nothing.
+#[no_mangle]
+pub extern "C" fn joyce_run(
+    table: &[u8],
+    state: &mut [u8],
+    page: &mut [u8],
+    schedule: &[u8],
+    answers: &mut [u8],
+) -> u32
+    ensures { λ r. ⌜ called r (now (state .exit)) (now (page .exit)) (now (answers .exit)) ≡ runCall (verdict 1) (now (table .entry)) (now (state .entry)) (now (page .entry)) (now (schedule .entry)) (now (answers .entry)) ⌝ }
+{
+    stepper::run(table, state, page, schedule, answers)
+}
+
+// The word that process, variable and place name, and 65,536; or a refusal.
+#[no_mangle]
+pub extern "C" fn joyce_look(table: &[u8], state: &[u8], process: u32, variable: u32, place: u32) -> u32
+    ensures { λ r. ⌜ r ≡ lookCall (verdict 1) (now (table .entry)) (now (state .entry)) process variable place ⌝ }
+{
+    stepper::look(table, state, process, variable, place)
 }

@@ -1,0 +1,199 @@
+-- The ends of blocks: what each call may ask, and each return. Assumes nothing.
+use Prim.Native.Nat.{ℕ, _+_, _<_, _≤_}
+use mathlib.Core.Path.{_≡_, refl, sym, ap, _∙_}
+use mathlib.Core.Bool.{Bool, true, false}
+use mathlib.Core.List.{List}
+use native.Mathlib.Omega.{arith}
+use borrow.Author.Tests.{eqb-true, eqb-false, ne-eqb, leb-true, ltb-true, lt-ltb}
+use lib.Dec.{eqb, ltb}
+use mir.Val.{Fits}
+use mir.Syntax.{w64}
+use Rattle.basics.specs.Choice.{pick, cases, both}
+use Rattle.basics.proofs.Bools.{both-l}
+use Rattle.table.specs.Table.{Table, tableOf}
+use Rattle.table.specs.Entries.{stmtCount, stmtKind, stmtA, stmtB, stmtC, stmtD, stmtLink}
+use Rattle.table.specs.Reading.{Of}
+use Rattle.table.specs.declared.Sections.{Sections}
+use Rattle.table.proofs.Cells.{count-is}
+use Rattle.machine.specs.Memory.{Memory, memoryOf, update}
+use Rattle.machine.specs.Layout.{location, statusAt, frameAt, worksAt, holderAt, depthAt, linkAt}
+use Rattle.machine.specs.Lent.{Lent, Changed}
+use Rattle.machine.specs.Outcomes.{Outcome, ok, fail, stuck, andThen}
+use Rattle.machine.specs.Entries.{Statement, noStatement, statementOf, stmtAt}
+use Rattle.machine.specs.Context as machine
+use Rattle.machine.specs.Context.{contextOf, contextual}
+use Rattle.machine.specs.Calls.{popped, returns, return}
+use Rattle.machine.specs.Statements.{Effect, effect, moved, doBlockEnd, perform}
+use Rattle.operands.specs.declared.Context.{Context}
+use Rattle.operands.specs.Ready.{contextIn}
+use Rattle.frames.specs.Frames.{ended, Called}
+use Rattle.effects.specs.Effects.{carried, Stepped, Standing}
+use Rattle.effects.proofs.Carrying.{performs-block-end}
+use Rattle.calls.specs.Entering.{Placed, Ending}
+use Rattle.calls.proofs.Passing.{kept}
+use Rattle.calls.proofs.Entering.{placed-of, placed-done, placed-works, placed-frame, moved-ok, moved-stuck}
+
+-- a process that stands at the end of a block, in a context that is one
+pub ending-of : (t : List ℕ) (s : Sections) (y z o f m p : List ℕ) (x : Context) → Standing t s y z o f m p x
+    → stmtKind (tableOf (s .w) t) (x .statement) ≡ 13 → contextual (tableOf (s .w) t) (memoryOf m) (x .process) ≡ true → Ending t s m p x
+unfolding contextual
+ending-of t s y z o f m p x h k c =
+    let i = placed-of t s y z o f m p x h in
+    record {
+      table = h .ready .table;
+      placed = i;
+      kind = k;
+      framed = λ n.
+          let g = leb-true (memoryOf m (frameAt (x .process)) + 4) 256 (rw (ne-eqb (memoryOf m (depthAt (x .process))) 0 n) at (both-l _ _ c)) in
+          let e = placed-frame (tableOf (s .w) t) m p x i in omega arith;
+    }
+
+-- a statement that is returned to exists, and is a call
+module _ (T : Table) (m page : Memory) (x : machine.Context) (e : ℕ) where
+  there : (b : Bool) (y : Statement) → (returns T m page x e (pick b y noStatement) ≡ stuck → ⊥) → b ≡ true
+  unfolding returns
+  there true y g = refl
+  there false y g = absurd (g refl)
+
+  a-call : (k a b c d l : ℕ) → (returns T m page x e (statementOf k a b c d l) ≡ stuck → ⊥) → (k ≡ 3 → ⊥) → k ≡ 2
+  unfolding returns statementOf
+  a-call k a b c d l g n =
+      cases (eqb k 2)
+      (λ e2. eqb-true k 2 e2)
+      (λ e2.
+      absurd (g
+      (let e3 = ne-eqb k 3 n in
+      cases (eqb k 0) (λ e0. rw e0)
+      (λ e0. cases (eqb k 1) (λ e1. rw (e0, e1))
+      (λ e1. cases (eqb k 4) (λ e4. rw (e0, e1, e2, e3, e4))
+      (λ e4. cases (eqb k 5) (λ e5. rw (e0, e1, e2, e3, e4, e5))
+      (λ e5. cases (eqb k 6) (λ e6. rw (e0, e1, e2, e3, e4, e5, e6))
+      (λ e6. cases (eqb k 7) (λ e7. rw (e0, e1, e2, e3, e4, e5, e6, e7))
+      (λ e7. cases (eqb k 8) (λ e8. rw (e0, e1, e2, e3, e4, e5, e6, e7, e8))
+      (λ e8. cases (eqb k 9) (λ e9. rw (e0, e1, e2, e3, e4, e5, e6, e7, e8, e9))
+      (λ e9. cases (eqb k 10) (λ ea. rw (e0, e1, e2, e3, e4, e5, e6, e7, e8, e9, ea))
+      (λ ea. cases (eqb k 11) (λ eb. rw (e0, e1, e2, e3, e4, e5, e6, e7, e8, e9, ea, eb))
+      (λ eb. cases (eqb k 12) (λ ec. rw (e0, e1, e2, e3, e4, e5, e6, e7, e8, e9, ea, eb, ec))
+      (λ ec. cases (eqb k 13) (λ ed. rw (e0, e1, e2, e3, e4, e5, e6, e7, e8, e9, ea, eb, ec, ed))
+      (λ ed. rw (e0, e1, e2, e3, e4, e5, e6, e7, e8, e9, ea, eb, ec, ed))))))))))))))))
+
+  by-local : (k a b c d l : ℕ) → k ≡ 2 → returns T m page x e (statementOf k a b c d l) ≡ ok (popped T m page x m e)
+  unfolding returns statementOf
+  by-local k a b c d l q = rw q
+
+  by-process : (k a b c d l : ℕ) → k ≡ 3
+      → returns T m page x e (statementOf k a b c d l) ≡ ok (popped T m page x (update m (holderAt (x .works)) 0) e)
+  unfolding returns statementOf
+  by-process k a b c d l q = rw q
+
+-- the end of a process's own block, and of a call
+module _ (T : Table) (m page : Memory) (x : Context) where
+  ends-at : m (depthAt (x .process)) ≡ 0 → doBlockEnd T m page (contextIn x) ≡ ok (effect 2 (ended m (x .process)) page)
+  unfolding doBlockEnd contextIn ended
+  ends-at e = rw e
+
+  returns-at : (m (depthAt (x .process)) ≡ 0 → ⊥) → doBlockEnd T m page (contextIn x)
+      ≡ moved T m page (contextIn x) (returns T m page (contextIn x) (m (location (x .process) (x .frame + 1))) (stmtAt T (m (location (x .process) (x .frame + 1)))))
+  unfolding doBlockEnd contextIn return linkAt
+  returns-at n = rw (ne-eqb (m (depthAt (x .process))) 0 n)
+
+there-at : (T : Table) (m page : Memory) (x : machine.Context) (c : ℕ) → (returns T m page x c (stmtAt T c) ≡ stuck → ⊥) → ltb c (stmtCount T) ≡ true
+unfolding stmtAt
+there-at T m page x c g = there T m page x c (ltb c (stmtCount T)) _ g
+
+stmt-there : (T : Table) (c : ℕ) → c < stmtCount T
+    → stmtAt T c ≡ statementOf (stmtKind T c) (stmtA T c) (stmtB T c) (stmtC T c) (stmtD T c) (stmtLink T c)
+unfolding stmtAt
+stmt-there T c l = rw (lt-ltb c (stmtCount T) l)
+
+popped-works : (T : Table) (m : List ℕ) (page : Memory) (p c : ℕ) (s1 : List ℕ)
+    → Changed 17664 s1 (popped T (memoryOf m) page (contextOf (memoryOf m) p) (update (memoryOf m) (holderAt (memoryOf m (worksAt p))) 0) c)
+    → Changed 17664 s1 (popped T (memoryOf m) page (contextOf (memoryOf m) p) (update (memoryOf m) (holderAt (contextOf (memoryOf m) p .works)) 0) c)
+unfolding contextOf
+popped-works T m page p c s1 g = g
+
+module _ (t : List ℕ) (s : Sections) (m p : List ℕ) (x : Context) (h : Ending t s m p x) where
+  end-is : perform (tableOf (s .w) t) (memoryOf m) (memoryOf p) (contextIn x) (stmtAt (tableOf (s .w) t) (x .statement))
+      ≡ doBlockEnd (tableOf (s .w) t) (memoryOf m) (memoryOf p) (contextIn x)
+  unfolding contextIn
+  end-is = performs-block-end (tableOf (s .w) t) (memoryOf m) (memoryOf p) (contextIn x) (h .placed .unstuck) (h .kind)
+
+  pub ends-process : (w : ℕ) (s1 : List ℕ) → w ≡ memoryOf m (depthAt (x .process)) → w ≡ 0
+      → Changed 17664 s1 (ended (memoryOf m) (x .process)) → Stepped 2 s1 p (carried (tableOf (s .w) t) (memoryOf m) (memoryOf p) (contextIn x))
+  ends-process w s1 hw e c =
+      placed-done (tableOf (s .w) t) m p x (h .placed) 2 s1 (ended (memoryOf m) (x .process))
+      (end-is ∙ ends-at (tableOf (s .w) t) (memoryOf m) (memoryOf p) x (sym hw ∙ e)) c
+
+  pub ends-call : (w : ℕ) → w ≡ memoryOf m (depthAt (x .process)) → (w ≡ 0 → ⊥) → memoryOf m (depthAt (x .process)) ≡ 0 → ⊥
+  ends-call w hw n e = n (hw ∙ e)
+
+  pub ending-lent : Lent 17664 m
+  ending-lent = record { long = h .placed .state }
+
+  pub ending-low : 1 ≤ x .process
+  ending-low = h .placed .context .processLow
+
+  pub ending-high : x .process ≤ 64
+  ending-high = h .placed .context .processHigh
+
+  pub works-low : 1 ≤ memoryOf m (worksAt (x .process))
+  works-low = rw (← placed-works (tableOf (s .w) t) m p x (h .placed)) (h .placed .context .worksLow)
+
+  pub works-high : memoryOf m (worksAt (x .process)) ≤ 64
+  works-high = rw (← placed-works (tableOf (s .w) t) m p x (h .placed)) (h .placed .context .worksHigh)
+
+  module _ (n : memoryOf m (depthAt (x .process)) ≡ 0 → ⊥) where
+    pub return-fits : Fits w64 (x .frame + 1)
+    return-fits = let g = h .framed n in record { fits = omega arith }
+
+    pub return-room : x .frame + 1 ≤ 255
+    return-room = let g = h .framed n in omega arith
+
+    pub return-called : Called (memoryOf m) (x .process)
+    return-called =
+        let g = h .framed n in
+        let e = placed-frame (tableOf (s .w) t) m p x (h .placed) in
+        record { low = h .placed .context .processLow; high = h .placed .context .processHigh; area = omega arith; depth = omega arith }
+
+    module _ (c : ℕ) (hc : c ≡ memoryOf m (location (x .process) (x .frame + 1))) where
+      return-is : perform (tableOf (s .w) t) (memoryOf m) (memoryOf p) (contextIn x) (stmtAt (tableOf (s .w) t) (x .statement))
+          ≡ moved (tableOf (s .w) t) (memoryOf m) (memoryOf p) (contextIn x) (returns (tableOf (s .w) t) (memoryOf m) (memoryOf p) (contextIn x) c (stmtAt (tableOf (s .w) t) c))
+      return-is = end-is ∙ (returns-at (tableOf (s .w) t) (memoryOf m) (memoryOf p) x n ∙ rw hc)
+
+      return-unstuck : returns (tableOf (s .w) t) (memoryOf m) (memoryOf p) (contextIn x) c (stmtAt (tableOf (s .w) t) c) ≡ stuck → ⊥
+      return-unstuck e = h .placed .unstuck (return-is ∙ moved-stuck _ _ _ _ _ e)
+
+      return-there : c < stmtCount (tableOf (s .w) t)
+      return-there = ltb-true c (stmtCount (tableOf (s .w) t)) (there-at (tableOf (s .w) t) (memoryOf m) (memoryOf p) (contextIn x) c return-unstuck)
+
+      pub return-below : c < 65535
+      return-below =
+          let l = return-there in
+          let q = count-is t s (h .table) 6 (omega arith) in
+          let e = q .is in
+          let k = q .small in omega arith
+
+      of-kind : returns (tableOf (s .w) t) (memoryOf m) (memoryOf p) (contextIn x) c (stmtAt (tableOf (s .w) t) c)
+          ≡ returns (tableOf (s .w) t) (memoryOf m) (memoryOf p) (contextIn x) c
+          (statementOf (stmtKind (tableOf (s .w) t) c) (stmtA (tableOf (s .w) t) c) (stmtB (tableOf (s .w) t) c) (stmtC (tableOf (s .w) t) c) (stmtD (tableOf (s .w) t) c) (stmtLink (tableOf (s .w) t) c))
+      of-kind = ap (returns (tableOf (s .w) t) (memoryOf m) (memoryOf p) (contextIn x) c) (stmt-there (tableOf (s .w) t) c return-there)
+
+      pub return-process : (k : ℕ) (s1 : List ℕ) → k ≡ stmtKind (tableOf (s .w) t) c → k ≡ 3
+          → ((T : Table) (page : Memory) → Changed 17664 s1 (popped T (memoryOf m) page (contextOf (memoryOf m) (x .process)) (update (memoryOf m) (holderAt (memoryOf m (worksAt (x .process)))) 0) c))
+          → Stepped 0 s1 p (carried (tableOf (s .w) t) (memoryOf m) (memoryOf p) (contextIn x))
+      return-process k s1 hk e g =
+          let d = of-kind ∙ by-process (tableOf (s .w) t) (memoryOf m) (memoryOf p) (contextIn x) c _ _ _ _ _ _ (sym hk ∙ e) in
+          placed-done (tableOf (s .w) t) m p x (h .placed) 0 s1 _ (return-is ∙ moved-ok _ _ _ _ _ _ d)
+          (rw (h .placed .here) (popped-works (tableOf (s .w) t) m (memoryOf p) (x .process) c s1 (g (tableOf (s .w) t) (memoryOf p))))
+
+      pub return-local : (k : ℕ) (s1 : List ℕ) → k ≡ stmtKind (tableOf (s .w) t) c → (k ≡ 3 → ⊥)
+          → ((T : Table) (page : Memory) → Changed 17664 s1 (popped T (memoryOf m) page (contextOf (memoryOf m) (x .process)) (memoryOf m) c))
+          → Stepped 0 s1 p (carried (tableOf (s .w) t) (memoryOf m) (memoryOf p) (contextIn x))
+      return-local k s1 hk e g =
+          let u = kept _ _ of-kind return-unstuck in
+          let i = a-call (tableOf (s .w) t) (memoryOf m) (memoryOf p) (contextIn x) c _ _ _ _ _ _ u (λ q. e (hk ∙ q)) in
+          let d = of-kind ∙ by-local (tableOf (s .w) t) (memoryOf m) (memoryOf p) (contextIn x) c _ _ _ _ _ _ i in
+          placed-done (tableOf (s .w) t) m p x (h .placed) 0 s1 _ (return-is ∙ moved-ok _ _ _ _ _ _ d)
+          (rw (h .placed .here) (g (tableOf (s .w) t) (memoryOf p)))
+
+pub ruleset ends = (ends-process, ends-call, ending-lent, ending-low, ending-high, works-low, works-high, return-fits, return-room, return-called, return-below, return-process, return-local)

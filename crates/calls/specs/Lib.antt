@@ -1,0 +1,4 @@
+pub mod Gathering
+pub mod Framing
+pub mod Entering
+pub mod Serving
