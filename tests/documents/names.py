@@ -1,4 +1,5 @@
-"""Every definition, constructor, theorem, function, test and file that docs/MAP.md and README.md name is there. A line 'ok NAME' or 'FAIL NAME: why' a kind."""
+"""Every definition, constructor, theorem, function and test that docs/MAP.md names is there, and every file that a document names.
+A line 'ok NAME' or 'FAIL NAME: why' a kind."""
 import pathlib
 import re
 import sys
@@ -63,21 +64,22 @@ for crate, name in re.findall(r"`([a-z]+)::([a-z_]+)`", page):
         missing.append(f"{crate}::{name}")
 report("functions", missing, count)
 
-# tests/check: name, name
-missing, count = [], 0
-tests = text(sorted(pathlib.Path("tests/check").iterdir()))
-for listed in re.findall(r"tests/check: " + names, page):
-    for name in listed.split(", "):
-        count += 1
-        if f'run("{name}"' not in tests and f"check/{name}" not in tests:
-            missing.append(name)
-report("tests", missing, count)
+# tests/folder: name, name. A test is run by its name in C, or its line is printed by the folder's script
+for folder, runner in [("check", "run"), ("calls", "run_test")]:
+    missing, count = [], 0
+    tests = text(sorted(pathlib.Path("tests", folder).iterdir()))
+    for listed in re.findall(rf"\btests/{folder}: " + names, page):
+        for name in listed.split(", "):
+            count += 1
+            if not re.search(rf'\b{runner}\("{name}"|"(?:ok |skip )?{folder}/{name}\b', tests):
+                missing.append(f"tests/{folder}: {name}")
+    report(f"tests_{folder}", missing, count)
 
 # files and folders of the repository, in any document
+places = r"(?<![\w/])((?:crates|docs|include|examples|tests|bench|tools|fuzz)/(?:[\w./-]*[\w/])?)(?![\w*/])"
 missing, count = [], 0
 for document in [pathlib.Path("README.md"), *sorted(pathlib.Path("docs").glob("**/*.md"))]:
-    found = re.findall(r"\b((?:crates|docs|include|examples|tests|bench)/[A-Za-z0-9_./-]*[A-Za-z0-9_])(?![A-Za-z0-9_*/])", document.read_text(encoding="utf-8"))
-    for path in found:
+    for path in re.findall(places, document.read_text(encoding="utf-8")):
         count += 1
         if not pathlib.Path(path).exists():
             missing.append(f"{document}: {path}")

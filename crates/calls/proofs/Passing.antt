@@ -228,9 +228,9 @@ module _ (t : List ℕ) (s : Sections) (y z o f m p : List ℕ) (x : Context) (h
         pub bind-low : i < 65536
         bind-low =
             let g = fits-low (tab t s) i (typeOf (tab t s) n)
-                (place-fits (tab t s) (typeOf (tab t s) n) i (typeOf (tab t s) n)
-                (subst (OfType (tab t s) (typeOf (tab t s) n)) bind-place
-                (typed-variable (tab t s) (memoryOf m) (memoryOf p) (contextIn x) (h .prepared .ranged) n (c .variable)))) in
+            (place-fits (tab t s) (typeOf (tab t s) n) i (typeOf (tab t s) n)
+            (subst (OfType (tab t s) (typeOf (tab t s) n)) bind-place
+            (typed-variable (tab t s) (memoryOf m) (memoryOf p) (contextIn x) (h .prepared .ranged) n (c .variable)))) in
             omega arith
 
         pub bind-returns : (l : List ℕ) (count w r : ℕ) (k : List ℕ) → w ≡ i → Appended l count (w ∷ []) k r → Added l count k r (placeOf (out t s m p x n))

@@ -248,9 +248,9 @@ module _ (t : List ℕ) (s : Sections) (y z o f m p : List ℕ) (x : Context) (h
     pub start-starting : (r : ℕ) → memoryOf m createdAt ≤ 64 → l ≡ reference.To r → Starting t s y z o f m p x r
     start-starting r u g =
         let i = follows-refers (tableOf (s .w) t) (memoryOf m) (memoryOf p) (contextIn x) (h .ready .prepared .ranged) a start-node (λ v. true) the-starts
-            (kept _ _ start-is (h .unstuck)) l hl r g in
+        (kept _ _ start-is (h .unstuck)) l hl r g in
         let d = follows-to (tableOf (s .w) t) (memoryOf m) (memoryOf p) (contextIn x) (h .ready .prepared .ranged) a start-node (λ v. true) the-starts
-            (kept _ _ start-is (h .unstuck)) l hl r g in
+        (kept _ _ start-is (h .unstuck)) l hl r g in
         let low = i .low in
         let high = i .high in
         record { standing = h; kind = k; low = omega arith; high = omega arith; performs = start-is ∙ (d ∙ rw ha) }

@@ -70,7 +70,21 @@ fn call_local(
     ensures { λ r. ⌜ Stepped r (now (state .exit)) (now (page .entry)) (carried (tableOf (s .w) (now (t .entry))) (memoryOf (now (state .entry))) (memoryOf (now (page .entry))) (contextIn x)) ⌝ }
 {
     let mut buffer = [0u16; 256];
-    let g = arguments(t, s, types, sizes, offsets, places, state, page, x, &mut buffer[..], q, c, d);
+    let g = arguments(
+        t,
+        s,
+        types,
+        sizes,
+        offsets,
+        places,
+        state,
+        page,
+        x,
+        &mut buffer[..],
+        q,
+        c,
+        d,
+    );
     match g {
         Gathered::Fail(f) => effects::fail(state, f),
         Gathered::Count(n) => enter_local(t, s, sizes, offsets, state, page, x, q, &buffer[..], n),

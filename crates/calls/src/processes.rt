@@ -26,12 +26,10 @@ fn is_free(state: &[u8], r: usize) -> bool
     requires { ⌜ (1 ≤ r) × (r ≤ 64) ⌝ }
     ensures { λ b. ⌜ b ≡ freed (memoryOf (now (state .entry))) r ⌝ }
 {
-    let status = machine::record_word(state, r, 0);
-    if status == 1 {
+    if machine::record_word(state, r, 0) == 1 {
         return false;
     }
-    let holder = machine::record_word(state, r, 6);
-    holder == 0
+    machine::record_word(state, r, 6) == 0
 }
 
 // The frame of a call of procedure q of process r, whose arguments are the first n words of the buffer (01, A step).
@@ -81,10 +79,36 @@ fn call_process(
     ensures { λ a. ⌜ Stepped a (now (state .exit)) (now (page .entry)) (carried (tableOf (s .w) (now (t .entry))) (memoryOf (now (state .entry))) (memoryOf (now (page .entry))) (contextIn x)) ⌝ }
 {
     let mut buffer = [0u16; 256];
-    let g = arguments(t, s, types, sizes, offsets, places, state, page, x, &mut buffer[..], q, c, d);
+    let g = arguments(
+        t,
+        s,
+        types,
+        sizes,
+        offsets,
+        places,
+        state,
+        page,
+        x,
+        &mut buffer[..],
+        q,
+        c,
+        d,
+    );
     match g {
         Gathered::Fail(f) => effects::fail(state, f),
-        Gathered::Count(n) => enter_process(t, s, sizes, offsets, state, page, x, q, r, &buffer[..], n),
+        Gathered::Count(n) => enter_process(
+            t,
+            s,
+            sizes,
+            offsets,
+            state,
+            page,
+            x,
+            q,
+            r,
+            &buffer[..],
+            n,
+        ),
     }
 }
 
@@ -112,7 +136,21 @@ fn call_on(
         let none = [0u16; 1];
         return enter_process(t, s, sizes, offsets, state, page, x, q, r, &none[..], 0);
     }
-    call_process(t, s, types, sizes, offsets, places, state, page, x, q, c, d, r)
+    call_process(
+        t,
+        s,
+        types,
+        sizes,
+        offsets,
+        places,
+        state,
+        page,
+        x,
+        q,
+        c,
+        d,
+        r,
+    )
 }
 
 // The caller waits where process r cannot serve.
@@ -208,7 +246,21 @@ fn start_created(
     let c = table::stmt_c(t, s, x.statement);
     let d = table::stmt_d(t, s, x.statement);
     let mut buffer = [0u16; 256];
-    let g = arguments(t, s, types, sizes, offsets, places, state, page, x, &mut buffer[..], b, c, d);
+    let g = arguments(
+        t,
+        s,
+        types,
+        sizes,
+        offsets,
+        places,
+        state,
+        page,
+        x,
+        &mut buffer[..],
+        b,
+        c,
+        d,
+    );
     match g {
         Gathered::Fail(f) => effects::fail(state, f),
         Gathered::Count(n) => begin(t, s, sizes, offsets, state, page, x, r, b, &buffer[..], n),

@@ -35,7 +35,13 @@ pub extern "C" fn joyce_run(
 
 // The word that process, variable and place name, and 65,536; or a refusal.
 #[no_mangle]
-pub extern "C" fn joyce_look(table: &[u8], state: &[u8], process: u32, variable: u32, place: u32) -> u32
+pub extern "C" fn joyce_look(
+    table: &[u8],
+    state: &[u8],
+    process: u32,
+    variable: u32,
+    place: u32,
+) -> u32
     ensures { λ r. ⌜ r ≡ lookCall (verdict 1) (now (table .entry)) (now (state .entry)) process variable place ⌝ }
 {
     stepper::look(table, state, process, variable, place)
