@@ -4,49 +4,31 @@ use mathlib.Core.Path.{_≡_, refl, sym, ap, _∙_}
 use mathlib.Core.Bool.{Bool, true, false}
 use mathlib.Core.List.{List}
 use native.Mathlib.Omega.{arith}
-use borrow.Author.Tests.{eqb-true, eqb-false, ne-eqb, leb-true, ltb-true, lt-ltb}
+use borrow.Author.Tests.{eqb-true, ne-eqb, leb-true, ltb-true, lt-ltb}
 use lib.Dec.{eqb, ltb}
 use mir.Val.{Fits}
 use mir.Syntax.{w64}
-use Rattle.basics.specs.Choice.{pick, cases, both}
+use Rattle.basics.specs.Choice.{pick, cases}
 use Rattle.basics.proofs.Bools.{both-l}
-use Rattle.table.specs.Table.{Table, tableOf}
+use Rattle.table.specs.Table.{Table}
 use Rattle.table.specs.Entries.{stmtCount, stmtKind, stmtA, stmtB, stmtC, stmtD, stmtLink}
-use Rattle.table.specs.Reading.{Of}
-use Rattle.table.specs.declared.Sections.{Sections}
-use Rattle.table.proofs.Cells.{count-is}
 use Rattle.machine.specs.Memory.{Memory, memoryOf, update}
-use Rattle.machine.specs.Layout.{location, statusAt, frameAt, worksAt, holderAt, depthAt, linkAt}
+use Rattle.machine.specs.Layout.{location, frameAt, worksAt, holderAt, depthAt, linkAt}
 use Rattle.machine.specs.Lent.{Lent, Changed}
-use Rattle.machine.specs.Outcomes.{Outcome, ok, fail, stuck, andThen}
+use Rattle.machine.specs.Outcomes.{ok, stuck}
 use Rattle.machine.specs.Entries.{Statement, noStatement, statementOf, stmtAt}
 use Rattle.machine.specs.Context as machine
 use Rattle.machine.specs.Context.{contextOf, contextual}
 use Rattle.machine.specs.Calls.{popped, returns, return}
-use Rattle.machine.specs.Statements.{Effect, effect, moved, doBlockEnd, perform}
+use Rattle.machine.specs.Statements.{effect, moved, doBlockEnd, perform}
+use Rattle.code.specs.Code.{decoded}
 use Rattle.operands.specs.declared.Context.{Context}
 use Rattle.operands.specs.Ready.{contextIn}
 use Rattle.frames.specs.Frames.{ended, Called}
 use Rattle.effects.specs.Effects.{carried, Stepped, Standing}
 use Rattle.effects.proofs.Carrying.{performs-block-end}
-use Rattle.calls.specs.Entering.{Placed, Ending}
 use Rattle.calls.proofs.Passing.{kept}
-use Rattle.calls.proofs.Entering.{placed-of, placed-done, placed-works, placed-frame, moved-ok, moved-stuck}
-
--- a process that stands at the end of a block, in a context that is one
-pub ending-of : (t : List ℕ) (s : Sections) (y z o f m p : List ℕ) (x : Context) → Standing t s y z o f m p x
-    → stmtKind (tableOf (s .w) t) (x .statement) ≡ 13 → contextual (tableOf (s .w) t) (memoryOf m) (x .process) ≡ true → Ending t s m p x
-unfolding contextual
-ending-of t s y z o f m p x h k c =
-    let i = placed-of t s y z o f m p x h in
-    record {
-      table = h .ready .table;
-      placed = i;
-      kind = k;
-      framed = λ n.
-          let g = leb-true (memoryOf m (frameAt (x .process)) + 4) 256 (rw (ne-eqb (memoryOf m (depthAt (x .process))) 0 n) at (both-l _ _ c)) in
-          let e = placed-frame (tableOf (s .w) t) m p x i in omega arith;
-    }
+use Rattle.calls.proofs.Entering.{stand-lent, stand-done, stand-works, stand-frame, moved-ok, moved-stuck}
 
 -- a statement that is returned to exists, and is a call
 module _ (T : Table) (m page : Memory) (x : machine.Context) (e : ℕ) where
@@ -112,88 +94,91 @@ popped-works : (T : Table) (m : List ℕ) (page : Memory) (p c : ℕ) (s1 : List
 unfolding contextOf
 popped-works T m page p c s1 g = g
 
-module _ (t : List ℕ) (s : Sections) (m p : List ℕ) (x : Context) (h : Ending t s m p x) where
-  end-is : perform (tableOf (s .w) t) (memoryOf m) (memoryOf p) (contextIn x) (stmtAt (tableOf (s .w) t) (x .statement))
-      ≡ doBlockEnd (tableOf (s .w) t) (memoryOf m) (memoryOf p) (contextIn x)
+module _ (t m p : List ℕ) (x : Context) (h : Standing t m p x) (k : stmtKind (decoded t) (x .statement) ≡ 13) where
+  end-is : perform (decoded t) (memoryOf m) (memoryOf p) (contextIn x) (stmtAt (decoded t) (x .statement))
+      ≡ doBlockEnd (decoded t) (memoryOf m) (memoryOf p) (contextIn x)
   unfolding contextIn
-  end-is = performs-block-end (tableOf (s .w) t) (memoryOf m) (memoryOf p) (contextIn x) (h .placed .unstuck) (h .kind)
+  end-is = performs-block-end (decoded t) (memoryOf m) (memoryOf p) (contextIn x) (h .unstuck) k
 
   pub ends-process : (w : ℕ) (s1 : List ℕ) → w ≡ memoryOf m (depthAt (x .process)) → w ≡ 0
-      → Changed 17664 s1 (ended (memoryOf m) (x .process)) → Stepped 2 s1 p (carried (tableOf (s .w) t) (memoryOf m) (memoryOf p) (contextIn x))
+      → Changed 17664 s1 (ended (memoryOf m) (x .process)) → Stepped 2 s1 p (carried (decoded t) (memoryOf m) (memoryOf p) (contextIn x))
   ends-process w s1 hw e c =
-      placed-done (tableOf (s .w) t) m p x (h .placed) 2 s1 (ended (memoryOf m) (x .process))
-      (end-is ∙ ends-at (tableOf (s .w) t) (memoryOf m) (memoryOf p) x (sym hw ∙ e)) c
+      stand-done t m p x h 2 s1 (ended (memoryOf m) (x .process))
+      (end-is ∙ ends-at (decoded t) (memoryOf m) (memoryOf p) x (sym hw ∙ e)) c
 
   pub ends-call : (w : ℕ) → w ≡ memoryOf m (depthAt (x .process)) → (w ≡ 0 → ⊥) → memoryOf m (depthAt (x .process)) ≡ 0 → ⊥
   ends-call w hw n e = n (hw ∙ e)
 
   pub ending-lent : Lent 17664 m
-  ending-lent = record { long = h .placed .state }
+  ending-lent = stand-lent t m p x h
 
   pub ending-low : 1 ≤ x .process
-  ending-low = h .placed .context .processLow
+  ending-low = h .ready .context .processLow
 
   pub ending-high : x .process ≤ 64
-  ending-high = h .placed .context .processHigh
+  ending-high = h .ready .context .processHigh
 
   pub works-low : 1 ≤ memoryOf m (worksAt (x .process))
-  works-low = rw (← placed-works (tableOf (s .w) t) m p x (h .placed)) (h .placed .context .worksLow)
+  works-low = rw (← stand-works t m p x h) (h .ready .context .worksLow)
 
   pub works-high : memoryOf m (worksAt (x .process)) ≤ 64
-  works-high = rw (← placed-works (tableOf (s .w) t) m p x (h .placed)) (h .placed .context .worksHigh)
+  works-high = rw (← stand-works t m p x h) (h .ready .context .worksHigh)
 
   module _ (n : memoryOf m (depthAt (x .process)) ≡ 0 → ⊥) where
+    -- the frame that is left lies in the area of its process
+    framed : x .frame + 4 ≤ 256
+    unfolding contextual
+    framed =
+        let g = leb-true (memoryOf m (frameAt (x .process)) + 4) 256 (rw (ne-eqb (memoryOf m (depthAt (x .process))) 0 n) at (both-l _ _ (h .contextual))) in
+        let e = stand-frame t m p x h in omega arith
+
     pub return-fits : Fits w64 (x .frame + 1)
-    return-fits = let g = h .framed n in record { fits = omega arith }
+    return-fits = let g = framed in record { fits = omega arith }
 
     pub return-room : x .frame + 1 ≤ 255
-    return-room = let g = h .framed n in omega arith
+    return-room = let g = framed in omega arith
 
     pub return-called : Called (memoryOf m) (x .process)
     return-called =
-        let g = h .framed n in
-        let e = placed-frame (tableOf (s .w) t) m p x (h .placed) in
-        record { low = h .placed .context .processLow; high = h .placed .context .processHigh; area = omega arith; depth = omega arith }
+        let g = framed in
+        let e = stand-frame t m p x h in
+        record { low = h .ready .context .processLow; high = h .ready .context .processHigh; area = omega arith; depth = omega arith }
 
     module _ (c : ℕ) (hc : c ≡ memoryOf m (location (x .process) (x .frame + 1))) where
-      return-is : perform (tableOf (s .w) t) (memoryOf m) (memoryOf p) (contextIn x) (stmtAt (tableOf (s .w) t) (x .statement))
-          ≡ moved (tableOf (s .w) t) (memoryOf m) (memoryOf p) (contextIn x) (returns (tableOf (s .w) t) (memoryOf m) (memoryOf p) (contextIn x) c (stmtAt (tableOf (s .w) t) c))
-      return-is = end-is ∙ (returns-at (tableOf (s .w) t) (memoryOf m) (memoryOf p) x n ∙ rw hc)
+      return-is : perform (decoded t) (memoryOf m) (memoryOf p) (contextIn x) (stmtAt (decoded t) (x .statement))
+          ≡ moved (decoded t) (memoryOf m) (memoryOf p) (contextIn x) (returns (decoded t) (memoryOf m) (memoryOf p) (contextIn x) c (stmtAt (decoded t) c))
+      return-is = end-is ∙ (returns-at (decoded t) (memoryOf m) (memoryOf p) x n ∙ rw hc)
 
-      return-unstuck : returns (tableOf (s .w) t) (memoryOf m) (memoryOf p) (contextIn x) c (stmtAt (tableOf (s .w) t) c) ≡ stuck → ⊥
-      return-unstuck e = h .placed .unstuck (return-is ∙ moved-stuck _ _ _ _ _ e)
+      return-unstuck : returns (decoded t) (memoryOf m) (memoryOf p) (contextIn x) c (stmtAt (decoded t) c) ≡ stuck → ⊥
+      return-unstuck e = h .unstuck (return-is ∙ moved-stuck _ _ _ _ _ e)
 
-      return-there : c < stmtCount (tableOf (s .w) t)
-      return-there = ltb-true c (stmtCount (tableOf (s .w) t)) (there-at (tableOf (s .w) t) (memoryOf m) (memoryOf p) (contextIn x) c return-unstuck)
+      return-there : c < stmtCount (decoded t)
+      return-there = ltb-true c (stmtCount (decoded t)) (there-at (decoded t) (memoryOf m) (memoryOf p) (contextIn x) c return-unstuck)
 
       pub return-below : c < 65535
-      return-below =
-          let l = return-there in
-          let q = count-is t s (h .table) 6 (omega arith) in
-          let e = q .is in
-          let k = q .small in omega arith
+      return-below = let g = return-there in let l = h .statements in omega arith
 
-      of-kind : returns (tableOf (s .w) t) (memoryOf m) (memoryOf p) (contextIn x) c (stmtAt (tableOf (s .w) t) c)
-          ≡ returns (tableOf (s .w) t) (memoryOf m) (memoryOf p) (contextIn x) c
-          (statementOf (stmtKind (tableOf (s .w) t) c) (stmtA (tableOf (s .w) t) c) (stmtB (tableOf (s .w) t) c) (stmtC (tableOf (s .w) t) c) (stmtD (tableOf (s .w) t) c) (stmtLink (tableOf (s .w) t) c))
-      of-kind = ap (returns (tableOf (s .w) t) (memoryOf m) (memoryOf p) (contextIn x) c) (stmt-there (tableOf (s .w) t) c return-there)
+      of-kind : returns (decoded t) (memoryOf m) (memoryOf p) (contextIn x) c (stmtAt (decoded t) c)
+          ≡ returns (decoded t) (memoryOf m) (memoryOf p) (contextIn x) c
+          (statementOf (stmtKind (decoded t) c) (stmtA (decoded t) c) (stmtB (decoded t) c) (stmtC (decoded t) c) (stmtD (decoded t) c) (stmtLink (decoded t) c))
+      of-kind = ap (returns (decoded t) (memoryOf m) (memoryOf p) (contextIn x) c) (stmt-there (decoded t) c return-there)
 
-      pub return-process : (k : ℕ) (s1 : List ℕ) → k ≡ stmtKind (tableOf (s .w) t) c → k ≡ 3
+      pub return-process : (i : ℕ) (s1 : List ℕ) → i ≡ stmtKind (decoded t) c → i ≡ 3
           → ((T : Table) (page : Memory) → Changed 17664 s1 (popped T (memoryOf m) page (contextOf (memoryOf m) (x .process)) (update (memoryOf m) (holderAt (memoryOf m (worksAt (x .process)))) 0) c))
-          → Stepped 0 s1 p (carried (tableOf (s .w) t) (memoryOf m) (memoryOf p) (contextIn x))
-      return-process k s1 hk e g =
-          let d = of-kind ∙ by-process (tableOf (s .w) t) (memoryOf m) (memoryOf p) (contextIn x) c _ _ _ _ _ _ (sym hk ∙ e) in
-          placed-done (tableOf (s .w) t) m p x (h .placed) 0 s1 _ (return-is ∙ moved-ok _ _ _ _ _ _ d)
-          (rw (h .placed .here) (popped-works (tableOf (s .w) t) m (memoryOf p) (x .process) c s1 (g (tableOf (s .w) t) (memoryOf p))))
+          → Stepped 0 s1 p (carried (decoded t) (memoryOf m) (memoryOf p) (contextIn x))
+      return-process i s1 hi e g =
+          let d = of-kind ∙ by-process (decoded t) (memoryOf m) (memoryOf p) (contextIn x) c _ _ _ _ _ _ (sym hi ∙ e) in
+          stand-done t m p x h 0 s1 _ (return-is ∙ moved-ok _ _ _ _ _ _ d)
+          (rw (h .here) (popped-works (decoded t) m (memoryOf p) (x .process) c s1 (g (decoded t) (memoryOf p))))
 
-      pub return-local : (k : ℕ) (s1 : List ℕ) → k ≡ stmtKind (tableOf (s .w) t) c → (k ≡ 3 → ⊥)
+      pub return-local : (i : ℕ) (s1 : List ℕ) → i ≡ stmtKind (decoded t) c → (i ≡ 3 → ⊥)
           → ((T : Table) (page : Memory) → Changed 17664 s1 (popped T (memoryOf m) page (contextOf (memoryOf m) (x .process)) (memoryOf m) c))
-          → Stepped 0 s1 p (carried (tableOf (s .w) t) (memoryOf m) (memoryOf p) (contextIn x))
-      return-local k s1 hk e g =
+          → Stepped 0 s1 p (carried (decoded t) (memoryOf m) (memoryOf p) (contextIn x))
+      return-local i s1 hi e g =
           let u = kept _ _ of-kind return-unstuck in
-          let i = a-call (tableOf (s .w) t) (memoryOf m) (memoryOf p) (contextIn x) c _ _ _ _ _ _ u (λ q. e (hk ∙ q)) in
-          let d = of-kind ∙ by-local (tableOf (s .w) t) (memoryOf m) (memoryOf p) (contextIn x) c _ _ _ _ _ _ i in
-          placed-done (tableOf (s .w) t) m p x (h .placed) 0 s1 _ (return-is ∙ moved-ok _ _ _ _ _ _ d)
-          (rw (h .placed .here) (g (tableOf (s .w) t) (memoryOf p)))
+          let j = a-call (decoded t) (memoryOf m) (memoryOf p) (contextIn x) c _ _ _ _ _ _ u (λ q. e (hi ∙ q)) in
+          let d = of-kind ∙ by-local (decoded t) (memoryOf m) (memoryOf p) (contextIn x) c _ _ _ _ _ _ j in
+          stand-done t m p x h 0 s1 _ (return-is ∙ moved-ok _ _ _ _ _ _ d)
+          (rw (h .here) (g (decoded t) (memoryOf p)))
 
 pub ruleset ends = (ends-process, ends-call, ending-lent, ending-low, ending-high, works-low, works-high, return-fits, return-room, return-called, return-below, return-process, return-local)

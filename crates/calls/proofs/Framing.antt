@@ -1,24 +1,24 @@
 -- The words of frames, found from where the last variable begins. Assumes nothing.
 use Prim.Native.Nat.{ℕ, _+_, _-_, _<_, _≤_, min}
-use mathlib.Core.Path.{_≡_, refl, sym, ap, _∙_}
-use mathlib.Core.Bool.{Bool, true, false}
+use mathlib.Core.Path.{_≡_, sym, _∙_}
+use mathlib.Core.Bool.{true}
 use mathlib.Core.List.{List}
 use native.Mathlib.Omega.{arith}
 use borrow.Author.Needs.{needs}
 use borrow.Author.Tests.{ne-eqb, lt-ltb, le-leb}
-use lib.ListN.{length, getD}
-use lib.Dec.{eqb}
-use Rattle.basics.specs.Choice.{pick, both}
 use Rattle.basics.proofs.Bools.{both-i}
-use Rattle.table.specs.Table.{Table, tableOf}
+use Rattle.table.specs.Table.{Table}
 use Rattle.table.specs.Entries.{varCount, varMode, varType, firstVar, vars}
 use Rattle.table.specs.Reading.{Field}
-use Rattle.table.specs.declared.Sections.{Sections}
 use Rattle.numbers.proofs.BlockPromise.{vars-there}
+use Rattle.numbers.proofs.TypePromise.{var-type}
 use Rattle.sizes.specs.Sizes.{wordsOf, sumBelow}
 use Rattle.sizes.proofs.Sums.{sum-more}
 use Rattle.machine.specs.Memory.{within}
 use Rattle.machine.specs.Variables.{varWords, firstWords, frameWords, offsetOf, belongs}
+use Rattle.code.specs.Code.{slotIn, decoded}
+use Rattle.operands.specs.Ready.{Sized}
+use Rattle.operands.proofs.Standing.{same-sized}
 use Rattle.calls.specs.Framing.{Framing, Counted}
 
 -- the words of a variable
@@ -40,43 +40,43 @@ module _ (T : Table) (b : ℕ) where
   unfolding frameWords firstWords
   last-words i e = rw e (sum-more (λ k. varWords T (firstVar T b + k)) i)
 
-module _ (t : List ℕ) (s : Sections) (z o : List ℕ) (b : ℕ) (h : Framing t s z o b) (n : ℕ) (hn : Field (vars (tableOf (s .w) t) b) n) where
-  pub counted-none : n ≡ 0 → Counted (tableOf (s .w) t) b 0
-  counted-none e = let g = no-words (tableOf (s .w) t) b (sym (hn .is) ∙ e) in record { is = rw g; small = omega arith }
+module _ (t : List ℕ) (b : ℕ) (h : Framing t b) (n : ℕ) (hn : Field (vars (decoded t) b) n) where
+  pub counted-none : n ≡ 0 → Counted (decoded t) b 0
+  counted-none e = let g = no-words (decoded t) b (sym (hn .is) ∙ e) in record { is = rw g; small = omega arith }
 
-  module _ (k : n ≡ 0 → ⊥) (p : ℕ) (hp : Field (firstVar (tableOf (s .w) t) b) p) where
+  module _ (k : n ≡ 0 → ⊥) (p : ℕ) (hp : Field (firstVar (decoded t) b) p) where
     some : 1 ≤ n
     some = omega arith
 
-    last-there : p + (n - 1) < varCount (tableOf (s .w) t)
+    last-there : p + (n - 1) < varCount (decoded t)
     last-there =
-        let u = vars-there (tableOf (s .w) t) (h .ranged) b (h .there) in
+        let u = vars-there (decoded t) (h .ranged) b (h .there) in
         let g = some in omega (arith, hn .is, hp .is)
 
-    pub last-room : p + (n - 1) < length o
-    last-room = let u = last-there in omega (arith, h .offsets .long)
+    pub last-sized : Sized t (varType (decoded t) (p + (n - 1)))
+    last-sized = record { code = h .code; sized = h .sized; there = var-type (decoded t) (h .ranged) (p + (n - 1)) last-there }
 
-    last-belongs : belongs (tableOf (s .w) t) b (p + (n - 1)) ≡ true
+    last-belongs : belongs (decoded t) b (p + (n - 1)) ≡ true
     unfolding belongs within
     last-belongs =
         let g = some in
         let u = hp .is in
         let v = hn .is in
-        both-i _ _ (lt-ltb (p + (n - 1)) (varCount (tableOf (s .w) t)) last-there)
-        (both-i _ _ (le-leb (firstVar (tableOf (s .w) t) b) (p + (n - 1)) (omega arith))
-        (lt-ltb (p + (n - 1)) (firstVar (tableOf (s .w) t) b + vars (tableOf (s .w) t) b) (omega arith)))
+        both-i _ _ (lt-ltb (p + (n - 1)) (varCount (decoded t)) last-there)
+        (both-i _ _ (le-leb (firstVar (decoded t) b) (p + (n - 1)) (omega arith))
+        (lt-ltb (p + (n - 1)) (firstVar (decoded t) b + vars (decoded t) b) (omega arith)))
 
-    pub counted-last : (w r : ℕ) → w ≡ getD o (p + (n - 1)) 0 → r ≡ varWords (tableOf (s .w) t) (p + (n - 1)) → r ≤ 200
-        → Counted (tableOf (s .w) t) b (w + r)
+    pub counted-last : (w r : ℕ) → w ≡ slotIn t (p + (n - 1)) 10 → r ≡ varWords (decoded t) (p + (n - 1)) → r ≤ 200
+        → Counted (decoded t) b (w + r)
     unfolding offsetOf
     counted-last w r e g l =
         let q = some in
         let u = hp .is in
         let i = n - 1 in
-        let a : firstVar (tableOf (s .w) t) b + (n - 1) ≡ p + (n - 1) = omega arith in
-        let d : p + (n - 1) - firstVar (tableOf (s .w) t) b ≡ n - 1 = omega arith in
-        let c : getD o (p + (n - 1)) 0 ≡ min (firstWords (tableOf (s .w) t) b (n - 1)) 257 = rw d at (h .offsets .is b (p + (n - 1)) last-belongs) in
-        let f : frameWords (tableOf (s .w) t) b ≡ firstWords (tableOf (s .w) t) b (n - 1) + varWords (tableOf (s .w) t) (p + (n - 1)) = rw a at (last-words (tableOf (s .w) t) b (n - 1) (omega (arith, hn .is))) in
+        let a : firstVar (decoded t) b + (n - 1) ≡ p + (n - 1) = omega arith in
+        let d : p + (n - 1) - firstVar (decoded t) b ≡ n - 1 = omega arith in
+        let c : slotIn t (p + (n - 1)) 10 ≡ min (firstWords (decoded t) b (n - 1)) 257 = rw d at (h .code .offsets b (p + (n - 1)) last-belongs) in
+        let f : frameWords (decoded t) b ≡ firstWords (decoded t) b (n - 1) + varWords (decoded t) (p + (n - 1)) = rw a at (last-words (decoded t) b (n - 1) (omega (arith, hn .is))) in
         record { is = rw f (omega arith); small = omega arith }
 
-pub ruleset counts = (var-one, var-type-words, counted-none, last-room, counted-last, needs)
+pub ruleset counts = (var-one, var-type-words, counted-none, same-sized, last-sized, counted-last, needs)

@@ -1,21 +1,19 @@
 -- The arguments of a call, gathered one after the other. Assumes nothing.
-use Prim.Native.Nat.{ℕ, zero, suc, _+_, _-_, _<_, _≤_}
+use Prim.Native.Nat.{ℕ, suc, _+_, _-_, _<_, _≤_}
 use mathlib.Core.Path.{_≡_, refl, sym, ap, _∙_}
-use mathlib.Core.Bool.{true}
-use mathlib.Core.List.{List, [], _∷_, _++_, append-assoc, append-nil}
+use mathlib.Core.List.{List, [], _++_, append-assoc, append-nil}
 use lib.ListN.{length}
 use lib.Dec.{eqb}
 use native.Mathlib.Omega.{arith}
 use Rattle.table.specs.Table.{Table}
-use Rattle.table.specs.Entries.{firstVar, params, argNode}
-use Rattle.typing.proofs.Promise.{Suits}
+use Rattle.table.specs.Entries.{firstVar, params}
 use Rattle.words.specs.Outcomes.{failureNumber}
 use Rattle.words.specs.declared.values.Failure.{Failure}
 use Rattle.machine.specs.Memory.{Memory}
-use Rattle.machine.specs.Outcomes.{Outcome, ok, fail, stuck, andThen, need}
+use Rattle.machine.specs.Outcomes.{Outcome, ok, fail, stuck, andThen}
 use Rattle.machine.specs.Context.{Context}
 use Rattle.machine.specs.Calls.{argument, argumentWords, arguments}
-use Rattle.calls.specs.Gathering.{Buffer, Appended, Added, Adds, Passing, Calling, joined, Gathering}
+use Rattle.calls.specs.Gathering.{Buffer, Added, Adds, Passing, Calling, joined, Gathering}
 use Rattle.calls.specs.declared.Gathered.{Gathered}
 use Rattle.calls.specs.declared.Gathered.the-variants.{Count, Fail}
 use Rattle.calls.proofs.Putting.{appended-none, appended-more, appended-buffer}

@@ -2,20 +2,18 @@
 use Prim.Native.Nat.{ℕ, _+_, _-_, _<_, _≤_}
 use mathlib.Core.Path.{_≡_, refl, sym, ap, subst, _∙_}
 use mathlib.Core.Bool.{Bool, true, false}
-use mathlib.Core.List.{List, [], _∷_, _++_}
+use mathlib.Core.List.{List, [], _∷_}
 use lib.ListN.{length}
 use lib.Dec.{eqb, ltb}
 use native.Mathlib.Omega.{arith}
-use borrow.Author.Tests.{eqb-true, eqb-false, ltb-true, ltb-false}
+use borrow.Author.Tests.{eqb-true, ltb-true, ltb-false}
 use Rattle.basics.specs.Choice.{pick, cases, both}
-use Rattle.basics.proofs.Bools.{both-l, both-r, no-true}
-use Rattle.table.specs.Table.{Table, tableOf}
+use Rattle.basics.proofs.Bools.{both-r}
+use Rattle.table.specs.Table.{Table}
 use Rattle.table.specs.Entries.{varCount, argCount, nodeCount, varMode, varType, argNode, nodeKind, nodeP}
-use Rattle.table.specs.declared.Sections.{Sections}
 use Rattle.types.specs.Types.{typeOf}
 use Rattle.types.specs.Match.{matches}
 use Rattle.sizes.specs.Sizes.{wordsOf}
-use Rattle.numbers.specs.Sorts.{Variable, Expression}
 use Rattle.numbers.proofs.OperandPromise.{arg-node}
 use Rattle.words.specs.Outcomes as words
 use Rattle.words.specs.Outcomes.{failureNumber, outcomeOf}
@@ -25,21 +23,22 @@ use Rattle.words.specs.declared.values.Value.the-variants as value
 use Rattle.machine.specs.Memory.{Memory, memoryOf, wordsAt}
 use Rattle.machine.specs.Lent.{Lent}
 use Rattle.machine.specs.Outcomes.{Outcome, ok, fail, stuck, andThen, need, Operand, place, value, placed, valued, onPlace, onValue, wordOf}
-use Rattle.machine.specs.Variables.{fits}
 use Rattle.machine.specs.Context as machine
 use Rattle.machine.specs.Operands.{operand}
 use Rattle.machine.specs.Calls.{valueArgument, varArgument, argument}
+use Rattle.code.specs.Code.{decoded}
 use Rattle.operands.specs.declared.Context.{Context}
 use Rattle.operands.specs.declared.Place.{Place}
 use Rattle.operands.specs.declared.Place.the-variants as place
-use Rattle.operands.specs.Answers.{selected, firstWord, Unstuck, goes, fails, Selectable, Evaluable, Retrieval}
-use Rattle.operands.specs.Ready.{contextIn, Ready}
+use Rattle.operands.specs.Answers.{selected, firstWord, Unstuck, goes, fails, Retrieval}
+use Rattle.operands.specs.Ready.{contextIn, Ready, Valued}
+use Rattle.operands.proofs.Lending.{expression-valued}
 use Rattle.operands.proofs.TypeWords.{some-words}
-use Rattle.operands.proofs.Typed.{OfType, a-place, a-value, a-failure, a-stuck, typed-variable, typed-expression}
+use Rattle.operands.proofs.Typed.{OfType, a-value, typed-variable, typed-expression}
 use Rattle.operands.proofs.Yielding.{place-fits, failed, single}
-use Rattle.operands.proofs.Selecting.{tab, out, Sel, fits-low, fits-high}
+use Rattle.operands.proofs.Selecting.{out, Sel, fits-low, fits-high}
 use Rattle.operands.proofs.Evaluating.{Ev, only-retrieval, got-selectable, got-failed, got-fits, got-value}
-use Rattle.calls.specs.Gathering.{Buffer, Appended, Added, Adds, valueOf, placeOf, Valuable, Bindable, Passing}
+use Rattle.calls.specs.Gathering.{Appended, Added, Adds, valueOf, placeOf, Valuable, Bindable, Passing}
 use Rattle.calls.specs.declared.Gathered.{Gathered}
 use Rattle.calls.specs.declared.Gathered.the-variants as gathered
 
@@ -157,115 +156,118 @@ module _ (T : Table) (m page : Memory) (x : machine.Context) (v i : ℕ) (g : ar
 pub other-kind : (k r a : ℕ) → k ≡ r → (k ≡ a → ⊥) → r ≡ a → ⊥
 other-kind k r a e n q = n (e ∙ q)
 
-pub lent-state : (t : List ℕ) (s : Sections) (y z o f m p : List ℕ) (x : Context) → Ready t s y z o f m p x → Lent 17664 m
-lent-state t s y z o f m p x h = record { long = h .state }
+pub lent-state : (t m p : List ℕ) (x : Context) → Ready t m p x → Lent 17664 m
+lent-state t m p x h = record { long = h .state }
 
-module _ (t : List ℕ) (s : Sections) (y z o f m p : List ℕ) (x : Context) (h : Ready t s y z o f m p x) where
+module _ (t m p : List ℕ) (x : Context) (h : Ready t m p x) where
   -- `word_argument`
-  module _ (n : ℕ) (c : Valuable (tab t s) (memoryOf m) (memoryOf p) (contextIn x) n) where
-    pub word-evaluable : Ev t s m p x n
-    word-evaluable = record { expression = c .expression; unstuck = value-goes (out t s m p x n) (c .unstuck) }
+  module _ (n : ℕ) (c : Valuable (decoded t) (memoryOf m) (memoryOf p) (contextIn x) n) where
+    pub word-evaluable : Ev t m p x n
+    word-evaluable = record { expression = c .expression; unstuck = value-goes (out t m p x n) (c .unstuck) }
 
-    word-words : (nodeKind (tab t s) n ≡ 4 → ⊥) → wordsOf (tab t s) (typeOf (tab t s) n) ≡ 1
+    word-words : (nodeKind (decoded t) n ≡ 4 → ⊥) → wordsOf (decoded t) (typeOf (decoded t) n) ≡ 1
     word-words k =
-        let g = some-words (s .w) t (h .prepared .ranged) (h .prepared .sized) (typeOf (tab t s) n) in
-        cases (ltb 1 (wordsOf (tab t s) (typeOf (tab t s) n)))
-        (λ e. absurd (k (only-retrieval (tab t s) (nodeCount (tab t s)) n (h .prepared .ranged) (h .prepared .typed) (c .expression .below) (c .expression) (ltb-true 1 _ e))))
-        (λ e. let b = ltb-false 1 (wordsOf (tab t s) (typeOf (tab t s) n)) e in omega arith)
+        let g = some-words (decoded t) (h .ranged) (h .sized) (typeOf (decoded t) n) (expression-valued t m p x h n (c .expression) .type .there) in
+        cases (ltb 1 (wordsOf (decoded t) (typeOf (decoded t) n)))
+        (λ e. absurd (k (only-retrieval (decoded t) (nodeCount (decoded t)) n (h .ranged) (h .typed) (c .expression .below) (c .expression) (ltb-true 1 _ e))))
+        (λ e. let b = ltb-false 1 (wordsOf (decoded t) (typeOf (decoded t) n)) e in omega arith)
 
-    module _ (v : Value) (hv : outcomeOf v ≡ firstWord (out t s m p x n)) where
-      pub word-fails : (e : Failure) → v ≡ value.Fail e → valueOf (out t s m p x n) ≡ fail (failureNumber e)
-      word-fails e g = value-failed (out t s m p x n) (failureNumber e) (failed _ _ (rw g at hv))
+    module _ (v : Value) (hv : outcomeOf v ≡ firstWord (out t m p x n)) where
+      pub word-fails : (e : Failure) → v ≡ value.Fail e → valueOf (out t m p x n) ≡ fail (failureNumber e)
+      word-fails e g = value-failed (out t m p x n) (failureNumber e) (failed _ _ (rw g at hv))
 
-      pub word-returns : (l : List ℕ) (count : ℕ) (k : List ℕ) (w r : ℕ) → (nodeKind (tab t s) n ≡ 4 → ⊥) → v ≡ value.Word w → Appended l count (w ∷ []) k r
-          → Added l count k r (valueOf (out t s m p x n))
+      pub word-returns : (l : List ℕ) (count : ℕ) (k : List ℕ) (w r : ℕ) → (nodeKind (decoded t) n ≡ 4 → ⊥) → v ≡ value.Word w → Appended l count (w ∷ []) k r
+          → Added l count k r (valueOf (out t m p x n))
       word-returns l count k w r q g a =
           record {
             words = w ∷ [];
-            is = value-word (tab t s) (typeOf (tab t s) n) (out t s m p x n) w (c .unstuck)
-                (typed-expression (tab t s) (memoryOf m) (memoryOf p) (contextIn x) (h .prepared .ranged) n (c .expression))
+            is = value-word (decoded t) (typeOf (decoded t) n) (out t m p x n) w (c .unstuck)
+                (typed-expression (decoded t) (memoryOf m) (memoryOf p) (contextIn x) (h .ranged) n (c .expression))
                 (word-words q) (rw g at hv);
             put = a;
           }
 
     -- `copied_argument`
-    module _ (k : nodeKind (tab t s) n ≡ 4) (a : ℕ) (ha : a ≡ nodeP (tab t s) n) where
-      copy-retrieval : Retrieval (tab t s) (memoryOf m) (memoryOf p) (contextIn x) n
+    pub copy-valued : Valued t n
+    copy-valued = expression-valued t m p x h n (c .expression)
+
+    module _ (k : nodeKind (decoded t) n ≡ 4) (a : ℕ) (ha : a ≡ nodeP (decoded t) n) where
+      copy-retrieval : Retrieval (decoded t) (memoryOf m) (memoryOf p) (contextIn x) n
       copy-retrieval = record { evaluable = word-evaluable; kind = k }
 
-      pub copy-selectable : Sel t s m p x a
-      copy-selectable = got-selectable t s y z o f m p x h n copy-retrieval a ha
+      pub copy-selectable : Sel t m p x a
+      copy-selectable = got-selectable t m p x h n copy-retrieval a ha
 
-      module _ (b : Place) (hb : selected b (typeOf (tab t s) a) ≡ out t s m p x a) where
-        pub copy-fails : (e : Failure) → b ≡ place.Fail e → valueOf (out t s m p x n) ≡ fail (failureNumber e)
-        copy-fails e g = value-failed (out t s m p x n) (failureNumber e) (got-failed t s y z o f m p x h n copy-retrieval a ha b hb e g)
+      module _ (b : Place) (hb : selected b (typeOf (decoded t) a) ≡ out t m p x a) where
+        pub copy-fails : (e : Failure) → b ≡ place.Fail e → valueOf (out t m p x n) ≡ fail (failureNumber e)
+        copy-fails e g = value-failed (out t m p x n) (failureNumber e) (got-failed t m p x h n copy-retrieval a ha b hb e g)
 
-        module _ (i τ w : ℕ) (hi : b ≡ place.At i) (hτ : τ ≡ typeOf (tab t s) n) (hw : w ≡ wordsOf (tab t s) τ) where
+        module _ (i w : ℕ) (hi : b ≡ place.At i) (hw : w ≡ wordsOf (decoded t) (typeOf (decoded t) n)) where
           pub copy-room : i + w ≤ 16384
-          copy-room = rw (hw, hτ) (fits-high (tab t s) i (typeOf (tab t s) n) (got-fits t s y z o f m p x h n copy-retrieval a ha b hb i hi))
+          copy-room = rw hw (fits-high (decoded t) i (typeOf (decoded t) n) (got-fits t m p x h n copy-retrieval a ha b hb i hi))
 
-          pub copy-returns : (l : List ℕ) (count : ℕ) (q : List ℕ) (r : ℕ) → Appended l count (wordsAt (memoryOf m) i w) q r → Added l count q r (valueOf (out t s m p x n))
+          pub copy-returns : (l : List ℕ) (count : ℕ) (q : List ℕ) (r : ℕ) → Appended l count (wordsAt (memoryOf m) i w) q r → Added l count q r (valueOf (out t m p x n))
           copy-returns l count q r g =
               record {
                 words = wordsAt (memoryOf m) i w;
-                is = value-given (out t s m p x n) (typeOf (tab t s) n) _ (got-value t s y z o f m p x h n copy-retrieval a ha b hb i hi ∙ rw (hw, hτ));
+                is = value-given (out t m p x n) (typeOf (decoded t) n) _ (got-value t m p x h n copy-retrieval a ha b hb i hi ∙ rw hw);
                 put = g;
               }
 
   -- `var_argument`
-  module _ (n : ℕ) (c : Bindable (tab t s) (memoryOf m) (memoryOf p) (contextIn x) n) where
-    pub bind-selectable : Sel t s m p x n
-    bind-selectable = record { variable = c .variable; unstuck = place-goes (out t s m p x n) (c .unstuck) }
+  module _ (n : ℕ) (c : Bindable (decoded t) (memoryOf m) (memoryOf p) (contextIn x) n) where
+    pub bind-selectable : Sel t m p x n
+    bind-selectable = record { variable = c .variable; unstuck = place-goes (out t m p x n) (c .unstuck) }
 
-    module _ (b : Place) (hb : selected b (typeOf (tab t s) n) ≡ out t s m p x n) where
-      pub bind-fails : (e : Failure) → b ≡ place.Fail e → placeOf (out t s m p x n) ≡ fail (failureNumber e)
-      bind-fails e g = place-failed (out t s m p x n) (failureNumber e) (sym hb ∙ rw g)
+    module _ (b : Place) (hb : selected b (typeOf (decoded t) n) ≡ out t m p x n) where
+      pub bind-fails : (e : Failure) → b ≡ place.Fail e → placeOf (out t m p x n) ≡ fail (failureNumber e)
+      bind-fails e g = place-failed (out t m p x n) (failureNumber e) (sym hb ∙ rw g)
 
       module _ (i : ℕ) (hi : b ≡ place.At i) where
-        bind-place : out t s m p x n ≡ ok (place i (typeOf (tab t s) n))
+        bind-place : out t m p x n ≡ ok (place i (typeOf (decoded t) n))
         bind-place = sym hb ∙ rw hi
 
         pub bind-low : i < 65536
         bind-low =
-            let g = fits-low (tab t s) i (typeOf (tab t s) n)
-            (place-fits (tab t s) (typeOf (tab t s) n) i (typeOf (tab t s) n)
-            (subst (OfType (tab t s) (typeOf (tab t s) n)) bind-place
-            (typed-variable (tab t s) (memoryOf m) (memoryOf p) (contextIn x) (h .prepared .ranged) n (c .variable)))) in
+            let g = fits-low (decoded t) i (typeOf (decoded t) n)
+            (place-fits (decoded t) (typeOf (decoded t) n) i (typeOf (decoded t) n)
+            (subst (OfType (decoded t) (typeOf (decoded t) n)) bind-place
+            (typed-variable (decoded t) (memoryOf m) (memoryOf p) (contextIn x) (h .ranged) n (c .variable)))) in
             omega arith
 
-        pub bind-returns : (l : List ℕ) (count w r : ℕ) (k : List ℕ) → w ≡ i → Appended l count (w ∷ []) k r → Added l count k r (placeOf (out t s m p x n))
-        bind-returns l count w r k e a = record { words = w ∷ []; is = rw e (place-given (out t s m p x n) i (typeOf (tab t s) n) bind-place); put = a }
+        pub bind-returns : (l : List ℕ) (count w r : ℕ) (k : List ℕ) → w ≡ i → Appended l count (w ∷ []) k r → Added l count k r (placeOf (out t m p x n))
+        bind-returns l count w r k e a = record { words = w ∷ []; is = rw e (place-given (out t m p x n) i (typeOf (decoded t) n) bind-place); put = a }
 
   -- `argument`
-  module _ (v i n d : ℕ) (c : Passing (tab t s) (memoryOf m) (memoryOf p) (contextIn x) v i) (hn : n ≡ argNode (tab t s) i) (hd : d ≡ varMode (tab t s) v) where
-    node-there : n < nodeCount (tab t s)
-    node-there = rw hn (arg-node (tab t s) (h .prepared .ranged) i (argument-there (tab t s) (memoryOf m) (memoryOf p) (contextIn x) v i (c .unstuck)))
+  module _ (v i n d : ℕ) (c : Passing (decoded t) (memoryOf m) (memoryOf p) (contextIn x) v i) (hn : n ≡ argNode (decoded t) i) (hd : d ≡ varMode (decoded t) v) where
+    node-there : n < nodeCount (decoded t)
+    node-there = rw hn (arg-node (decoded t) (h .ranged) i (argument-there (decoded t) (memoryOf m) (memoryOf p) (contextIn x) v i (c .unstuck)))
 
     module _ (e : d ≡ 2) where
-      var-here : argument (tab t s) (memoryOf m) (memoryOf p) (contextIn x) v i ≡ placeOf (out t s m p x n)
-      var-here = rw hn (argument-var (tab t s) (memoryOf m) (memoryOf p) (contextIn x) v i (c .unstuck) (sym hd ∙ e))
+      var-here : argument (decoded t) (memoryOf m) (memoryOf p) (contextIn x) v i ≡ placeOf (out t m p x n)
+      var-here = rw hn (argument-var (decoded t) (memoryOf m) (memoryOf p) (contextIn x) v i (c .unstuck) (sym hd ∙ e))
 
-      pub argument-bindable : Bindable (tab t s) (memoryOf m) (memoryOf p) (contextIn x) n
+      pub argument-bindable : Bindable (decoded t) (memoryOf m) (memoryOf p) (contextIn x) n
       argument-bindable =
           let q = c .suits .variable (sym hd ∙ e) in
           record { variable = record { below = node-there; low = rw hn (q .0); high = rw hn (q .1) }; unstuck = kept _ _ var-here (c .unstuck) }
 
-      pub bound-returns : (l : List ℕ) (count : ℕ) (r : Gathered) (k : List ℕ) → Adds r l count k (placeOf (out t s m p x n))
-          → Adds r l count k (argument (tab t s) (memoryOf m) (memoryOf p) (contextIn x) v i)
+      pub bound-returns : (l : List ℕ) (count : ℕ) (r : Gathered) (k : List ℕ) → Adds r l count k (placeOf (out t m p x n))
+          → Adds r l count k (argument (decoded t) (memoryOf m) (memoryOf p) (contextIn x) v i)
       bound-returns l count r k a = rw var-here a
 
     module _ (e : d ≡ 2 → ⊥) where
-      value-here : argument (tab t s) (memoryOf m) (memoryOf p) (contextIn x) v i ≡ valueOf (out t s m p x n)
-      value-here = rw hn (argument-value (tab t s) (memoryOf m) (memoryOf p) (contextIn x) v i (c .unstuck) (λ q. e (hd ∙ q)))
+      value-here : argument (decoded t) (memoryOf m) (memoryOf p) (contextIn x) v i ≡ valueOf (out t m p x n)
+      value-here = rw hn (argument-value (decoded t) (memoryOf m) (memoryOf p) (contextIn x) v i (c .unstuck) (λ q. e (hd ∙ q)))
 
-      pub argument-valuable : Valuable (tab t s) (memoryOf m) (memoryOf p) (contextIn x) n
+      pub argument-valuable : Valuable (decoded t) (memoryOf m) (memoryOf p) (contextIn x) n
       argument-valuable =
           let q = c .suits .expression (λ q. e (hd ∙ q)) in
           record { expression = record { below = node-there; sort = rw hn (q .1); high = rw hn (q .0) }; unstuck = kept _ _ value-here (c .unstuck) }
 
-      pub valued-returns : (l : List ℕ) (count : ℕ) (r : Gathered) (k : List ℕ) → Adds r l count k (valueOf (out t s m p x n))
-          → Adds r l count k (argument (tab t s) (memoryOf m) (memoryOf p) (contextIn x) v i)
+      pub valued-returns : (l : List ℕ) (count : ℕ) (r : Gathered) (k : List ℕ) → Adds r l count k (valueOf (out t m p x n))
+          → Adds r l count k (argument (decoded t) (memoryOf m) (memoryOf p) (contextIn x) v i)
       valued-returns l count r k a = rw value-here a
 
 pub ruleset passes =
-    (word-evaluable, word-fails, word-returns, copy-selectable, copy-fails, copy-room, copy-returns, bind-selectable, bind-fails, bind-low, bind-returns, argument-bindable, bound-returns, argument-valuable, valued-returns)
+    (word-evaluable, word-fails, word-returns, copy-valued, copy-selectable, copy-fails, copy-room, copy-returns, bind-selectable, bind-fails, bind-low, bind-returns, argument-bindable, bound-returns, argument-valuable, valued-returns)

@@ -1,13 +1,13 @@
 -- Words put into a buffer one after the other. Assumes nothing.
-use Prim.Native.Nat.{ℕ, _+_, _-_, _<_, _≤_, min}
-use mathlib.Core.Path.{_≡_, refl, sym, ap, _∙_}
+use Prim.Native.Nat.{ℕ, _+_, _-_, _<_, _≤_}
+use mathlib.Core.Path.{_≡_, sym, _∙_}
 use mathlib.Core.List.{List, [], _∷_, _++_, append-assoc, append-nil}
 use native.Mathlib.Numerals.{add-one}
 use native.Mathlib.Omega.{arith}
 use borrow.Author.Needs.{needs}
-use lib.ListN.{length, getD, set, take, length-set, length-append}
+use lib.ListN.{length, set, take, length-set, length-append}
 use lib.Seq.{take-suc-set}
-use Rattle.machine.specs.Memory.{Memory, memoryOf, wordsAt}
+use Rattle.machine.specs.Memory.{Memory, wordsAt}
 use Rattle.machine.proofs.Copies.{words-more}
 use Rattle.calls.specs.Gathering.{Buffer, Appended}
 

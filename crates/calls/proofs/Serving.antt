@@ -1,25 +1,24 @@
 -- Calls of other processes: what each call may ask, and each return. Assumes nothing.
 use Prim.Native.Nat.{ℕ, _+_, _<_, _≤_}
-use mathlib.Core.Path.{_≡_, refl, sym, ap, _∙_}
-use mathlib.Core.Bool.{Bool, true, false, not}
+use mathlib.Core.Path.{_≡_, refl, sym, _∙_}
+use mathlib.Core.Bool.{Bool, true, false}
 use mathlib.Core.List.{List}
 use native.Mathlib.Omega.{arith}
 use borrow.Author.Tests.{ne-eqb}
-use lib.ListN.{length, take}
+use lib.ListN.{take}
 use lib.Dec.{eqb, ltb}
-use Rattle.basics.specs.Choice.{pick, both}
-use Rattle.table.specs.Table.{Table, tableOf}
-use Rattle.table.specs.Entries.{nodeCount, owner, stmtCount, stmtKind, stmtA, stmtB, stmtC, stmtD}
-use Rattle.table.specs.declared.Sections.{Sections}
+use Rattle.basics.specs.Choice.{both}
+use Rattle.table.specs.Table.{Table}
+use Rattle.table.specs.Entries.{nodeCount, owner, stmtKind, stmtA, stmtB, stmtC, stmtD}
 use Rattle.numbers.specs.Sorts.{Variable}
 use Rattle.numbers.proofs.OperandPromise.{call-variable, call-procedure}
 use Rattle.typing.proofs.Promise.{called-arguments}
 use Rattle.words.specs.Outcomes.{failureNumber}
 use Rattle.words.specs.declared.values.Failure.{Failure}
 use Rattle.machine.specs.Memory.{Memory, memoryOf, update}
-use Rattle.machine.specs.Layout.{statusAt, topAt, worksAt, holderAt, createdAt, failureAt}
+use Rattle.machine.specs.Layout.{statusAt, topAt, holderAt, failureAt}
 use Rattle.machine.specs.Lent.{Lent, Changed}
-use Rattle.machine.specs.Outcomes.{Outcome, ok, fail, stuck}
+use Rattle.machine.specs.Outcomes.{Outcome, ok}
 use Rattle.machine.specs.Entries.{stmtAt}
 use Rattle.machine.specs.Variables.{isProcedure}
 use Rattle.machine.specs.Context as machine
@@ -27,20 +26,20 @@ use Rattle.machine.specs.Context.{contextOf}
 use Rattle.machine.specs.Operands.{operand}
 use Rattle.machine.specs.Calls.{arguments, pushed}
 use Rattle.machine.specs.Statements.{Effect, effect, wait, free, doProcessCall, perform}
+use Rattle.code.specs.Code.{decoded}
 use Rattle.operands.specs.declared.Context.{Context}
-use Rattle.operands.specs.Ready.{contextIn, Ready}
+use Rattle.operands.specs.Ready.{contextIn}
 use Rattle.effects.specs.Effects.{carried, Stepped, Standing}
 use Rattle.effects.proofs.Carrying.{performs-process}
 use Rattle.transfers.specs.declared.Reference.{Reference}
 use Rattle.transfers.specs.declared.Reference.the-variants as reference
 use Rattle.transfers.specs.References.{referenceOf, referred, Referring}
-use Rattle.transfers.proofs.Referring.{Refers, follows, call-follows, follows-referring, follows-fails, follows-to, follows-refers}
-use Rattle.transfers.proofs.Steps.{stands-there, stands-fail, stands-done}
+use Rattle.transfers.proofs.Referring.{follows, call-follows, follows-referring, follows-fails, follows-to, follows-refers}
 use Rattle.calls.specs.Framing.{Counted}
 use Rattle.calls.specs.Entering.{invoked, Invoking, Entering}
 use Rattle.calls.specs.Serving.{freed, served, Serving}
 use Rattle.calls.proofs.Passing.{kept}
-use Rattle.calls.proofs.Entering.{placed-of, entering-done}
+use Rattle.calls.proofs.Entering.{stand-lent, stand-there, stand-fail, stand-done, entering-done, invoking-none}
 
 -- ---- the laws of `is_free`
 
@@ -55,14 +54,14 @@ module _ (m : List ℕ) (r w : ℕ) (hw : w ≡ memoryOf m (statusAt r)) where
 
 -- ---- the laws of `enter_process`
 
-module _ (t : List ℕ) (s : Sections) (z o m p : List ℕ) (x : Context) (q r : ℕ) (l : List ℕ) (n : ℕ)
-    (h : Entering t s z o m p x q (update (memoryOf m) (holderAt r) (x .process)) r l n) (size : ℕ) (hs : Counted (tableOf (s .w) t) q size) (b : Bool)
+module _ (t m p : List ℕ) (x : Context) (q r : ℕ) (l : List ℕ) (n : ℕ)
+    (h : Entering t m p x q (update (memoryOf m) (holderAt r) (x .process)) r l n) (size : ℕ) (hs : Counted (decoded t) q size) (b : Bool)
     (hb : b ≡ ltb 256 (memoryOf m (topAt (x .process)) + 4 + size)) (e : b ≡ false) where
   pub entering-process : (s1 : List ℕ)
-      → ((page : Memory) → Changed 17664 s1 (pushed (tableOf (s .w) t) (memoryOf m) page (contextOf (memoryOf m) (x .process)) (update (memoryOf m) (holderAt r) (x .process)) q r (take n l)))
-      → Stepped 0 s1 p (carried (tableOf (s .w) t) (memoryOf m) (memoryOf p) (contextIn x))
+      → ((page : Memory) → Changed 17664 s1 (pushed (decoded t) (memoryOf m) page (contextOf (memoryOf m) (x .process)) (update (memoryOf m) (holderAt r) (x .process)) q r (take n l)))
+      → Stepped 0 s1 p (carried (decoded t) (memoryOf m) (memoryOf p) (contextIn x))
   entering-process s1 c =
-      entering-done t s z o m p x q (update (memoryOf m) (holderAt r) (x .process)) r l n h size hs b hb e s1 (c (memoryOf p))
+      entering-done t m p x q (update (memoryOf m) (holderAt r) (x .process)) r l n h size hs b hb e s1 (c (memoryOf p))
 
 -- ---- the laws of `serve` and `call_on`
 
@@ -75,9 +74,9 @@ served-free : (T : Table) (m page : Memory) (x : Context) (q c d r : ℕ) → fr
 unfolding served contextIn
 served-free T m page x q c d r e = rw e
 
-module _ (t : List ℕ) (s : Sections) (y z o f m p : List ℕ) (x : Context) (r : ℕ) (h : Serving t s y z o f m p x r) where
+module _ (t m p : List ℕ) (x : Context) (r : ℕ) (h : Serving t m p x r) where
   pub serving-lent : Lent 17664 m
-  serving-lent = record { long = h .standing .ready .state }
+  serving-lent = stand-lent t m p x (h .standing)
 
   pub serving-low : 1 ≤ r
   serving-low = h .low
@@ -86,28 +85,34 @@ module _ (t : List ℕ) (s : Sections) (y z o f m p : List ℕ) (x : Context) (r
   serving-high = h .high
 
   module _ (b : Bool) (hb : b ≡ freed (memoryOf m) r) where
-    pub serving-waits : b ≡ false → Stepped 1 m p (carried (tableOf (s .w) t) (memoryOf m) (memoryOf p) (contextIn x))
+    pub serving-waits : b ≡ false → Stepped 1 m p (carried (decoded t) (memoryOf m) (memoryOf p) (contextIn x))
     serving-waits e =
-        stands-done t s y z o f m p x (h .standing) 1 m (memoryOf m) (h .performs ∙ served-not _ _ _ _ _ _ _ _ (sym hb ∙ e))
+        stand-done t m p x (h .standing) 1 m (memoryOf m) (h .performs ∙ served-not _ _ _ _ _ _ _ _ (sym hb ∙ e))
         (record { long = h .standing .ready .state; is = refl })
 
     pub serving-free : b ≡ true → freed (memoryOf m) r ≡ true
     serving-free e = sym hb ∙ e
 
-  pub serving-invoking : (q c d : ℕ) → freed (memoryOf m) r ≡ true → q ≡ stmtB (tableOf (s .w) t) (x .statement)
-      → c ≡ stmtC (tableOf (s .w) t) (x .statement) → d ≡ stmtD (tableOf (s .w) t) (x .statement)
-      → Invoking t s y z o f m p x q c d (update (memoryOf m) (holderAt r) (x .process)) r
-  serving-invoking q c d e hq hc hd =
-      let i = stands-there t s y z o f m p x (h .standing) in
-      let g = h .standing .ready .prepared in
+  pub serving-invoking : (q c d : ℕ) → freed (memoryOf m) r ≡ true → q ≡ stmtB (decoded t) (x .statement)
+      → c ≡ stmtC (decoded t) (x .statement) → d ≡ stmtD (decoded t) (x .statement) → q < 65536
+      → Invoking t m p x q c d (update (memoryOf m) (holderAt r) (x .process)) r
+  serving-invoking q c d e hq hc hd l =
+      let i = stand-there t m p x (h .standing) in
+      let g = h .standing .ready in
       rw (hq, hc, hd)
       record {
-        ready = h .standing .ready;
-        placed = placed-of t s y z o f m p x (h .standing);
-        there = call-procedure (tableOf (s .w) t) (g .ranged) (x .statement) i (h .kind) .0;
-        fit = called-arguments (tableOf (s .w) t) (g .typed) (x .statement) i (h .kind);
+        standing = h .standing;
+        small = rw hq at l;
+        there = call-procedure (decoded t) (g .ranged) (x .statement) i (h .kind) .0;
+        fit = called-arguments (decoded t) (g .typed) (x .statement) i (h .kind);
         performs = h .performs ∙ served-free _ _ _ x _ _ _ r e;
       }
+
+  pub serving-none : (q d : ℕ) (l : List ℕ) → freed (memoryOf m) r ≡ true → q ≡ stmtB (decoded t) (x .statement)
+      → d ≡ stmtD (decoded t) (x .statement) → q < 65536 → d ≡ 0
+      → Entering t m p x q (update (memoryOf m) (holderAt r) (x .process)) r l 0
+  serving-none q d l e hq hd g k =
+      invoking-none t m p x q _ d (update (memoryOf m) (holderAt r) (x .process)) r (serving-invoking q _ d e hq refl hd g) l k
 
 -- ---- the laws of `process_call`
 
@@ -122,47 +127,48 @@ module _ (T : Table) (m page : Memory) (x : machine.Context) (q c d : ℕ) where
   unfolding doProcessCall served freed free invoked
   call-is a = call-follows T m page x a tests serves
 
-module _ (t : List ℕ) (s : Sections) (y z o f m p : List ℕ) (x : Context) (h : Standing t s y z o f m p x)
-    (k : stmtKind (tableOf (s .w) t) (x .statement) ≡ 3) (a : ℕ) (ha : a ≡ stmtA (tableOf (s .w) t) (x .statement)) where
+module _ (t m p : List ℕ) (x : Context) (h : Standing t m p x)
+    (k : stmtKind (decoded t) (x .statement) ≡ 3) (a : ℕ) (ha : a ≡ stmtA (decoded t) (x .statement)) where
   abbrev the-tests : ℕ → Bool
-  the-tests = tests (tableOf (s .w) t) (memoryOf m) (memoryOf p) (contextIn x) (stmtB (tableOf (s .w) t) (x .statement)) (stmtC (tableOf (s .w) t) (x .statement)) (stmtD (tableOf (s .w) t) (x .statement))
+  the-tests = tests (decoded t) (memoryOf m) (memoryOf p) (contextIn x) (stmtB (decoded t) (x .statement)) (stmtC (decoded t) (x .statement)) (stmtD (decoded t) (x .statement))
 
   abbrev the-serves : ℕ → ℕ → Outcome Effect
-  the-serves = serves (tableOf (s .w) t) (memoryOf m) (memoryOf p) (contextIn x) (stmtB (tableOf (s .w) t) (x .statement)) (stmtC (tableOf (s .w) t) (x .statement)) (stmtD (tableOf (s .w) t) (x .statement))
+  the-serves = serves (decoded t) (memoryOf m) (memoryOf p) (contextIn x) (stmtB (decoded t) (x .statement)) (stmtC (decoded t) (x .statement)) (stmtD (decoded t) (x .statement))
 
-  process-is : perform (tableOf (s .w) t) (memoryOf m) (memoryOf p) (contextIn x) (stmtAt (tableOf (s .w) t) (x .statement))
-      ≡ follows (tableOf (s .w) t) (memoryOf m) (memoryOf p) (contextIn x) a the-tests the-serves
+  process-is : perform (decoded t) (memoryOf m) (memoryOf p) (contextIn x) (stmtAt (decoded t) (x .statement))
+      ≡ follows (decoded t) (memoryOf m) (memoryOf p) (contextIn x) a the-tests the-serves
   unfolding contextIn
   process-is =
       rw ha
-      (performs-process (tableOf (s .w) t) (memoryOf m) (memoryOf p) (contextIn x) (h .unstuck) k
-      ∙ call-is (tableOf (s .w) t) (memoryOf m) (memoryOf p) (contextIn x) _ _ _ _)
+      (performs-process (decoded t) (memoryOf m) (memoryOf p) (contextIn x) (h .unstuck) k
+      ∙ call-is (decoded t) (memoryOf m) (memoryOf p) (contextIn x) _ _ _ _)
 
-  process-variable : Variable (tableOf (s .w) t) (nodeCount (tableOf (s .w) t)) a
-  process-variable = rw ha (call-variable (tableOf (s .w) t) (h .ready .prepared .ranged) (x .statement) (stands-there t s y z o f m p x h) k)
+  process-variable : Variable (decoded t) (nodeCount (decoded t)) a
+  process-variable = rw ha (call-variable (decoded t) (h .ready .ranged) (x .statement) (stand-there t m p x h) k)
 
-  pub process-referring : Referring (tableOf (s .w) t) (memoryOf m) (memoryOf p) (contextIn x) a
+  pub process-referring : Referring (decoded t) (memoryOf m) (memoryOf p) (contextIn x) a
   process-referring =
-      follows-referring (tableOf (s .w) t) (memoryOf m) (memoryOf p) (contextIn x) (h .ready .prepared .ranged) a process-variable the-tests the-serves
+      follows-referring (decoded t) (memoryOf m) (memoryOf p) (contextIn x) (h .ready .ranged) a process-variable the-tests the-serves
       (kept _ _ process-is (h .unstuck))
 
-  module _ (l : Reference) (hl : referred l ≡ referenceOf (tableOf (s .w) t) (memoryOf m) (operand (tableOf (s .w) t) (memoryOf m) (memoryOf p) (contextIn x) a)) where
+  module _ (l : Reference) (hl : referred l ≡ referenceOf (decoded t) (memoryOf m) (operand (decoded t) (memoryOf m) (memoryOf p) (contextIn x) a)) where
     pub process-fails : (e : Failure) (w : ℕ) (s1 : List ℕ) → l ≡ reference.Fail e → w ≡ failureNumber e
         → Changed 17664 s1 (update (memoryOf m) failureAt (failureNumber e))
-        → Stepped w s1 p (carried (tableOf (s .w) t) (memoryOf m) (memoryOf p) (contextIn x))
+        → Stepped w s1 p (carried (decoded t) (memoryOf m) (memoryOf p) (contextIn x))
     process-fails e w s1 g v c =
-        stands-fail t s y z o f m p x h (failureNumber e) w s1
+        stand-fail t m p x h (failureNumber e) w s1
         (process-is
-        ∙ follows-fails (tableOf (s .w) t) (memoryOf m) (memoryOf p) (contextIn x) (h .ready .prepared .ranged) a process-variable the-tests the-serves
+        ∙ follows-fails (decoded t) (memoryOf m) (memoryOf p) (contextIn x) (h .ready .ranged) a process-variable the-tests the-serves
         (kept _ _ process-is (h .unstuck)) l hl e g)
         v c
 
-    pub process-serving : (r : ℕ) → memoryOf m createdAt ≤ 64 → l ≡ reference.To r → Serving t s y z o f m p x r
-    process-serving r u g =
-        let i = follows-refers (tableOf (s .w) t) (memoryOf m) (memoryOf p) (contextIn x) (h .ready .prepared .ranged) a process-variable the-tests the-serves
+    pub process-serving : (r : ℕ) → l ≡ reference.To r → Serving t m p x r
+    process-serving r g =
+        let i = follows-refers (decoded t) (memoryOf m) (memoryOf p) (contextIn x) (h .ready .ranged) a process-variable the-tests the-serves
         (kept _ _ process-is (h .unstuck)) l hl r g in
-        let d = follows-to (tableOf (s .w) t) (memoryOf m) (memoryOf p) (contextIn x) (h .ready .prepared .ranged) a process-variable the-tests the-serves
+        let d = follows-to (decoded t) (memoryOf m) (memoryOf p) (contextIn x) (h .ready .ranged) a process-variable the-tests the-serves
         (kept _ _ process-is (h .unstuck)) l hl r g in
         let low = i .low in
         let high = i .high in
+        let most = h .created in
         record { standing = h; kind = k; low = omega arith; high = omega arith; performs = process-is ∙ d }

@@ -1,31 +1,30 @@
 -- Starts: what each call may ask, and each return. Assumes nothing.
-use Prim.Native.Nat.{ℕ, _+_, _-_, _<_, _≤_, min}
-use mathlib.Core.Path.{_≡_, refl, sym, ap, _∙_}
-use mathlib.Core.Bool.{Bool, true, false, not}
+use Prim.Native.Nat.{ℕ, _+_, _-_, _<_, _≤_}
+use mathlib.Core.Path.{_≡_, sym, _∙_}
+use mathlib.Core.Bool.{true}
 use mathlib.Core.List.{List}
 use native.Mathlib.Omega.{arith}
-use borrow.Author.Tests.{eqb-true, eqb-false, ne-eqb, ltb-true, ltb-false, leb-true, le-ltb}
+use borrow.Author.Tests.{ne-eqb, ltb-true, ltb-false, leb-true}
 use lib.ListN.{length, take}
-use lib.Dec.{eqb, leb, ltb}
-use Rattle.basics.specs.Choice.{pick, cases}
-use Rattle.table.specs.Table.{Table, tableOf, cellAt, countAt}
-use Rattle.table.specs.Entries.{declared, typeCount, nodeCount, blockCount, typeKind, typeP, varMode, varType, blockKind, firstVar, params, vars, stmtCount, stmtKind, stmtA, stmtC, stmtD}
-use Rattle.table.specs.declared.Sections.{Sections}
+use lib.Dec.{leb, ltb}
+use Rattle.basics.specs.Choice.{cases}
+use Rattle.table.specs.Table.{Table}
+use Rattle.table.specs.Entries.{typeCount, nodeCount, blockCount, typeKind, typeP, varType, blockKind, firstVar, params, vars, stmtCount, stmtKind, stmtA, stmtC, stmtD}
 use Rattle.types.specs.Types.{typeOf}
 use Rattle.numbers.specs.Ranges.{inRange}
 use Rattle.numbers.specs.Sorts.{Variable}
 use Rattle.numbers.proofs.OperandPromise.{start-variable}
 use Rattle.numbers.proofs.BlockPromise.{mode-local}
-use Rattle.numbers.proofs.TypePromise.{declared-from, process-module}
+use Rattle.numbers.proofs.TypePromise.{process-module}
 use Rattle.typing.specs.Typing.{typed}
 use Rattle.typing.proofs.Promise.{module-param, started-variable, started-arguments}
-use Rattle.sizes.specs.Sizes.{wordsOf, sumBelow, varOffset, moduleWords}
+use Rattle.sizes.specs.Sizes.{wordsOf, varOffset, moduleWords}
 use Rattle.sizes.proofs.Sums.{sum-same}
 use Rattle.sizes.proofs.Promise.{module-most}
 use Rattle.words.specs.Outcomes.{failureNumber}
 use Rattle.words.specs.declared.values.Failure.{Failure}
 use Rattle.machine.specs.Memory.{Memory, memoryOf, update}
-use Rattle.machine.specs.Layout.{statusAt, statementAt, createdAt, failureAt}
+use Rattle.machine.specs.Layout.{statusAt, statementAt, failureAt}
 use Rattle.machine.specs.Lent.{Lent, Changed}
 use Rattle.machine.specs.Outcomes.{Outcome, ok, fail, stuck, andThen, need, failWhere}
 use Rattle.machine.specs.Entries.{stmtAt}
@@ -34,25 +33,25 @@ use Rattle.machine.specs.Context as machine
 use Rattle.machine.specs.Operands.{operand}
 use Rattle.machine.specs.Calls.{arguments}
 use Rattle.machine.specs.Processes.{started}
-use Rattle.machine.specs.Statements.{Effect, effect, goOn, doStart, perform}
+use Rattle.machine.specs.Statements.{Effect, goOn, doStart, perform}
+use Rattle.code.specs.Code.{slotIn, decoded}
 use Rattle.operands.specs.declared.Context.{Context}
 use Rattle.operands.specs.Ready.{contextIn, Ready}
-use Rattle.operands.proofs.Lending.{lends-sizes}
+use Rattle.operands.proofs.Lending.{lends-type, variable-valued}
 use Rattle.effects.specs.Effects.{carried, Stepped, Standing}
 use Rattle.effects.proofs.Carrying.{performs-start}
 use Rattle.transfers.specs.declared.Reference.{Reference}
 use Rattle.transfers.specs.declared.Reference.the-variants as reference
 use Rattle.transfers.specs.References.{referenceOf, referred, Referring}
-use Rattle.transfers.proofs.Referring.{Refers, follows, start-follows, follows-referring, follows-fails, follows-to, follows-refers}
-use Rattle.transfers.proofs.Steps.{goes-on, stands-there, stands-below, stands-fail}
+use Rattle.transfers.proofs.Referring.{follows, start-follows, follows-referring, follows-fails, follows-to, follows-refers}
+use Rattle.transfers.proofs.Steps.{goes-on, stands-below}
 use Rattle.calls.specs.declared.Gathered.{Gathered}
 use Rattle.calls.specs.declared.Gathered.the-variants as gathered
 use Rattle.calls.specs.Gathering.{Added, Adds, Calling}
 use Rattle.calls.specs.Framing.{Framing, Counted}
-use Rattle.calls.specs.Entering.{Placed}
 use Rattle.calls.specs.Serving.{begun, startOf, Starting, Beginning}
 use Rattle.calls.proofs.Passing.{need-through, need-is, kept}
-use Rattle.calls.proofs.Entering.{placed-of, placed-done}
+use Rattle.calls.proofs.Entering.{stand-lent, stand-there, stand-fail, stand-done, stand-framing}
 
 -- ---- the words of a module: it has no var parameters (13)
 
@@ -68,40 +67,25 @@ module _ (T : Table) (h : inRange T ≡ true) (g : typed T ≡ true) (b : ℕ) (
   unfolding frameWords firstWords moduleWords varOffset
   module-frame = sum-same (λ i. varWords T (firstVar T b + i)) (λ i. wordsOf T (varType T (firstVar T b + i))) (vars T b) own-words
 
--- a process type exists
-process-there : (w : ℕ) (t : List ℕ) (τ : ℕ) → typeKind (tableOf w t) τ ≡ 3 → τ < 3 + typeCount (tableOf w t)
-unfolding tableOf cellAt declared
-process-there w t τ k =
-    let d = declared-from (tableOf w t) τ 3 k (omega arith) in
-    cases (ltb (τ - 3) (typeCount (tableOf w t)))
-    (λ e. omega (arith, ltb-true (τ - 3) (typeCount (tableOf w t)) e))
-    (λ e. let q : 0 ≡ 3 = rw (le-ltb τ 3 d, e) at k in absurd (omega arith))
-
 -- ---- the laws of `begin`
 
-module _ (t : List ℕ) (s : Sections) (z o m p : List ℕ) (x : Context) (r b : ℕ) (l : List ℕ) (n : ℕ) (h : Beginning t s z o m p x r b l n) where
-  pub beginning-framing : Framing t s z o b
-  beginning-framing = h .framing
+module _ (t m p : List ℕ) (x : Context) (r b : ℕ) (l : List ℕ) (n : ℕ) (h : Beginning t m p x r b l n) where
+  pub beginning-framing : Framing t b
+  beginning-framing = stand-framing t m p x (h .standing) b (h .there)
 
   pub beginning-lent : Lent 17664 m
-  beginning-lent = record { long = h .placed .state }
-
-  pub beginning-below : x .statement < 65535
-  beginning-below = h .below
-
-  pub beginning-process : (1 ≤ x .process) × ((x .process ≤ 64) × ((1 ≤ r) × (r ≤ 64)))
-  beginning-process = (h .placed .context .processLow, (h .placed .context .processHigh, (h .low, h .high)))
+  beginning-lent = stand-lent t m p x (h .standing)
 
   pub beginning-words : (size : ℕ) → size ≤ 457 → (n ≤ 256) × ((n ≤ length l) × (size < 65536))
   beginning-words size e = (h .few, (h .room, omega arith))
 
-  pub beginning-size : (size : ℕ) → Counted (tableOf (s .w) t) b size → size ≡ moduleWords (tableOf (s .w) t) b
+  pub beginning-size : (size : ℕ) → Counted (decoded t) b size → size ≡ moduleWords (decoded t) b
   beginning-size size c = let e = c .is in let q = h .exact in let u = h .most in omega arith
 
   pub beginning-done : (s1 : List ℕ) (c : ℕ) → c ≡ x .statement + 1
-      → Changed 17664 s1 (update (started (tableOf (s .w) t) (memoryOf m) r b (take n l)) (statementAt (x .process)) c)
-      → Stepped 0 s1 p (carried (tableOf (s .w) t) (memoryOf m) (memoryOf p) (contextIn x))
-  beginning-done s1 c e i = placed-done (tableOf (s .w) t) m p x (h .placed) 0 s1 _ (h .performs) (rw e at i)
+      → Changed 17664 s1 (update (started (decoded t) (memoryOf m) r b (take n l)) (statementAt (x .process)) c)
+      → Stepped 0 s1 p (carried (decoded t) (memoryOf m) (memoryOf p) (contextIn x))
+  beginning-done s1 c e i = stand-done t m p x (h .standing) 0 s1 _ (h .performs) (rw e at i)
 
 -- ---- the laws of `start_once` and `start_created`
 
@@ -127,9 +111,9 @@ begun-ok : (T : Table) (m page : Memory) (x : machine.Context) (v r : ℕ) (o : 
 unfolding begun andThen
 begun-ok T m page x v r o ws e = rw e
 
-module _ (t : List ℕ) (s : Sections) (y z o f m p : List ℕ) (x : Context) (r : ℕ) (h : Starting t s y z o f m p x r) where
+module _ (t m p : List ℕ) (x : Context) (r : ℕ) (h : Starting t m p x r) where
   pub starting-lent : Lent 17664 m
-  starting-lent = record { long = h .standing .ready .state }
+  starting-lent = stand-lent t m p x (h .standing)
 
   pub starting-low : 1 ≤ r
   starting-low = h .low
@@ -137,50 +121,59 @@ module _ (t : List ℕ) (s : Sections) (y z o f m p : List ℕ) (x : Context) (r
   pub starting-high : r ≤ 64
   starting-high = h .high
 
-  pub starting-ready : Ready t s y z o f m p x
+  pub starting-ready : Ready t m p x
   starting-ready = h .standing .ready
 
   module _ (w : ℕ) (hw : w ≡ memoryOf m (statusAt r)) where
     pub starting-twice : (a : ℕ) (s1 : List ℕ) → (w ≡ 1 → ⊥) → a ≡ 20 → Changed 17664 s1 (update (memoryOf m) failureAt 20)
-        → Stepped a s1 p (carried (tableOf (s .w) t) (memoryOf m) (memoryOf p) (contextIn x))
+        → Stepped a s1 p (carried (decoded t) (memoryOf m) (memoryOf p) (contextIn x))
     starting-twice a s1 n e c =
-        stands-fail t s y z o f m p x (h .standing) 20 a s1 (h .performs ∙ start-twice _ _ _ _ _ _ _ r (λ q. n (hw ∙ q))) e c
+        stand-fail t m p x (h .standing) 20 a s1 (h .performs ∙ start-twice _ _ _ _ _ _ _ r (λ q. n (hw ∙ q))) e c
 
     pub starting-new : w ≡ 1 → memoryOf m (statusAt r) ≡ 1
     starting-new e = sym hw ∙ e
 
-  module _ (e : memoryOf m (statusAt r) ≡ 1) (a τ b c d : ℕ) (ha : a ≡ stmtA (tableOf (s .w) t) (x .statement)) (hτ : τ ≡ typeOf (tableOf (s .w) t) a)
-      (hb : b ≡ typeP (tableOf (s .w) t) τ) (hc : c ≡ stmtC (tableOf (s .w) t) (x .statement)) (hd : d ≡ stmtD (tableOf (s .w) t) (x .statement)) where
-    start-there : x .statement < stmtCount (tableOf (s .w) t)
-    start-there = stands-there t s y z o f m p x (h .standing)
+  module _ (e : memoryOf m (statusAt r) ≡ 1) (a τ b c d : ℕ) (ha : a ≡ stmtA (decoded t) (x .statement)) (hs : τ ≡ slotIn t a 23)
+      (hb : b ≡ typeP (decoded t) τ) (hc : c ≡ stmtC (decoded t) (x .statement)) (hd : d ≡ stmtD (decoded t) (x .statement)) where
+    start-there : x .statement < stmtCount (decoded t)
+    start-there = stand-there t m p x (h .standing)
 
-    start-kind : typeKind (tableOf (s .w) t) τ ≡ 3
-    start-kind = rw (hτ, ha) (started-variable (tableOf (s .w) t) (h .standing .ready .prepared .typed) (x .statement) start-there (h .kind))
+    started-node : Variable (decoded t) (nodeCount (decoded t)) a
+    started-node = rw ha (start-variable (decoded t) (h .standing .ready .ranged) (x .statement) start-there (h .kind))
 
-    start-module : (b < blockCount (tableOf (s .w) t)) × (blockKind (tableOf (s .w) t) b ≡ 1)
-    start-module = rw hb (process-module (tableOf (s .w) t) (h .standing .ready .prepared .ranged) τ (process-there (s .w) t τ start-kind) start-kind)
+    hτ : τ ≡ typeOf (decoded t) a
+    hτ = lends-type t m p x (h .standing .ready) a τ (started-node .below) hs
 
-    begin-is : perform (tableOf (s .w) t) (memoryOf m) (memoryOf p) (contextIn x) (stmtAt (tableOf (s .w) t) (x .statement))
-        ≡ begun (tableOf (s .w) t) (memoryOf m) (memoryOf p) (contextIn x) b r (arguments (tableOf (s .w) t) (memoryOf m) (memoryOf p) (contextIn x) b c d)
+    start-kind : typeKind (decoded t) τ ≡ 3
+    start-kind = rw (hτ, ha) (started-variable (decoded t) (h .standing .ready .typed) (x .statement) start-there (h .kind))
+
+    -- a process type is that of a module
+    start-module : (b < blockCount (decoded t)) × (blockKind (decoded t) b ≡ 1)
+    start-module =
+        let g : τ < 3 + typeCount (decoded t) = rw hτ (variable-valued t m p x (h .standing .ready) a started-node .type .there) in
+        rw hb (process-module (decoded t) (h .standing .ready .ranged) τ g start-kind)
+
+    begin-is : perform (decoded t) (memoryOf m) (memoryOf p) (contextIn x) (stmtAt (decoded t) (x .statement))
+        ≡ begun (decoded t) (memoryOf m) (memoryOf p) (contextIn x) b r (arguments (decoded t) (memoryOf m) (memoryOf p) (contextIn x) b c d)
     begin-is = rw (hb, hτ, ha, hc, hd) (h .performs ∙ start-new _ _ _ _ _ _ _ r e)
 
-    pub start-calling : Calling (tableOf (s .w) t) (memoryOf m) (memoryOf p) (contextIn x) b c d
+    pub start-calling : Calling (decoded t) (memoryOf m) (memoryOf p) (contextIn x) b c d
     start-calling =
         record {
-          fit = rw (hb, hτ, ha, hc, hd) (started-arguments (tableOf (s .w) t) (h .standing .ready .prepared .typed) (x .statement) start-there (h .kind));
+          fit = rw (hb, hτ, ha, hc, hd) (started-arguments (decoded t) (h .standing .ready .typed) (x .statement) start-there (h .kind));
           unstuck = λ q. h .standing .unstuck (begin-is ∙ begun-stuck _ _ _ _ _ _ _ q);
         }
 
-    module _ (l₀ l : List ℕ) (g : Gathered) (i : Adds g l₀ 0 l (arguments (tableOf (s .w) t) (memoryOf m) (memoryOf p) (contextIn x) b c d)) where
+    module _ (l₀ l : List ℕ) (g : Gathered) (i : Adds g l₀ 0 l (arguments (decoded t) (memoryOf m) (memoryOf p) (contextIn x) b c d)) where
       pub start-fails : (k : Failure) (w : ℕ) (s1 : List ℕ) → g ≡ gathered.Fail k → w ≡ failureNumber k
           → Changed 17664 s1 (update (memoryOf m) failureAt (failureNumber k))
-          → Stepped w s1 p (carried (tableOf (s .w) t) (memoryOf m) (memoryOf p) (contextIn x))
+          → Stepped w s1 p (carried (decoded t) (memoryOf m) (memoryOf p) (contextIn x))
       start-fails k w s1 q v j =
-          stands-fail t s y z o f m p x (h .standing) (failureNumber k) w s1 (begin-is ∙ begun-fail _ _ _ _ _ _ _ _ (rw q at i)) v j
+          stand-fail t m p x (h .standing) (failureNumber k) w s1 (begin-is ∙ begun-fail _ _ _ _ _ _ _ _ (rw q at i)) v j
 
-      pub start-begins : (n : ℕ) → g ≡ gathered.Count n → Beginning t s z o m p x r b l n
+      pub start-begins : (n : ℕ) → g ≡ gathered.Count n → Beginning t m p x r b l n
       start-begins n q =
-          let u : Added l₀ 0 l n (arguments (tableOf (s .w) t) (memoryOf m) (memoryOf p) (contextIn x) b c d) = rw q at i in
+          let u : Added l₀ 0 l n (arguments (decoded t) (memoryOf m) (memoryOf p) (contextIn x) b c d) = rw q at i in
           let j = begin-is ∙ begun-ok _ _ _ _ _ _ _ _ (u .is) in
           let v = kept _ _ j (h .standing .unstuck) in
           let few : length (u .words) ≤ 256 = leb-true _ _ (need-through _ _ v) in
@@ -188,19 +181,19 @@ module _ (t : List ℕ) (s : Sections) (y z o f m p : List ℕ) (x : Context) (r
           let fit : n ≤ 256 = omega (arith, u .put .count) in
           let w : take n l ≡ u .words = u .put .words fit in
           let k = start-module in
-          let ranged = h .standing .ready .prepared .ranged in
-          let same = module-frame (tableOf (s .w) t) ranged (h .standing .ready .prepared .typed) b (k .0) (k .1) in
+          let ranged = h .standing .ready .ranged in
+          let same = module-frame (decoded t) ranged (h .standing .ready .typed) b (k .0) (k .1) in
           record {
-            placed = placed-of t s y z o f m p x (h .standing);
-            below = stands-below t s y z o f m p x (h .standing);
-            framing = record { sized = lends-sizes t s y z o f m p x (h .standing .ready); offsets = h .standing .ready .prepared .offsets; ranged = ranged; there = k .0 };
+            standing = h .standing;
+            below = stands-below t m p x (h .standing);
+            there = k .0;
             exact = same;
-            most = module-most (tableOf (s .w) t) (h .standing .ready .prepared .sized) b (k .0) (omega (arith, k .1));
+            most = module-most (decoded t) (h .standing .ready .sized) b (k .0) (omega (arith, k .1));
             low = h .low;
             high = h .high;
             few = fit;
             room = omega arith;
-            performs = j ∙ (need-is _ _ v ∙ (goes-on (tableOf (s .w) t) (memoryOf m) (memoryOf p) (started (tableOf (s .w) t) (memoryOf m) r b (u .words)) x ∙ rw w));
+            performs = j ∙ (need-is _ _ v ∙ (goes-on (decoded t) (memoryOf m) (memoryOf p) (started (decoded t) (memoryOf m) r b (u .words)) x ∙ rw w));
           }
 
 -- ---- the laws of `start`
@@ -213,44 +206,45 @@ module _ (T : Table) (m page : Memory) (x : machine.Context) (c d : ℕ) where
   unfolding doStart startOf begun
   the-start a = start-follows T m page x a starts
 
-module _ (t : List ℕ) (s : Sections) (y z o f m p : List ℕ) (x : Context) (h : Standing t s y z o f m p x)
-    (k : stmtKind (tableOf (s .w) t) (x .statement) ≡ 5) (a : ℕ) (ha : a ≡ stmtA (tableOf (s .w) t) (x .statement)) where
+module _ (t m p : List ℕ) (x : Context) (h : Standing t m p x)
+    (k : stmtKind (decoded t) (x .statement) ≡ 5) (a : ℕ) (ha : a ≡ stmtA (decoded t) (x .statement)) where
   abbrev the-starts : ℕ → ℕ → Outcome Effect
-  the-starts = starts (tableOf (s .w) t) (memoryOf m) (memoryOf p) (contextIn x) (stmtC (tableOf (s .w) t) (x .statement)) (stmtD (tableOf (s .w) t) (x .statement))
+  the-starts = starts (decoded t) (memoryOf m) (memoryOf p) (contextIn x) (stmtC (decoded t) (x .statement)) (stmtD (decoded t) (x .statement))
 
-  start-is : perform (tableOf (s .w) t) (memoryOf m) (memoryOf p) (contextIn x) (stmtAt (tableOf (s .w) t) (x .statement))
-      ≡ follows (tableOf (s .w) t) (memoryOf m) (memoryOf p) (contextIn x) a (λ v. true) the-starts
+  start-is : perform (decoded t) (memoryOf m) (memoryOf p) (contextIn x) (stmtAt (decoded t) (x .statement))
+      ≡ follows (decoded t) (memoryOf m) (memoryOf p) (contextIn x) a (λ v. true) the-starts
   unfolding contextIn
   start-is =
       rw ha
-      (performs-start (tableOf (s .w) t) (memoryOf m) (memoryOf p) (contextIn x) (h .unstuck) k
-      ∙ the-start (tableOf (s .w) t) (memoryOf m) (memoryOf p) (contextIn x) _ _ _)
+      (performs-start (decoded t) (memoryOf m) (memoryOf p) (contextIn x) (h .unstuck) k
+      ∙ the-start (decoded t) (memoryOf m) (memoryOf p) (contextIn x) _ _ _)
 
-  start-node : Variable (tableOf (s .w) t) (nodeCount (tableOf (s .w) t)) a
-  start-node = rw ha (start-variable (tableOf (s .w) t) (h .ready .prepared .ranged) (x .statement) (stands-there t s y z o f m p x h) k)
+  start-node : Variable (decoded t) (nodeCount (decoded t)) a
+  start-node = rw ha (start-variable (decoded t) (h .ready .ranged) (x .statement) (stand-there t m p x h) k)
 
-  pub start-referring : Referring (tableOf (s .w) t) (memoryOf m) (memoryOf p) (contextIn x) a
+  pub start-referring : Referring (decoded t) (memoryOf m) (memoryOf p) (contextIn x) a
   start-referring =
-      follows-referring (tableOf (s .w) t) (memoryOf m) (memoryOf p) (contextIn x) (h .ready .prepared .ranged) a start-node (λ v. true) the-starts
+      follows-referring (decoded t) (memoryOf m) (memoryOf p) (contextIn x) (h .ready .ranged) a start-node (λ v. true) the-starts
       (kept _ _ start-is (h .unstuck))
 
-  module _ (l : Reference) (hl : referred l ≡ referenceOf (tableOf (s .w) t) (memoryOf m) (operand (tableOf (s .w) t) (memoryOf m) (memoryOf p) (contextIn x) a)) where
+  module _ (l : Reference) (hl : referred l ≡ referenceOf (decoded t) (memoryOf m) (operand (decoded t) (memoryOf m) (memoryOf p) (contextIn x) a)) where
     pub start-refuses : (e : Failure) (w : ℕ) (s1 : List ℕ) → l ≡ reference.Fail e → w ≡ failureNumber e
         → Changed 17664 s1 (update (memoryOf m) failureAt (failureNumber e))
-        → Stepped w s1 p (carried (tableOf (s .w) t) (memoryOf m) (memoryOf p) (contextIn x))
+        → Stepped w s1 p (carried (decoded t) (memoryOf m) (memoryOf p) (contextIn x))
     start-refuses e w s1 g v c =
-        stands-fail t s y z o f m p x h (failureNumber e) w s1
+        stand-fail t m p x h (failureNumber e) w s1
         (start-is
-        ∙ follows-fails (tableOf (s .w) t) (memoryOf m) (memoryOf p) (contextIn x) (h .ready .prepared .ranged) a start-node (λ v. true) the-starts
+        ∙ follows-fails (decoded t) (memoryOf m) (memoryOf p) (contextIn x) (h .ready .ranged) a start-node (λ v. true) the-starts
         (kept _ _ start-is (h .unstuck)) l hl e g)
         v c
 
-    pub start-starting : (r : ℕ) → memoryOf m createdAt ≤ 64 → l ≡ reference.To r → Starting t s y z o f m p x r
-    start-starting r u g =
-        let i = follows-refers (tableOf (s .w) t) (memoryOf m) (memoryOf p) (contextIn x) (h .ready .prepared .ranged) a start-node (λ v. true) the-starts
+    pub start-starting : (r : ℕ) → l ≡ reference.To r → Starting t m p x r
+    start-starting r g =
+        let i = follows-refers (decoded t) (memoryOf m) (memoryOf p) (contextIn x) (h .ready .ranged) a start-node (λ v. true) the-starts
         (kept _ _ start-is (h .unstuck)) l hl r g in
-        let d = follows-to (tableOf (s .w) t) (memoryOf m) (memoryOf p) (contextIn x) (h .ready .prepared .ranged) a start-node (λ v. true) the-starts
+        let d = follows-to (decoded t) (memoryOf m) (memoryOf p) (contextIn x) (h .ready .ranged) a start-node (λ v. true) the-starts
         (kept _ _ start-is (h .unstuck)) l hl r g in
         let low = i .low in
         let high = i .high in
+        let most = h .created in
         record { standing = h; kind = k; low = omega arith; high = omega arith; performs = start-is ∙ (d ∙ rw ha) }

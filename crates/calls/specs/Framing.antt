@@ -3,20 +3,20 @@ use Prim.Native.Nat.{ℕ, _≤_, _<_, min}
 use mathlib.Core.Path.{_≡_}
 use mathlib.Core.Bool.{true}
 use mathlib.Core.List.{List}
-use Rattle.table.specs.Table.{Table, tableOf}
+use Rattle.table.specs.Table.{Table}
 use Rattle.table.specs.Entries.{blockCount}
-use Rattle.table.specs.declared.Sections.{Sections}
 use Rattle.numbers.specs.Ranges.{inRange}
+use Rattle.sizes.specs.Sizes.{sized}
 use Rattle.machine.specs.Variables.{frameWords}
-use Rattle.operands.specs.Places.{Offsets}
-use Rattle.operands.specs.Ready.{Sized}
+use Rattle.code.specs.Code.{decoded}
+use Rattle.prepare.specs.Prepared.{Prepared}
 
 -- what the words of block b's variables are found with
-pub record Framing (t : List ℕ) (s : Sections) (z o : List ℕ) (b : ℕ) : Type 0 where
-  pub sized : Sized t s z
-  pub offsets : Offsets (tableOf (s .w) t) o
-  pub ranged : inRange (tableOf (s .w) t) ≡ true
-  pub there : b < blockCount (tableOf (s .w) t)
+pub record Framing (t : List ℕ) (b : ℕ) : Type 0 where
+  pub code : Prepared t
+  pub ranged : inRange (decoded t) ≡ true
+  pub sized : sized (decoded t) ≡ true
+  pub there : b < blockCount (decoded t)
 
 -- r counts the words of block b's variables as far as an area goes: above 256 is above 256
 pub record Counted (T : Table) (b r : ℕ) : Type 0 where

@@ -6,25 +6,24 @@ use mathlib.Core.List.{List}
 use lib.ListN.{length, take}
 use lib.Dec.{eqb, leb}
 use Rattle.basics.specs.Choice.{pick, both}
-use Rattle.table.specs.Table.{Table, tableOf}
-use Rattle.table.specs.Entries.{blockCount, typeKind, typeP, stmtKind, stmtA, stmtB, stmtC, stmtD}
-use Rattle.table.specs.declared.Sections.{Sections}
+use Rattle.table.specs.Table.{Table}
+use Rattle.table.specs.Entries.{blockCount, typeP, stmtKind, stmtA, stmtB, stmtC, stmtD}
 use Rattle.types.specs.Types.{typeOf}
 use Rattle.sizes.specs.Sizes.{moduleWords}
 use Rattle.machine.specs.Memory.{Memory, memoryOf, update}
 use Rattle.machine.specs.Layout.{statusAt, statementAt, holderAt}
 use Rattle.machine.specs.Outcomes.{Outcome, ok, andThen, need, failWhere}
 use Rattle.machine.specs.Entries.{stmtAt}
-use Rattle.machine.specs.Variables.{isProcedure, frameWords}
+use Rattle.machine.specs.Variables.{frameWords}
 use Rattle.machine.specs.Context as machine
 use Rattle.machine.specs.Calls.{arguments}
 use Rattle.machine.specs.Processes.{started}
 use Rattle.machine.specs.Statements.{Effect, effect, goOn, wait, perform}
+use Rattle.code.specs.Code.{decoded}
 use Rattle.operands.specs.declared.Context.{Context}
 use Rattle.operands.specs.Ready.{contextIn}
 use Rattle.effects.specs.Effects.{Standing}
-use Rattle.calls.specs.Framing.{Framing}
-use Rattle.calls.specs.Entering.{Placed, invoked}
+use Rattle.calls.specs.Entering.{invoked}
 
 -- process r is started and nobody holds its variables (11.3, 13)
 unfoldable pub freed : Memory → ℕ → Bool
@@ -46,35 +45,35 @@ unfoldable pub startOf : Table → Memory → Memory → machine.Context → ℕ
 startOf T m page x μ c d r = failWhere (not (eqb (m (statusAt r)) 1)) 20 (begun T m page x μ r (arguments T m page x μ c d))
 
 -- the statement of the process calls process r
-pub record Serving (t : List ℕ) (s : Sections) (y z o f m p : List ℕ) (x : Context) (r : ℕ) : Type 0 where
-  pub standing : Standing t s y z o f m p x
-  pub kind : stmtKind (tableOf (s .w) t) (x .statement) ≡ 3
+pub record Serving (t m p : List ℕ) (x : Context) (r : ℕ) : Type 0 where
+  pub standing : Standing t m p x
+  pub kind : stmtKind (decoded t) (x .statement) ≡ 3
   pub low : 1 ≤ r
   pub high : r ≤ 64
-  pub performs : perform (tableOf (s .w) t) (memoryOf m) (memoryOf p) (contextIn x) (stmtAt (tableOf (s .w) t) (x .statement))
-      ≡ served (tableOf (s .w) t) (memoryOf m) (memoryOf p) (contextIn x) (stmtB (tableOf (s .w) t) (x .statement))
-      (stmtC (tableOf (s .w) t) (x .statement)) (stmtD (tableOf (s .w) t) (x .statement)) r
+  pub performs : perform (decoded t) (memoryOf m) (memoryOf p) (contextIn x) (stmtAt (decoded t) (x .statement))
+      ≡ served (decoded t) (memoryOf m) (memoryOf p) (contextIn x) (stmtB (decoded t) (x .statement))
+      (stmtC (decoded t) (x .statement)) (stmtD (decoded t) (x .statement)) r
 
 -- the statement of the process starts process r
-pub record Starting (t : List ℕ) (s : Sections) (y z o f m p : List ℕ) (x : Context) (r : ℕ) : Type 0 where
-  pub standing : Standing t s y z o f m p x
-  pub kind : stmtKind (tableOf (s .w) t) (x .statement) ≡ 5
+pub record Starting (t m p : List ℕ) (x : Context) (r : ℕ) : Type 0 where
+  pub standing : Standing t m p x
+  pub kind : stmtKind (decoded t) (x .statement) ≡ 5
   pub low : 1 ≤ r
   pub high : r ≤ 64
-  pub performs : perform (tableOf (s .w) t) (memoryOf m) (memoryOf p) (contextIn x) (stmtAt (tableOf (s .w) t) (x .statement))
-      ≡ startOf (tableOf (s .w) t) (memoryOf m) (memoryOf p) (contextIn x) (typeP (tableOf (s .w) t) (typeOf (tableOf (s .w) t) (stmtA (tableOf (s .w) t) (x .statement))))
-      (stmtC (tableOf (s .w) t) (x .statement)) (stmtD (tableOf (s .w) t) (x .statement)) r
+  pub performs : perform (decoded t) (memoryOf m) (memoryOf p) (contextIn x) (stmtAt (decoded t) (x .statement))
+      ≡ startOf (decoded t) (memoryOf m) (memoryOf p) (contextIn x) (typeP (decoded t) (typeOf (decoded t) (stmtA (decoded t) (x .statement))))
+      (stmtC (decoded t) (x .statement)) (stmtD (decoded t) (x .statement)) r
 
 -- the parameters of process r, of module b, are the first n words of the buffer l
-pub record Beginning (t : List ℕ) (s : Sections) (z o m p : List ℕ) (x : Context) (r b : ℕ) (l : List ℕ) (n : ℕ) : Type 0 where
-  pub placed : Placed (tableOf (s .w) t) m p x
+pub record Beginning (t m p : List ℕ) (x : Context) (r b : ℕ) (l : List ℕ) (n : ℕ) : Type 0 where
+  pub standing : Standing t m p x
   pub below : x .statement < 65535
-  pub framing : Framing t s z o b
-  pub exact : frameWords (tableOf (s .w) t) b ≡ moduleWords (tableOf (s .w) t) b
-  pub most : moduleWords (tableOf (s .w) t) b ≤ 256
+  pub there : b < blockCount (decoded t)
+  pub exact : frameWords (decoded t) b ≡ moduleWords (decoded t) b
+  pub most : moduleWords (decoded t) b ≤ 256
   pub low : 1 ≤ r
   pub high : r ≤ 64
   pub few : n ≤ 256
   pub room : n ≤ length l
-  pub performs : perform (tableOf (s .w) t) (memoryOf m) (memoryOf p) (contextIn x) (stmtAt (tableOf (s .w) t) (x .statement))
-      ≡ ok (effect 0 (update (started (tableOf (s .w) t) (memoryOf m) r b (take n l)) (statementAt (x .process)) (x .statement + 1)) (memoryOf p))
+  pub performs : perform (decoded t) (memoryOf m) (memoryOf p) (contextIn x) (stmtAt (decoded t) (x .statement))
+      ≡ ok (effect 0 (update (started (decoded t) (memoryOf m) r b (take n l)) (statementAt (x .process)) (x .statement + 1)) (memoryOf p))

@@ -7,14 +7,14 @@ use words::values::Failure;
 ghost use mathlib.Core.Path.{_≡_};
 ghost use Prim.Native.Nat.{ℕ, _+_, _<_, _≤_};
 ghost use lib.Dec.{ltb};
-ghost use Rattle.table.specs.Table.{tableOf};
 ghost use Rattle.table.specs.Entries.{stmtKind};
 ghost use Rattle.machine.specs.Memory.{memoryOf};
 ghost use Rattle.machine.specs.Layout.{topAt, depthAt};
 ghost use Rattle.machine.specs.Lent.{Lent};
+ghost use Rattle.code.specs.Code.{decoded};
 ghost use Rattle.operands.specs.Ready.{contextIn};
 ghost use Rattle.effects.specs.Effects.{carried, Stepped, Standing};
-ghost use Rattle.calls.specs.Entering.{Invoking, Entering, Ending};
+ghost use Rattle.calls.specs.Entering.{Invoking, Entering};
 
 // A frame with variables of `size` words does not fit the area of process p.
 pub fn is_over(state: &[u8], p: usize, size: usize) -> bool
@@ -28,10 +28,7 @@ pub fn is_over(state: &[u8], p: usize, size: usize) -> bool
 
 // The frame of a call of procedure q, whose arguments are the first n words of the buffer (01, A step).
 fn enter_local(
-    t: &[u8],
-    s: table::Sections,
-    sizes: &[u16],
-    offsets: &[u16],
+    c: &code::Slots,
     state: &mut [u8],
     page: &[u8],
     x: Context,
@@ -39,108 +36,81 @@ fn enter_local(
     buffer: &[u16],
     n: usize,
 ) -> u8
-    requires { ⌜ Entering (now t) s (now sizes) (now offsets) (now state) (now page) x q (memoryOf (now state)) (x .works) (now buffer) n ⌝ }
-    ensures { λ r. ⌜ Stepped r (now (state .exit)) (now (page .entry)) (carried (tableOf (s .w) (now (t .entry))) (memoryOf (now (state .entry))) (memoryOf (now (page .entry))) (contextIn x)) ⌝ }
+    requires { ⌜ Entering (now c) (now state) (now page) x q (memoryOf (now state)) (x .works) (now buffer) n ⌝ }
+    ensures { λ r. ⌜ Stepped r (now (state .exit)) (now (page .entry)) (carried (decoded (now (c .entry))) (memoryOf (now (state .entry))) (memoryOf (now (page .entry))) (contextIn x)) ⌝ }
 {
-    let size = frame_words(t, s, sizes, offsets, q);
+    let size = frame_words(c, q);
     if is_over(state, x.process, size) {
         return effects::fail(state, Failure::AreaFull);
     }
-    frames::push_local(t, s, state, x.process, q, size, n, buffer);
+    frames::push_local(c, state, x.process, q, size, n, buffer);
     0
 }
 
 // A call with arguments: they are all evaluated before anything is stored.
 fn call_local(
-    t: &[u8],
-    s: table::Sections,
-    types: &[u16],
-    sizes: &[u16],
-    offsets: &[u16],
-    places: &[u16],
+    c: &code::Slots,
     state: &mut [u8],
     page: &[u8],
     x: Context,
     q: usize,
-    c: usize,
+    from: usize,
     d: usize,
 ) -> u8
-    requires { ⌜ Invoking (now t) s (now types) (now sizes) (now offsets) (now places) (now state) (now page) x q c d (memoryOf (now state)) (x .works) ⌝ }
-    requires { ⌜ (c < 65536) × (d < 65536) ⌝ }
-    ensures { λ r. ⌜ Stepped r (now (state .exit)) (now (page .entry)) (carried (tableOf (s .w) (now (t .entry))) (memoryOf (now (state .entry))) (memoryOf (now (page .entry))) (contextIn x)) ⌝ }
+    requires { ⌜ Invoking (now c) (now state) (now page) x q from d (memoryOf (now state)) (x .works) ⌝ }
+    requires { ⌜ (from < 65536) × (d < 65536) ⌝ }
+    ensures { λ r. ⌜ Stepped r (now (state .exit)) (now (page .entry)) (carried (decoded (now (c .entry))) (memoryOf (now (state .entry))) (memoryOf (now (page .entry))) (contextIn x)) ⌝ }
 {
     let mut buffer = [0u16; 256];
-    let g = arguments(
-        t,
-        s,
-        types,
-        sizes,
-        offsets,
-        places,
-        state,
-        page,
-        x,
-        &mut buffer[..],
-        q,
-        c,
-        d,
-    );
+    let g = arguments(c, state, page, x, &mut buffer[..], q, from, d);
     match g {
         Gathered::Fail(f) => effects::fail(state, f),
-        Gathered::Count(n) => enter_local(t, s, sizes, offsets, state, page, x, q, &buffer[..], n),
+        Gathered::Count(n) => enter_local(c, state, page, x, q, &buffer[..], n),
     }
 }
 
 // 11.3: a call within the module.
-pub fn local_call(
-    t: &[u8],
-    s: table::Sections,
-    types: &[u16],
-    sizes: &[u16],
-    offsets: &[u16],
-    places: &[u16],
-    state: &mut [u8],
-    page: &[u8],
-    x: Context,
-) -> u8
-    requires { ⌜ Standing (now t) s (now types) (now sizes) (now offsets) (now places) (now state) (now page) x ⌝ }
-    requires { ⌜ stmtKind (tableOf (s .w) (now t)) (x .statement) ≡ 2 ⌝ }
-    ensures { λ r. ⌜ Stepped r (now (state .exit)) (now (page .entry)) (carried (tableOf (s .w) (now (t .entry))) (memoryOf (now (state .entry))) (memoryOf (now (page .entry))) (contextIn x)) ⌝ }
+pub fn local_call(c: &code::Slots, state: &mut [u8], page: &[u8], x: Context) -> u8
+    requires { ⌜ Standing (now c) (now state) (now page) x ⌝ }
+    requires { ⌜ stmtKind (decoded (now c)) (x .statement) ≡ 2 ⌝ }
+    ensures { λ r. ⌜ Stepped r (now (state .exit)) (now (page .entry)) (carried (decoded (now (c .entry))) (memoryOf (now (state .entry))) (memoryOf (now (page .entry))) (contextIn x)) ⌝ }
 {
-    let q = table::stmt_a(t, s, x.statement);
-    let c = table::stmt_c(t, s, x.statement);
-    let d = table::stmt_d(t, s, x.statement);
+    let q = code::stmt_a(c, x.statement);
+    let from = code::stmt_c(c, x.statement);
+    let d = code::stmt_d(c, x.statement);
     if d == 0 {
         let none = [0u16; 1];
-        return enter_local(t, s, sizes, offsets, state, page, x, q, &none[..], 0);
+        return enter_local(c, state, page, x, q, &none[..], 0);
     }
-    call_local(t, s, types, sizes, offsets, places, state, page, x, q, c, d)
+    call_local(c, state, page, x, q, from, d)
 }
 
 // The end of a call: the process stands after the call statement, where it stood before (12.2, 13).
-fn return_from(t: &[u8], s: table::Sections, state: &mut [u8], page: &[u8], x: Context) -> u8
-    requires { ⌜ Ending (now t) s (now state) (now page) x ⌝ }
+fn return_from(c: &code::Slots, state: &mut [u8], page: &[u8], x: Context) -> u8
+    requires { ⌜ Standing (now c) (now state) (now page) x ⌝ }
+    requires { ⌜ stmtKind (decoded (now c)) (x .statement) ≡ 13 ⌝ }
     requires { ⌜ (memoryOf (now state) (depthAt (x .process)) ≡ 0 → ⊥) ⌝ }
-    ensures { λ r. ⌜ Stepped r (now (state .exit)) (now (page .entry)) (carried (tableOf (s .w) (now (t .entry))) (memoryOf (now (state .entry))) (memoryOf (now (page .entry))) (contextIn x)) ⌝ }
+    ensures { λ r. ⌜ Stepped r (now (state .exit)) (now (page .entry)) (carried (decoded (now (c .entry))) (memoryOf (now (state .entry))) (memoryOf (now (page .entry))) (contextIn x)) ⌝ }
 {
-    let c = machine::area_word(state, x.process, x.frame + 1);
-    if table::stmt_kind(t, s, c as usize) == 3 {
-        frames::pop_process(state, x.process, c);
+    let call = machine::area_word(state, x.process, x.frame + 1);
+    if code::stmt_kind(c, call as usize) == 3 {
+        frames::pop_process(state, x.process, call);
         return 0;
     }
-    frames::pop_local(state, x.process, c);
+    frames::pop_local(state, x.process, call);
     0
 }
 
 // The end of a block ends the process, or the call that it executes (12.2, 13).
-pub fn block_end(t: &[u8], s: table::Sections, state: &mut [u8], page: &[u8], x: Context) -> u8
-    requires { ⌜ Ending (now t) s (now state) (now page) x ⌝ }
-    ensures { λ r. ⌜ Stepped r (now (state .exit)) (now (page .entry)) (carried (tableOf (s .w) (now (t .entry))) (memoryOf (now (state .entry))) (memoryOf (now (page .entry))) (contextIn x)) ⌝ }
+pub fn block_end(c: &code::Slots, state: &mut [u8], page: &[u8], x: Context) -> u8
+    requires { ⌜ Standing (now c) (now state) (now page) x ⌝ }
+    requires { ⌜ stmtKind (decoded (now c)) (x .statement) ≡ 13 ⌝ }
+    ensures { λ r. ⌜ Stepped r (now (state .exit)) (now (page .entry)) (carried (decoded (now (c .entry))) (memoryOf (now (state .entry))) (memoryOf (now (page .entry))) (contextIn x)) ⌝ }
 {
     let depth = machine::record_word(state, x.process, 7);
     if depth == 0 {
         frames::end_process(state, x.process);
         return 2;
     }
-    return_from(t, s, state, page, x)
+    return_from(c, state, page, x)
 }

@@ -2,9 +2,8 @@
 ghost use mathlib.Core.Path.{_≡_};
 ghost use Prim.Native.Nat.{_+_, _<_};
 ghost use Rattle.basics.specs.Choice.{allBelow};
-ghost use Rattle.table.specs.Table.{tableOf};
+ghost use Rattle.code.specs.Code.{decoded};
 ghost use Rattle.table.specs.Entries.{typeCount, varCount, blockCount, nodeCount, stmtCount};
-ghost use Rattle.table.specs.Reading.{Of};
 ghost use Rattle.entries.specs.Known.{spare, typeKnown, varKnown, blockKnown, usesQ, usesV, operatorKnown, nodeKnown, usesA, usesB, usesArgs, usesLink, operandsKnown, argsKnown, stmtKnown, declarationsKnown, known};
 
 // An unused field is 0.
@@ -18,16 +17,15 @@ fn spare(used: bool, x: usize) -> bool
 }
 
 // Type 3 + i.
-fn type_known(t: &[u8], s: table::Sections, i: usize) -> bool
-    requires { ⌜ Of (now t) s ⌝ }
+fn type_known(c: &code::Slots, i: usize) -> bool
     requires { ⌜ i < 65536 ⌝ }
-    ensures { λ r. ⌜ r ≡ typeKnown (tableOf (s .w) (now (t .entry))) i ⌝ }
+    ensures { λ r. ⌜ r ≡ typeKnown (decoded (now (c .entry))) i ⌝ }
 {
-    let k = table::type_kind(t, s, 3 + i);
+    let k = code::type_kind(c, 3 + i);
     if basics::between(1, 3, k) {
-        if spare(k <= 2, table::type_q(t, s, 3 + i)) {
-            if spare(k == 2, table::type_low(t, s, 3 + i)) {
-                return spare(k == 2, table::type_high(t, s, 3 + i));
+        if spare(k <= 2, code::type_q(c, 3 + i)) {
+            if spare(k == 2, code::type_low(c, 3 + i)) {
+                return spare(k == 2, code::type_high(c, 3 + i));
             }
             return false;
         }
@@ -36,18 +34,16 @@ fn type_known(t: &[u8], s: table::Sections, i: usize) -> bool
     false
 }
 
-fn var_known(t: &[u8], s: table::Sections, i: usize) -> bool
-    requires { ⌜ Of (now t) s ⌝ }
-    ensures { λ r. ⌜ r ≡ varKnown (tableOf (s .w) (now (t .entry))) i ⌝ }
+fn var_known(c: &code::Slots, i: usize) -> bool
+    ensures { λ r. ⌜ r ≡ varKnown (decoded (now (c .entry))) i ⌝ }
 {
-    table::var_mode(t, s, i) <= 2
+    code::var_mode(c, i) <= 2
 }
 
-fn block_known(t: &[u8], s: table::Sections, i: usize) -> bool
-    requires { ⌜ Of (now t) s ⌝ }
-    ensures { λ r. ⌜ r ≡ blockKnown (tableOf (s .w) (now (t .entry))) i ⌝ }
+fn block_known(c: &code::Slots, i: usize) -> bool
+    ensures { λ r. ⌜ r ≡ blockKnown (decoded (now (c .entry))) i ⌝ }
 {
-    table::block_kind(t, s, i) <= 2
+    code::block_kind(c, i) <= 2
 }
 
 fn uses_q(k: usize) -> bool
@@ -68,29 +64,27 @@ fn uses_v(k: usize) -> bool
     k == 6
 }
 
-fn operator_known(t: &[u8], s: table::Sections, i: usize) -> bool
-    requires { ⌜ Of (now t) s ⌝ }
-    ensures { λ r. ⌜ r ≡ operatorKnown (tableOf (s .w) (now (t .entry))) i ⌝ }
+fn operator_known(c: &code::Slots, i: usize) -> bool
+    ensures { λ r. ⌜ r ≡ operatorKnown (decoded (now (c .entry))) i ⌝ }
 {
-    let k = table::node_kind(t, s, i);
+    let k = code::node_kind(c, i);
     if k == 5 {
-        return basics::between(1, 3, table::node_q(t, s, i));
+        return basics::between(1, 3, code::node_q(c, i));
     }
     if k == 6 {
-        return basics::between(1, 13, table::node_v(t, s, i));
+        return basics::between(1, 13, code::node_v(c, i));
     }
     true
 }
 
-fn node_known(t: &[u8], s: table::Sections, i: usize) -> bool
-    requires { ⌜ Of (now t) s ⌝ }
-    ensures { λ r. ⌜ r ≡ nodeKnown (tableOf (s .w) (now (t .entry))) i ⌝ }
+fn node_known(c: &code::Slots, i: usize) -> bool
+    ensures { λ r. ⌜ r ≡ nodeKnown (decoded (now (c .entry))) i ⌝ }
 {
-    let k = table::node_kind(t, s, i);
+    let k = code::node_kind(c, i);
     if k <= 7 {
-        if spare(uses_q(k), table::node_q(t, s, i)) {
-            if spare(uses_v(k), table::node_v(t, s, i)) {
-                return operator_known(t, s, i);
+        if spare(uses_q(k), code::node_q(c, i)) {
+            if spare(uses_v(k), code::node_v(c, i)) {
+                return operator_known(c, i);
             }
             return false;
         }
@@ -138,37 +132,34 @@ fn uses_link(k: usize) -> bool
     basics::between(10, 11, k)
 }
 
-fn operands_known(t: &[u8], s: table::Sections, i: usize) -> bool
-    requires { ⌜ Of (now t) s ⌝ }
-    ensures { λ r. ⌜ r ≡ operandsKnown (tableOf (s .w) (now (t .entry))) i ⌝ }
+fn operands_known(c: &code::Slots, i: usize) -> bool
+    ensures { λ r. ⌜ r ≡ operandsKnown (decoded (now (c .entry))) i ⌝ }
 {
-    let k = table::stmt_kind(t, s, i);
-    if spare(uses_a(k), table::stmt_a(t, s, i)) {
-        return spare(uses_b(k), table::stmt_b(t, s, i));
+    let k = code::stmt_kind(c, i);
+    if spare(uses_a(k), code::stmt_a(c, i)) {
+        return spare(uses_b(k), code::stmt_b(c, i));
     }
     false
 }
 
-fn args_known(t: &[u8], s: table::Sections, i: usize) -> bool
-    requires { ⌜ Of (now t) s ⌝ }
-    ensures { λ r. ⌜ r ≡ argsKnown (tableOf (s .w) (now (t .entry))) i ⌝ }
+fn args_known(c: &code::Slots, i: usize) -> bool
+    ensures { λ r. ⌜ r ≡ argsKnown (decoded (now (c .entry))) i ⌝ }
 {
-    let k = table::stmt_kind(t, s, i);
-    if spare(uses_args(k), table::stmt_c(t, s, i)) {
-        return spare(uses_args(k), table::stmt_d(t, s, i));
+    let k = code::stmt_kind(c, i);
+    if spare(uses_args(k), code::stmt_c(c, i)) {
+        return spare(uses_args(k), code::stmt_d(c, i));
     }
     false
 }
 
-fn stmt_known(t: &[u8], s: table::Sections, i: usize) -> bool
-    requires { ⌜ Of (now t) s ⌝ }
-    ensures { λ r. ⌜ r ≡ stmtKnown (tableOf (s .w) (now (t .entry))) i ⌝ }
+fn stmt_known(c: &code::Slots, i: usize) -> bool
+    ensures { λ r. ⌜ r ≡ stmtKnown (decoded (now (c .entry))) i ⌝ }
 {
-    let k = table::stmt_kind(t, s, i);
+    let k = code::stmt_kind(c, i);
     if k <= 13 {
-        if operands_known(t, s, i) {
-            if args_known(t, s, i) {
-                return spare(uses_link(k), table::stmt_link(t, s, i));
+        if operands_known(c, i) {
+            if args_known(c, i) {
+                return spare(uses_link(k), code::stmt_link(c, i));
             }
             return false;
         }
@@ -177,14 +168,13 @@ fn stmt_known(t: &[u8], s: table::Sections, i: usize) -> bool
     false
 }
 
-fn types_known(t: &[u8], s: table::Sections) -> bool
-    requires { ⌜ Of (now t) s ⌝ }
-    ensures { λ r. ⌜ r ≡ allBelow (typeCount (tableOf (s .w) (now (t .entry)))) (typeKnown (tableOf (s .w) (now (t .entry)))) ⌝ }
+fn types_known(c: &code::Slots) -> bool
+    ensures { λ r. ⌜ r ≡ allBelow (typeCount (decoded (now (c .entry)))) (typeKnown (decoded (now (c .entry)))) ⌝ }
 {
-    let n = table::types(t, s);
+    let n = code::types(c);
     let mut i = 0;
     while i < n {
-        if type_known(t, s, i) {
+        if type_known(c, i) {
             i += 1;
         } else {
             return false;
@@ -193,14 +183,13 @@ fn types_known(t: &[u8], s: table::Sections) -> bool
     true
 }
 
-fn vars_known(t: &[u8], s: table::Sections) -> bool
-    requires { ⌜ Of (now t) s ⌝ }
-    ensures { λ r. ⌜ r ≡ allBelow (varCount (tableOf (s .w) (now (t .entry)))) (varKnown (tableOf (s .w) (now (t .entry)))) ⌝ }
+fn vars_known(c: &code::Slots) -> bool
+    ensures { λ r. ⌜ r ≡ allBelow (varCount (decoded (now (c .entry)))) (varKnown (decoded (now (c .entry)))) ⌝ }
 {
-    let n = table::variables(t, s);
+    let n = code::variables(c);
     let mut i = 0;
     while i < n {
-        if var_known(t, s, i) {
+        if var_known(c, i) {
             i += 1;
         } else {
             return false;
@@ -209,14 +198,13 @@ fn vars_known(t: &[u8], s: table::Sections) -> bool
     true
 }
 
-fn blocks_known(t: &[u8], s: table::Sections) -> bool
-    requires { ⌜ Of (now t) s ⌝ }
-    ensures { λ r. ⌜ r ≡ allBelow (blockCount (tableOf (s .w) (now (t .entry)))) (blockKnown (tableOf (s .w) (now (t .entry)))) ⌝ }
+fn blocks_known(c: &code::Slots) -> bool
+    ensures { λ r. ⌜ r ≡ allBelow (blockCount (decoded (now (c .entry)))) (blockKnown (decoded (now (c .entry)))) ⌝ }
 {
-    let n = table::blocks(t, s);
+    let n = code::blocks(c);
     let mut i = 0;
     while i < n {
-        if block_known(t, s, i) {
+        if block_known(c, i) {
             i += 1;
         } else {
             return false;
@@ -225,14 +213,13 @@ fn blocks_known(t: &[u8], s: table::Sections) -> bool
     true
 }
 
-fn nodes_known(t: &[u8], s: table::Sections) -> bool
-    requires { ⌜ Of (now t) s ⌝ }
-    ensures { λ r. ⌜ r ≡ allBelow (nodeCount (tableOf (s .w) (now (t .entry)))) (nodeKnown (tableOf (s .w) (now (t .entry)))) ⌝ }
+fn nodes_known(c: &code::Slots) -> bool
+    ensures { λ r. ⌜ r ≡ allBelow (nodeCount (decoded (now (c .entry)))) (nodeKnown (decoded (now (c .entry)))) ⌝ }
 {
-    let n = table::nodes(t, s);
+    let n = code::nodes(c);
     let mut i = 0;
     while i < n {
-        if node_known(t, s, i) {
+        if node_known(c, i) {
             i += 1;
         } else {
             return false;
@@ -241,14 +228,13 @@ fn nodes_known(t: &[u8], s: table::Sections) -> bool
     true
 }
 
-fn stmts_known(t: &[u8], s: table::Sections) -> bool
-    requires { ⌜ Of (now t) s ⌝ }
-    ensures { λ r. ⌜ r ≡ allBelow (stmtCount (tableOf (s .w) (now (t .entry)))) (stmtKnown (tableOf (s .w) (now (t .entry)))) ⌝ }
+fn stmts_known(c: &code::Slots) -> bool
+    ensures { λ r. ⌜ r ≡ allBelow (stmtCount (decoded (now (c .entry)))) (stmtKnown (decoded (now (c .entry)))) ⌝ }
 {
-    let n = table::statements(t, s);
+    let n = code::statements(c);
     let mut i = 0;
     while i < n {
-        if stmt_known(t, s, i) {
+        if stmt_known(c, i) {
             i += 1;
         } else {
             return false;
@@ -257,13 +243,12 @@ fn stmts_known(t: &[u8], s: table::Sections) -> bool
     true
 }
 
-fn declarations_known(t: &[u8], s: table::Sections) -> bool
-    requires { ⌜ Of (now t) s ⌝ }
-    ensures { λ r. ⌜ r ≡ declarationsKnown (tableOf (s .w) (now (t .entry))) ⌝ }
+fn declarations_known(c: &code::Slots) -> bool
+    ensures { λ r. ⌜ r ≡ declarationsKnown (decoded (now (c .entry))) ⌝ }
 {
-    if types_known(t, s) {
-        if vars_known(t, s) {
-            return blocks_known(t, s);
+    if types_known(c) {
+        if vars_known(c) {
+            return blocks_known(c);
         }
         return false;
     }
@@ -271,13 +256,12 @@ fn declarations_known(t: &[u8], s: table::Sections) -> bool
 }
 
 // Whether the table escapes refusal 3.
-pub fn all_known(t: &[u8], s: table::Sections) -> bool
-    requires { ⌜ Of (now t) s ⌝ }
-    ensures { λ r. ⌜ r ≡ known (tableOf (s .w) (now (t .entry))) ⌝ }
+pub fn all_known(c: &code::Slots) -> bool
+    ensures { λ r. ⌜ r ≡ known (decoded (now (c .entry))) ⌝ }
 {
-    if declarations_known(t, s) {
-        if nodes_known(t, s) {
-            return stmts_known(t, s);
+    if declarations_known(c) {
+        if nodes_known(c) {
+            return stmts_known(c);
         }
         return false;
     }

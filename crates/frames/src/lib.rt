@@ -3,9 +3,9 @@ ghost use mathlib.Core.Path.{_≡_};
 ghost use mathlib.Core.List.{[], _∷_};
 ghost use Prim.Native.Nat.{ℕ, _+_, _-_, _*_, _≤_, _<_};
 ghost use lib.ListN.{length, take};
-ghost use Rattle.table.specs.Table.{Table, tableOf};
-ghost use Rattle.table.specs.Reading.{Of};
+ghost use Rattle.table.specs.Table.{Table};
 ghost use Rattle.sizes.specs.Sizes.{moduleWords};
+ghost use Rattle.code.specs.Code.{decoded};
 ghost use Rattle.machine.specs.Memory.{Memory, memoryOf, update, store, clear, wordsAt};
 ghost use Rattle.machine.specs.Layout.{location, recordAt, statementAt, worksAt, holderAt, failureAt};
 ghost use Rattle.machine.specs.Lent.{Lent, Changed};
@@ -260,8 +260,7 @@ pub fn begin(state: &mut [u8], r: usize, c: u16, size: u16, n: usize, words: &[u
 
 // Process p calls procedure q of its own module; the first n words of the buffer are the arguments.
 pub fn push_local(
-    t: &[u8],
-    s: table::Sections,
+    c: &code::Slots,
     state: &mut [u8],
     p: usize,
     q: usize,
@@ -269,22 +268,20 @@ pub fn push_local(
     n: usize,
     words: &[u16],
 )
-    requires { ⌜ Of (now t) s ⌝ }
     requires { ⌜ Lent 17664 (now state) ⌝ }
     requires { ⌜ Fits (memoryOf (now state)) p size ⌝ }
     requires { ⌜ (n ≤ size) × ((n ≤ length (now words)) × (q < 65536)) ⌝ }
-    requires { ⌜ size ≡ frameWords (tableOf (s .w) (now t)) q ⌝ }
-    ensures { λ _. ⌜ ((page : Memory) → Changed 17664 (now (state .exit)) (pushed (tableOf (s .w) (now (t .entry))) (memoryOf (now (state .entry))) page (contextOf (memoryOf (now (state .entry))) p) (memoryOf (now (state .entry))) q (memoryOf (now (state .entry)) (worksAt p)) (take n (now (words .entry))))) ⌝ }
+    requires { ⌜ size ≡ frameWords (decoded (now c)) q ⌝ }
+    ensures { λ _. ⌜ ((page : Memory) → Changed 17664 (now (state .exit)) (pushed (decoded (now (c .entry))) (memoryOf (now (state .entry))) page (contextOf (memoryOf (now (state .entry))) p) (memoryOf (now (state .entry))) q (memoryOf (now (state .entry)) (worksAt p)) (take n (now (words .entry))))) ⌝ }
 {
-    let c = table::first_stmt(t, s, q);
+    let first = code::first_stmt(c, q);
     let works = machine::record_word(state, p, 5);
-    enter(state, p, q as u16, works, c as u16, size, n, words);
+    enter(state, p, q as u16, works, first as u16, size, n, words);
 }
 
 // Process p calls procedure q of process r, and holds its variables.
 pub fn push_process(
-    t: &[u8],
-    s: table::Sections,
+    c: &code::Slots,
     state: &mut [u8],
     p: usize,
     q: usize,
@@ -293,16 +290,15 @@ pub fn push_process(
     n: usize,
     words: &[u16],
 )
-    requires { ⌜ Of (now t) s ⌝ }
     requires { ⌜ Lent 17664 (now state) ⌝ }
     requires { ⌜ Fits (memoryOf (now state)) p size ⌝ }
     requires { ⌜ (n ≤ size) × ((n ≤ length (now words)) × ((q < 65536) × ((1 ≤ r) × (r ≤ 64)))) ⌝ }
-    requires { ⌜ size ≡ frameWords (tableOf (s .w) (now t)) q ⌝ }
-    ensures { λ _. ⌜ ((page : Memory) → Changed 17664 (now (state .exit)) (pushed (tableOf (s .w) (now (t .entry))) (memoryOf (now (state .entry))) page (contextOf (memoryOf (now (state .entry))) p) (update (memoryOf (now (state .entry))) (holderAt r) p) q r (take n (now (words .entry))))) ⌝ }
+    requires { ⌜ size ≡ frameWords (decoded (now c)) q ⌝ }
+    ensures { λ _. ⌜ ((page : Memory) → Changed 17664 (now (state .exit)) (pushed (decoded (now (c .entry))) (memoryOf (now (state .entry))) page (contextOf (memoryOf (now (state .entry))) p) (update (memoryOf (now (state .entry))) (holderAt r) p) q r (take n (now (words .entry))))) ⌝ }
 {
-    let c = table::first_stmt(t, s, q);
+    let first = code::first_stmt(c, q);
     hold(state, r, p as u16);
-    enter(state, p, q as u16, r as u16, c as u16, size, n, words);
+    enter(state, p, q as u16, r as u16, first as u16, size, n, words);
 }
 
 // The end of a local call, whose statement is c.
@@ -329,8 +325,7 @@ pub fn pop_process(state: &mut [u8], p: usize, c: u16)
 
 // Process r, of module b, is started; the first n words of the buffer are its parameters.
 pub fn start(
-    t: &[u8],
-    s: table::Sections,
+    c: &code::Slots,
     state: &mut [u8],
     r: usize,
     b: usize,
@@ -338,15 +333,14 @@ pub fn start(
     n: usize,
     words: &[u16],
 )
-    requires { ⌜ Of (now t) s ⌝ }
     requires { ⌜ Lent 17664 (now state) ⌝ }
     requires { ⌜ (1 ≤ r) × (r ≤ 64) ⌝ }
     requires { ⌜ (n ≤ 256) × ((n ≤ length (now words)) × (size < 65536)) ⌝ }
-    requires { ⌜ size ≡ moduleWords (tableOf (s .w) (now t)) b ⌝ }
-    ensures { λ _. ⌜ Changed 17664 (now (state .exit)) (started (tableOf (s .w) (now (t .entry))) (memoryOf (now (state .entry))) r b (take n (now (words .entry)))) ⌝ }
+    requires { ⌜ size ≡ moduleWords (decoded (now c)) b ⌝ }
+    ensures { λ _. ⌜ Changed 17664 (now (state .exit)) (started (decoded (now (c .entry))) (memoryOf (now (state .entry))) r b (take n (now (words .entry)))) ⌝ }
 {
-    let c = table::first_stmt(t, s, b);
-    begin(state, r, c as u16, size as u16, n, words);
+    let first = code::first_stmt(c, b);
+    begin(state, r, first as u16, size as u16, n, words);
 }
 
 // An assignment: the first n words of the buffer to `at`; process p goes on at statement c.
@@ -382,26 +376,24 @@ pub fn create_at(state: &mut [u8], p: usize, c: u16, n: usize, block: u16, at: u
     go_to(state, p, c);
 }
 
-// Process r, of module b, is started, and process p goes on at statement c.
+// Process r, of module b, is started, and process p goes on at statement next.
 pub fn start_on(
-    t: &[u8],
-    s: table::Sections,
+    c: &code::Slots,
     state: &mut [u8],
     p: usize,
-    c: u16,
+    next: u16,
     r: usize,
     b: usize,
     size: usize,
     n: usize,
     words: &[u16],
 )
-    requires { ⌜ Of (now t) s ⌝ }
     requires { ⌜ Lent 17664 (now state) ⌝ }
     requires { ⌜ (1 ≤ p) × ((p ≤ 64) × ((1 ≤ r) × (r ≤ 64))) ⌝ }
     requires { ⌜ (n ≤ 256) × ((n ≤ length (now words)) × (size < 65536)) ⌝ }
-    requires { ⌜ size ≡ moduleWords (tableOf (s .w) (now t)) b ⌝ }
-    ensures { λ _. ⌜ Changed 17664 (now (state .exit)) (update (started (tableOf (s .w) (now (t .entry))) (memoryOf (now (state .entry))) r b (take n (now (words .entry)))) (statementAt p) c) ⌝ }
+    requires { ⌜ size ≡ moduleWords (decoded (now c)) b ⌝ }
+    ensures { λ _. ⌜ Changed 17664 (now (state .exit)) (update (started (decoded (now (c .entry))) (memoryOf (now (state .entry))) r b (take n (now (words .entry)))) (statementAt p) next) ⌝ }
 {
-    start(t, s, state, r, b, size, n, words);
-    go_to(state, p, c);
+    start(c, state, r, b, size, n, words);
+    go_to(state, p, next);
 }

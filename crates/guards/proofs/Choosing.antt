@@ -9,12 +9,12 @@ use Rattle.basics.specs.Choice.{pick}
 use Rattle.table.specs.Table.{Table}
 use Rattle.table.specs.Entries.{stmtCount, stmtKind, stmtA, stmtLink}
 use Rattle.table.specs.Reading.{Field}
-use Rattle.table.specs.declared.Sections.{Sections}
 use Rattle.numbers.proofs.OperandPromise.{arm-guard}
 use Rattle.words.specs.Outcomes.{outcomeOf}
 use Rattle.words.specs.declared.values.Failure.{Failure}
 use Rattle.words.specs.declared.values.Value.{Value}
 use Rattle.words.specs.declared.values.Value.the-variants as value
+use Rattle.code.specs.Code.{decoded}
 use Rattle.machine.specs.Memory.{Memory, memoryOf}
 use Rattle.machine.specs.Context as machine
 use Rattle.machine.specs.Outcomes.{Outcome, ok, stuck, need, onWord}
@@ -23,7 +23,6 @@ use Rattle.machine.specs.Statements.{Choice, enters, skips, choose}
 use Rattle.operands.specs.declared.Context.{Context}
 use Rattle.operands.specs.Answers.{firstWord, Unstuck, Evaluable}
 use Rattle.operands.specs.Ready.{contextIn, Ready}
-use Rattle.operands.proofs.Selecting.{tab}
 use Rattle.guards.specs.declared.Found.the-variants.{Arm, End, Fails}
 use Rattle.guards.specs.Guards.{Choosable, Choosing, Chosen}
 use Rattle.guards.proofs.Arms.{through, same-unstuck, word-unstuck, word-failed, word-given, at-arm, arms-there, end-is}
@@ -118,14 +117,14 @@ module _ (T : Table) (m page : Memory) (x : machine.Context) where
                     unstuck = c .unstuck;
                   }
 
-module _ (t : List ℕ) (s : Sections) (y z o f m p : List ℕ) (x : Context) (h : Ready t s y z o f m p x) (i j : ℕ) where
-  pub guard-evaluable : Choosing (tab t s) (memoryOf m) (memoryOf p) (contextIn x) i j
-      → (k : ℕ) → Field (stmtKind (tab t s) j) k → k ≡ 10
-      → Evaluable (tab t s) (memoryOf m) (memoryOf p) (contextIn x) (stmtA (tab t s) j)
+module _ (t m p : List ℕ) (x : Context) (h : Ready t m p x) (i j : ℕ) where
+  pub guard-evaluable : Choosing (decoded t) (memoryOf m) (memoryOf p) (contextIn x) i j
+      → (k : ℕ) → Field (stmtKind (decoded t) j) k → k ≡ 10
+      → Evaluable (decoded t) (memoryOf m) (memoryOf p) (contextIn x) (stmtA (decoded t) j)
   guard-evaluable c k hk e =
       record {
-        expression = arm-guard (tab t s) (h .prepared .ranged) j (guard-below (tab t s) (memoryOf m) (memoryOf p) (contextIn x) i j c k hk e) (sym (hk .is) ∙ e);
-        unstuck = guard-unstuck (tab t s) (memoryOf m) (memoryOf p) (contextIn x) i j c k hk e;
+        expression = arm-guard (decoded t) (h .ranged) j (guard-below (decoded t) (memoryOf m) (memoryOf p) (contextIn x) i j c k hk e) (sym (hk .is) ∙ e);
+        unstuck = guard-unstuck (decoded t) (memoryOf m) (memoryOf p) (contextIn x) i j c k hk e;
       }
 
 pub ruleset chooses = (choosing-none, choose-ends, choose-fails, choose-enters, choosing-less, choosing-more, guard-evaluable)

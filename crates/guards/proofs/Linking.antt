@@ -9,12 +9,11 @@ use borrow.Author.Tests.{eqb-true, eqb-false, ne-eqb, ltb-true}
 use Rattle.basics.specs.Choice.{pick, cases}
 use Rattle.table.specs.Table.{Table}
 use Rattle.table.specs.Entries.{stmtCount, stmtKind, stmtLink}
-use Rattle.table.specs.Reading.{Of, Field}
-use Rattle.table.specs.declared.Sections.{Sections}
-use Rattle.table.proofs.Cells.{count-is}
+use Rattle.table.specs.Reading.{Field}
+use Rattle.code.specs.Code.{decoded}
 use Rattle.machine.specs.Memory.{Memory, memoryOf, update}
 use Rattle.machine.specs.Layout.{statementAt}
-use Rattle.machine.specs.Lent.{Lent, Changed}
+use Rattle.machine.specs.Lent.{Changed}
 use Rattle.machine.specs.Context as machine
 use Rattle.machine.specs.Outcomes.{Outcome, ok, stuck, need}
 use Rattle.machine.specs.Entries.{repeats, stmtAt}
@@ -22,13 +21,10 @@ use Rattle.machine.specs.Statements.{Effect, onOpener, endOf, goTo, goOn, doEnd
 use Rattle.operands.specs.declared.Context.{Context}
 use Rattle.operands.specs.Ready.{contextIn}
 use Rattle.effects.specs.Effects.{carried, Stepped, Standing}
-use Rattle.effects.proofs.Carrying.{statement-there, performs-skip, performs-arm, performs-end, stepped}
-use Rattle.operands.proofs.Selecting.{tab}
-use Rattle.guards.specs.Guards.{openerOf, endAt, Linked, Linking, Ended, Plain}
+use Rattle.effects.proofs.Carrying.{performs-skip, performs-arm, performs-end, stepped}
+use Rattle.guards.specs.Guards.{openerOf, endAt, Linked, Linking, Ended}
+use Rattle.guards.proofs.Standing.{stands-lent, stands-page, stands-small}
 use Rattle.guards.proofs.Arms.{through, need-is, same-unstuck, at-arm, at-end, arms-there, end-kind, end-is, opener-there, opener-is}
-
-pub count-small : (t : List ℕ) (s : Sections) → Of t s → stmtCount (tab t s) < 65536
-count-small t s o = let f = count-is t s o 6 (omega arith) in rw (← f .is) (f .small)
 
 module _ (T : Table) where
   -- an arm that is passed
@@ -168,76 +164,50 @@ module _ (k a b r : ℕ) where
 
 pub ruleset nexts = (next-while, next-cycle, next-on)
 
--- ---- the laws of statements with no operands
-pub plain : (t : List ℕ) (s : Sections) (y z o f m p : List ℕ) (x : Context) → Standing t s y z o f m p x → Plain t s m p x
-plain t s y z o f m p x h =
-    record {
-      table = h .ready .table;
-      state = h .ready .state;
-      page = h .ready .page;
-      low = h .ready .context .processLow;
-      high = h .ready .context .processHigh;
-      unstuck = h .unstuck;
-    }
-
-module _ (t : List ℕ) (s : Sections) (m p : List ℕ) (x : Context) (h : Plain t s m p x) where
-  pub plain-table : Of t s
-  plain-table = h .table
-
-  pub plain-lent : Lent 17664 m
-  plain-lent = record { long = h .state }
-
-  plain-page : Changed 4096 p (memoryOf p)
-  plain-page = record { long = h .page; is = refl }
-
-  pub plain-small : x .statement < 65535
-  unfolding contextIn
-  plain-small =
-      let b = statement-there (tab t s) (memoryOf m) (memoryOf p) (contextIn x) (h .unstuck) in
-      let c = count-small t s (h .table) in omega arith
-
-  pub skip-returns : stmtKind (tab t s) (x .statement) ≡ 0 → (m1 : List ℕ)
+-- ---- the laws of `skip` and `end_arm`
+module _ (t m p : List ℕ) (x : Context) (h : Standing t m p x) where
+  pub skip-returns : stmtKind (decoded t) (x .statement) ≡ 0 → (m1 : List ℕ)
       → Changed 17664 m1 (update (memoryOf m) (statementAt (x .process)) (x .statement + 1))
-      → Stepped 0 m1 p (carried (tab t s) (memoryOf m) (memoryOf p) (contextIn x))
+      → Stepped 0 m1 p (carried (decoded t) (memoryOf m) (memoryOf p) (contextIn x))
   unfolding goOn goTo contextIn
   skip-returns e m1 i =
-      stepped (tab t s) m p m1 p (contextIn x) 0 _ (memoryOf p)
-      (performs-skip (tab t s) (memoryOf m) (memoryOf p) (contextIn x) (h .unstuck) e) i plain-page
+      stepped (decoded t) m p m1 p (contextIn x) 0 _ (memoryOf p)
+      (performs-skip (decoded t) (memoryOf m) (memoryOf p) (contextIn x) (h .unstuck) e) i (stands-page t m p x h)
 
-  module _ (l : 10 ≤ stmtKind (tab t s) (x .statement)) (k : stmtKind (tab t s) (x .statement) ≤ 11) where
-    ends : perform (tab t s) (memoryOf m) (memoryOf p) (contextIn x) (stmtAt (tab t s) (x .statement))
-        ≡ doEnd (tab t s) (memoryOf m) (memoryOf p) (contextIn x)
+  module _ (l : 10 ≤ stmtKind (decoded t) (x .statement)) (k : stmtKind (decoded t) (x .statement) ≤ 11) where
+    performs : perform (decoded t) (memoryOf m) (memoryOf p) (contextIn x) (stmtAt (decoded t) (x .statement))
+        ≡ doEnd (decoded t) (memoryOf m) (memoryOf p) (contextIn x)
     unfolding contextIn
-    ends =
-        cases (eqb (stmtKind (tab t s) (x .statement)) 10)
-        (λ e. performs-arm (tab t s) (memoryOf m) (memoryOf p) (contextIn x) (h .unstuck) (eqb-true (stmtKind (tab t s) (x .statement)) 10 e))
-        (λ e. performs-end (tab t s) (memoryOf m) (memoryOf p) (contextIn x) (h .unstuck) (let q = eqb-false (stmtKind (tab t s) (x .statement)) 10 e in omega arith))
+    performs =
+        cases (eqb (stmtKind (decoded t) (x .statement)) 10)
+        (λ e. performs-arm (decoded t) (memoryOf m) (memoryOf p) (contextIn x) (h .unstuck) (eqb-true (stmtKind (decoded t) (x .statement)) 10 e))
+        (λ e. performs-end (decoded t) (memoryOf m) (memoryOf p) (contextIn x) (h .unstuck) (let q = eqb-false (stmtKind (decoded t) (x .statement)) 10 e in omega arith))
 
-    unstuck-end : doEnd (tab t s) (memoryOf m) (memoryOf p) (contextIn x) ≡ stuck → ⊥
-    unstuck-end = same-unstuck (sym ends) (h .unstuck)
+    unstuck-end : doEnd (decoded t) (memoryOf m) (memoryOf p) (contextIn x) ≡ stuck → ⊥
+    unstuck-end = same-unstuck (sym performs) (h .unstuck)
 
-    pub arms-linked : Linked (tab t s) (x .statement)
+    pub arms-linked : Linked (decoded t) (x .statement)
     unfolding contextIn
-    arms-linked = end-linked (tab t s) (memoryOf m) (memoryOf p) (contextIn x) unstuck-end
+    arms-linked = end-linked (decoded t) (memoryOf m) (memoryOf p) (contextIn x) unstuck-end
 
-    module _ (i : ℕ) (d : Ended (tab t s) (x .statement) i) where
+    module _ (i : ℕ) (d : Ended (decoded t) (x .statement) i) where
       pub end-small : i < 65535
-      end-small = let b = d .below in let c = count-small t s (h .table) in omega arith
+      end-small = let b = d .below in let s = h .statements in omega arith
 
-      pub opener-small : (j : ℕ) → Field (stmtLink (tab t s) i) j → j < 65535
+      pub opener-small : (j : ℕ) → Field (stmtLink (decoded t) i) j → j < 65535
       unfolding contextIn
       opener-small j hj =
-          let b = end-opener (tab t s) (memoryOf m) (memoryOf p) (contextIn x) unstuck-end i (d .is) in
-          let c = count-small t s (h .table) in let e = hj .is in omega arith
+          let b = end-opener (decoded t) (memoryOf m) (memoryOf p) (contextIn x) unstuck-end i (d .is) in
+          let s = h .statements in let e = hj .is in omega arith
 
-      pub end-returns : (j v c : ℕ) → Field (stmtLink (tab t s) i) j → Field (stmtKind (tab t s) j) v
+      pub end-returns : (j v c : ℕ) → Field (stmtLink (decoded t) i) j → Field (stmtKind (decoded t) j) v
           → c ≡ pick (repeats (openerOf v)) j (i + 1) → (m1 : List ℕ)
           → Changed 17664 m1 (update (memoryOf m) (statementAt (x .process)) c)
-          → Stepped 0 m1 p (carried (tab t s) (memoryOf m) (memoryOf p) (contextIn x))
+          → Stepped 0 m1 p (carried (decoded t) (memoryOf m) (memoryOf p) (contextIn x))
       unfolding goTo contextIn
       end-returns j v c hj hv hc m1 q =
-          let e : c ≡ pick (repeats (openerOf (stmtKind (tab t s) (stmtLink (tab t s) i)))) (stmtLink (tab t s) i) (i + 1) = rw (hc, hv .is, hj .is) in
-          stepped (tab t s) m p m1 p (contextIn x) 0 _ (memoryOf p)
-          (ends ∙ end-goes (tab t s) (memoryOf m) (memoryOf p) (contextIn x) unstuck-end i (d .is)) (rw e at q) plain-page
+          let e : c ≡ pick (repeats (openerOf (stmtKind (decoded t) (stmtLink (decoded t) i)))) (stmtLink (decoded t) i) (i + 1) = rw (hc, hv .is, hj .is) in
+          stepped (decoded t) m p m1 p (contextIn x) 0 _ (memoryOf p)
+          (performs ∙ end-goes (decoded t) (memoryOf m) (memoryOf p) (contextIn x) unstuck-end i (d .is)) (rw e at q) (stands-page t m p x h)
 
-pub ruleset plainly = (plain-table, plain-lent, plain-small, skip-returns, arms-linked, end-small, opener-small, end-returns)
+pub ruleset ends = (stands-lent, stands-small, skip-returns, arms-linked, end-small, opener-small, end-returns)

@@ -1,6 +1,6 @@
 -- An if, while, when or cycle: what its guards may ask, and each return. Assumes nothing.
 use Prim.Native.Nat.{ℕ, _+_, _≤_, _<_}
-use mathlib.Core.Path.{_≡_, refl, sym, _∙_}
+use mathlib.Core.Path.{_≡_, sym, _∙_}
 use mathlib.Core.Bool.{Bool, true, false}
 use mathlib.Core.List.{List}
 use lib.Dec.{eqb, leb}
@@ -11,27 +11,26 @@ use mir.Syntax.{w64}
 use Rattle.basics.specs.Choice.{pick, cases}
 use Rattle.table.specs.Table.{Table}
 use Rattle.table.specs.Entries.{stmtCount, stmtKind}
-use Rattle.table.specs.Reading.{Of, Field}
-use Rattle.table.specs.declared.Sections.{Sections}
+use Rattle.table.specs.Reading.{Field}
 use Rattle.words.specs.Outcomes.{failureNumber}
 use Rattle.words.specs.declared.values.Failure.{Failure}
+use Rattle.code.specs.Code.{decoded}
 use Rattle.machine.specs.Memory.{Memory, memoryOf, update}
 use Rattle.machine.specs.Layout.{statementAt, holderAt, failureAt}
-use Rattle.machine.specs.Lent.{Lent, Changed}
+use Rattle.machine.specs.Lent.{Changed}
 use Rattle.machine.specs.Context as machine
 use Rattle.machine.specs.Outcomes.{stuck, andThen}
 use Rattle.machine.specs.Entries.{Opener, waits, stmtAt}
 use Rattle.machine.specs.Statements.{goTo, wait, choose, chosen, doOpener, perform}
 use Rattle.operands.specs.declared.Context.{Context}
-use Rattle.operands.specs.Ready.{contextIn, Ready}
+use Rattle.operands.specs.Ready.{contextIn}
 use Rattle.effects.specs.Effects.{carried, Stepped, Standing}
-use Rattle.effects.proofs.Carrying.{statement-there, performs-if, performs-while, performs-when, performs-cycle, stepped, stepped-fail}
-use Rattle.operands.proofs.Selecting.{tab}
+use Rattle.effects.proofs.Carrying.{performs-if, performs-while, performs-when, performs-cycle, stepped, stepped-fail}
 use Rattle.guards.specs.declared.Found.{Found}
 use Rattle.guards.specs.declared.Found.the-variants.{Arm, End, Fails}
 use Rattle.guards.specs.Guards.{openerOf, Choosable, Chosen, Going}
 use Rattle.guards.proofs.Arms.{first-outcome, same-unstuck, opener-follows}
-use Rattle.guards.proofs.Linking.{count-small}
+use Rattle.guards.proofs.Standing.{stands-ready, stands-lent, stands-page, stands-small}
 
 waits-is : (k v : ℕ) → k ≤ 9 → v ≡ k → leb 8 v ≡ waits (openerOf k)
 unfolding openerOf waits
@@ -70,66 +69,48 @@ module _ (T : Table) (m page : Memory) (x : machine.Context) (k : Opener) where
   unfolding doOpener
   opens g = opener-follows T (x .statement + 1) _ g
 
-module _ (t : List ℕ) (s : Sections) (y z o f m p : List ℕ) (x : Context) (h : Standing t s y z o f m p x) where
-  pub stands-ready : Ready t s y z o f m p x
-  stands-ready = h .ready
-
-  pub stands-table : Of t s
-  stands-table = h .ready .table
-
-  pub stands-lent : Lent 17664 m
-  stands-lent = record { long = h .ready .state }
-
-  stands-page : Changed 4096 p (memoryOf p)
-  stands-page = record { long = h .ready .page; is = refl }
-
-  opener-small : x .statement < 65535
-  unfolding contextIn
-  opener-small =
-      let b = statement-there (tab t s) (memoryOf m) (memoryOf p) (contextIn x) (h .unstuck) in
-      let c = count-small t s (h .ready .table) in omega arith
-
+module _ (t m p : List ℕ) (x : Context) (h : Standing t m p x) where
   pub opener-fits : Fits w64 (x .statement + 1)
-  opener-fits = let l = opener-small in record { fits = omega arith }
+  opener-fits = let l = stands-small t m p x h in record { fits = omega arith }
 
-  module _ (l : 6 ≤ stmtKind (tab t s) (x .statement)) (k : stmtKind (tab t s) (x .statement) ≤ 9) where
-    performs : perform (tab t s) (memoryOf m) (memoryOf p) (contextIn x) (stmtAt (tab t s) (x .statement))
-        ≡ doOpener (tab t s) (memoryOf m) (memoryOf p) (contextIn x) (openerOf (stmtKind (tab t s) (x .statement)))
+  module _ (l : 6 ≤ stmtKind (decoded t) (x .statement)) (k : stmtKind (decoded t) (x .statement) ≤ 9) where
+    performs : perform (decoded t) (memoryOf m) (memoryOf p) (contextIn x) (stmtAt (decoded t) (x .statement))
+        ≡ doOpener (decoded t) (memoryOf m) (memoryOf p) (contextIn x) (openerOf (stmtKind (decoded t) (x .statement)))
     unfolding contextIn openerOf
     performs =
-        cases (eqb (stmtKind (tab t s) (x .statement)) 7)
-        (λ e. rw e (performs-while (tab t s) (memoryOf m) (memoryOf p) (contextIn x) (h .unstuck) (eqb-true (stmtKind (tab t s) (x .statement)) 7 e)))
+        cases (eqb (stmtKind (decoded t) (x .statement)) 7)
+        (λ e. rw e (performs-while (decoded t) (memoryOf m) (memoryOf p) (contextIn x) (h .unstuck) (eqb-true (stmtKind (decoded t) (x .statement)) 7 e)))
         (λ e7.
-        cases (eqb (stmtKind (tab t s) (x .statement)) 8)
-        (λ e. rw (e7, e) (performs-when (tab t s) (memoryOf m) (memoryOf p) (contextIn x) (h .unstuck) (eqb-true (stmtKind (tab t s) (x .statement)) 8 e)))
+        cases (eqb (stmtKind (decoded t) (x .statement)) 8)
+        (λ e. rw (e7, e) (performs-when (decoded t) (memoryOf m) (memoryOf p) (contextIn x) (h .unstuck) (eqb-true (stmtKind (decoded t) (x .statement)) 8 e)))
         (λ e8.
-        cases (eqb (stmtKind (tab t s) (x .statement)) 9)
-        (λ e. rw (e7, e8, e) (performs-cycle (tab t s) (memoryOf m) (memoryOf p) (contextIn x) (h .unstuck) (eqb-true (stmtKind (tab t s) (x .statement)) 9 e)))
+        cases (eqb (stmtKind (decoded t) (x .statement)) 9)
+        (λ e. rw (e7, e8, e) (performs-cycle (decoded t) (memoryOf m) (memoryOf p) (contextIn x) (h .unstuck) (eqb-true (stmtKind (decoded t) (x .statement)) 9 e)))
         (λ e9.
-        let a = eqb-false (stmtKind (tab t s) (x .statement)) 7 e7 in
-        let b = eqb-false (stmtKind (tab t s) (x .statement)) 8 e8 in
-        let c = eqb-false (stmtKind (tab t s) (x .statement)) 9 e9 in
-        rw (e7, e8, e9) (performs-if (tab t s) (memoryOf m) (memoryOf p) (contextIn x) (h .unstuck) (omega arith)))))
+        let a = eqb-false (stmtKind (decoded t) (x .statement)) 7 e7 in
+        let b = eqb-false (stmtKind (decoded t) (x .statement)) 8 e8 in
+        let c = eqb-false (stmtKind (decoded t) (x .statement)) 9 e9 in
+        rw (e7, e8, e9) (performs-if (decoded t) (memoryOf m) (memoryOf p) (contextIn x) (h .unstuck) (omega arith)))))
 
-    chooses : perform (tab t s) (memoryOf m) (memoryOf p) (contextIn x) (stmtAt (tab t s) (x .statement))
-        ≡ andThen (choose (tab t s) (memoryOf m) (memoryOf p) (contextIn x) (stmtCount (tab t s)) (x .statement + 1))
-        (chosen (tab t s) (memoryOf m) (memoryOf p) (contextIn x) (openerOf (stmtKind (tab t s) (x .statement))))
+    chooses : perform (decoded t) (memoryOf m) (memoryOf p) (contextIn x) (stmtAt (decoded t) (x .statement))
+        ≡ andThen (choose (decoded t) (memoryOf m) (memoryOf p) (contextIn x) (stmtCount (decoded t)) (x .statement + 1))
+        (chosen (decoded t) (memoryOf m) (memoryOf p) (contextIn x) (openerOf (stmtKind (decoded t) (x .statement))))
     unfolding contextIn
-    chooses = performs ∙ opens (tab t s) (memoryOf m) (memoryOf p) (contextIn x) _ (same-unstuck (sym performs) (h .unstuck))
+    chooses = performs ∙ opens (decoded t) (memoryOf m) (memoryOf p) (contextIn x) _ (same-unstuck (sym performs) (h .unstuck))
 
-    pub opener-choosable : Choosable (tab t s) (memoryOf m) (memoryOf p) (contextIn x) (x .statement + 1)
+    pub opener-choosable : Choosable (decoded t) (memoryOf m) (memoryOf p) (contextIn x) (x .statement + 1)
     opener-choosable = record { unstuck = first-outcome _ _ (same-unstuck (sym chooses) (h .unstuck)) }
 
-    module _ (r : Found) (c : Chosen (tab t s) (memoryOf m) (memoryOf p) (contextIn x) (x .statement + 1) r) where
-      going : (i : ℕ) → i < stmtCount (tab t s) → Going m x i
+    module _ (r : Found) (c : Chosen (decoded t) (memoryOf m) (memoryOf p) (contextIn x) (x .statement + 1) r) where
+      going : (i : ℕ) → i < stmtCount (decoded t) → Going m x i
       going i b =
           record {
-            state = stands-lent;
+            state = stands-lent t m p x h;
             processLow = h .ready .context .processLow;
             processHigh = h .ready .context .processHigh;
             worksLow = h .ready .context .worksLow;
             worksHigh = h .ready .context .worksHigh;
-            small = let d = count-small t s (h .ready .table) in omega arith;
+            small = let d = h .statements in omega arith;
           }
 
       pub arm-going : (i : ℕ) → r ≡ Arm i → Going m x i
@@ -140,41 +121,41 @@ module _ (t : List ℕ) (s : Sections) (y z o f m p : List ℕ) (x : Context) (h
 
       pub opener-fails : (e : Failure) → r ≡ Fails e → (n : ℕ) (m1 : List ℕ) → n ≡ failureNumber e
           → Changed 17664 m1 (update (memoryOf m) failureAt (failureNumber e))
-          → Stepped n m1 p (carried (tab t s) (memoryOf m) (memoryOf p) (contextIn x))
+          → Stepped n m1 p (carried (decoded t) (memoryOf m) (memoryOf p) (contextIn x))
       unfolding andThen contextIn
       opener-fails e q n m1 u v =
           let d = rw q at c in
-          stepped-fail (tab t s) m p m1 p (contextIn x) (failureNumber e) n
+          stepped-fail (decoded t) m p m1 p (contextIn x) (failureNumber e) n
           (chooses ∙ rw (← d .is)) u v (h .ready .page)
 
-      module _ (v : ℕ) (hv : Field (stmtKind (tab t s) (x .statement)) v) where
-        same : leb 8 v ≡ waits (openerOf (stmtKind (tab t s) (x .statement)))
-        same = waits-is (stmtKind (tab t s) (x .statement)) v k (hv .is)
+      module _ (v : ℕ) (hv : Field (stmtKind (decoded t) (x .statement)) v) where
+        same : leb 8 v ≡ waits (openerOf (stmtKind (decoded t) (x .statement)))
+        same = waits-is (stmtKind (decoded t) (x .statement)) v k (hv .is)
 
         pub opener-enters : (i : ℕ) → r ≡ Arm i → (n : ℕ) (m1 : List ℕ) → n ≡ 0
             → Changed 17664 m1 (update (pick (leb 8 v) (update (memoryOf m) (holderAt (x .works)) (x .process)) (memoryOf m)) (statementAt (x .process)) (i + 1))
-            → Stepped n m1 p (carried (tab t s) (memoryOf m) (memoryOf p) (contextIn x))
+            → Stepped n m1 p (carried (decoded t) (memoryOf m) (memoryOf p) (contextIn x))
         unfolding andThen chosen goTo contextIn
         opener-enters i q n m1 u w =
             let d = rw q at c in
             rw u
-            (stepped (tab t s) m p m1 p (contextIn x) 0 _ (memoryOf p)
-            (chooses ∙ rw (← d .is)) (rw same at w) stands-page)
+            (stepped (decoded t) m p m1 p (contextIn x) 0 _ (memoryOf p)
+            (chooses ∙ rw (← d .is)) (rw same at w) (stands-page t m p x h))
 
         pub opener-passes : (i : ℕ) → r ≡ End i → (n : ℕ) (m1 : List ℕ) → n ≡ pick (leb 8 v) 1 0
             → Changed 17664 m1 (pick (leb 8 v) (update (memoryOf m) (holderAt (x .works)) 0) (update (memoryOf m) (statementAt (x .process)) (i + 1)))
-            → Stepped n m1 p (carried (tab t s) (memoryOf m) (memoryOf p) (contextIn x))
+            → Stepped n m1 p (carried (decoded t) (memoryOf m) (memoryOf p) (contextIn x))
         unfolding andThen chosen goTo wait contextIn
         opener-passes i q n m1 u w =
             let d = rw q at c in
-            cases (waits (openerOf (stmtKind (tab t s) (x .statement))))
+            cases (waits (openerOf (stmtKind (decoded t) (x .statement))))
             (λ e.
             let g : n ≡ 1 = u ∙ rw (same, e) in
             rw g
-            (stepped (tab t s) m p m1 p (contextIn x) 1 _ (memoryOf p) (chooses ∙ rw (← d .is, e)) (rw (same, e) at w) stands-page))
+            (stepped (decoded t) m p m1 p (contextIn x) 1 _ (memoryOf p) (chooses ∙ rw (← d .is, e)) (rw (same, e) at w) (stands-page t m p x h)))
             (λ e.
             let g : n ≡ 0 = u ∙ rw (same, e) in
             rw g
-            (stepped (tab t s) m p m1 p (contextIn x) 0 _ (memoryOf p) (chooses ∙ rw (← d .is, e)) (rw (same, e) at w) stands-page))
+            (stepped (decoded t) m p m1 p (contextIn x) 0 _ (memoryOf p) (chooses ∙ rw (← d .is, e)) (rw (same, e) at w) (stands-page t m p x h)))
 
-pub ruleset opening = (stands-ready, stands-table, stands-lent, opener-fits, opener-choosable, arm-going, end-going, opener-fails, opener-enters, opener-passes)
+pub ruleset opening = (stands-ready, stands-lent, opener-fits, opener-choosable, arm-going, end-going, opener-fails, opener-enters, opener-passes)

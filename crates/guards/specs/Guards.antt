@@ -2,22 +2,18 @@
 use Prim.Native.Nat.{ℕ, _≤_, _<_}
 use mathlib.Core.Path.{_≡_}
 use mathlib.Core.List.{List}
-use lib.ListN.{length}
 use lib.Dec.{eqb}
 use Rattle.basics.specs.Choice.{pick}
-use Rattle.table.specs.Table.{Table, tableOf}
+use Rattle.table.specs.Table.{Table}
 use Rattle.table.specs.Entries.{stmtCount}
-use Rattle.table.specs.Reading.{Of}
-use Rattle.table.specs.declared.Sections.{Sections}
 use Rattle.words.specs.Outcomes.{failureNumber}
-use Rattle.machine.specs.Memory.{Memory, memoryOf}
+use Rattle.machine.specs.Memory.{Memory}
 use Rattle.machine.specs.Lent.{Lent}
 use Rattle.machine.specs.Outcomes.{Outcome, ok, fail, stuck}
-use Rattle.machine.specs.Entries.{Opener, if, while, when, cycle, stmtAt}
+use Rattle.machine.specs.Entries.{Opener, if, while, when, cycle}
 use Rattle.machine.specs.Context as machine
-use Rattle.machine.specs.Statements.{Choice, enters, skips, endOf, choose, perform}
+use Rattle.machine.specs.Statements.{Choice, enters, skips, endOf, choose}
 use Rattle.operands.specs.declared.Context.{Context}
-use Rattle.operands.specs.Ready.{contextIn}
 use Rattle.guards.specs.declared.Found.{Found}
 use Rattle.guards.specs.declared.Found.the-variants.{Arm, End, Fails}
 
@@ -78,12 +74,3 @@ pub record Going (m : List ℕ) (x : Context) (i : ℕ) : Type 0 where
   pub worksLow : 1 ≤ x .works
   pub worksHigh : x .works ≤ 64
   pub small : i < 65535
-
--- what a statement with no operands is carried out with: less than effects' Standing
-pub record Plain (t : List ℕ) (s : Sections) (m p : List ℕ) (x : Context) : Type 0 where
-  pub table : Of t s
-  pub state : length m ≡ 35328
-  pub page : length p ≡ 8192
-  pub low : 1 ≤ x .process
-  pub high : x .process ≤ 64
-  pub unstuck : perform (tableOf (s .w) t) (memoryOf m) (memoryOf p) (contextIn x) (stmtAt (tableOf (s .w) t) (x .statement)) ≡ stuck → ⊥

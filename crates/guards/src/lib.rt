@@ -5,10 +5,9 @@ use words::values::Value;
 ghost use mathlib.Core.Path.{_≡_};
 ghost use Prim.Native.Nat.{_+_, _≤_, _<_};
 ghost use Rattle.basics.specs.Choice.{pick};
-ghost use Rattle.table.specs.Table.{tableOf};
 ghost use Rattle.table.specs.Entries.{stmtKind, stmtA};
-ghost use Rattle.table.specs.Reading.{Of};
 ghost use Rattle.words.specs.Outcomes.{outcomeOf};
+ghost use Rattle.code.specs.Code.{decoded};
 ghost use Rattle.machine.specs.Memory.{memoryOf, update};
 ghost use Rattle.machine.specs.Layout.{statementAt, holderAt};
 ghost use Rattle.machine.specs.Lent.{Changed};
@@ -17,7 +16,7 @@ ghost use Rattle.machine.specs.Operands.{operand};
 ghost use Rattle.operands.specs.Answers.{firstWord, Evaluable};
 ghost use Rattle.operands.specs.Ready.{contextIn, Ready};
 ghost use Rattle.effects.specs.Effects.{carried, Stepped, Standing};
-ghost use Rattle.guards.specs.Guards.{openerOf, Choosable, Chosen, Linked, Ended, Going, Plain};
+ghost use Rattle.guards.specs.Guards.{openerOf, Choosable, Chosen, Linked, Ended, Going};
 
 // The arm whose guard is the first that is true, the end of the arms where none is, or the failure of a guard.
 pub enum Found {
@@ -27,56 +26,34 @@ pub enum Found {
 }
 
 // 11.1: the process goes on.
-pub fn skip(t: &[u8], s: table::Sections, state: &mut [u8], page: &[u8], x: Context) -> u8
-    requires { ⌜ Plain (now t) s (now state) (now page) x ⌝ }
-    requires { ⌜ stmtKind (tableOf (s .w) (now t)) (x .statement) ≡ 0 ⌝ }
-    ensures { λ r. ⌜ Stepped r (now (state .exit)) (now (page .entry)) (carried (tableOf (s .w) (now (t .entry))) (memoryOf (now (state .entry))) (memoryOf (now (page .entry))) (contextIn x)) ⌝ }
+pub fn skip(c: &code::Slots, state: &mut [u8], page: &[u8], x: Context) -> u8
+    requires { ⌜ Standing (now c) (now state) (now page) x ⌝ }
+    requires { ⌜ stmtKind (decoded (now c)) (x .statement) ≡ 0 ⌝ }
+    ensures { λ r. ⌜ Stepped r (now (state .exit)) (now (page .entry)) (carried (decoded (now (c .entry))) (memoryOf (now (state .entry))) (memoryOf (now (page .entry))) (contextIn x)) ⌝ }
 {
     effects::go_on(state, x);
     0
 }
 
 // The value of the guard of arm i.
-fn guard(
-    t: &[u8],
-    s: table::Sections,
-    types: &[u16],
-    sizes: &[u16],
-    offsets: &[u16],
-    places: &[u16],
-    state: &[u8],
-    page: &[u8],
-    x: Context,
-    i: usize,
-) -> Value
-    requires { ⌜ Ready (now t) s (now types) (now sizes) (now offsets) (now places) (now state) (now page) x ⌝ }
-    requires { ⌜ Evaluable (tableOf (s .w) (now t)) (memoryOf (now state)) (memoryOf (now page)) (contextIn x) (stmtA (tableOf (s .w) (now t)) i) ⌝ }
-    ensures { λ r. ⌜ outcomeOf r ≡ firstWord (operand (tableOf (s .w) (now (t .entry))) (memoryOf (now (state .entry))) (memoryOf (now (page .entry))) (contextIn x) (stmtA (tableOf (s .w) (now (t .entry))) i)) ⌝ }
+fn guard(c: &code::Slots, state: &[u8], page: &[u8], x: Context, i: usize) -> Value
+    requires { ⌜ Ready (now c) (now state) (now page) x ⌝ }
+    requires { ⌜ Evaluable (decoded (now c)) (memoryOf (now state)) (memoryOf (now page)) (contextIn x) (stmtA (decoded (now c)) i) ⌝ }
+    ensures { λ r. ⌜ outcomeOf r ≡ firstWord (operand (decoded (now (c .entry))) (memoryOf (now (state .entry))) (memoryOf (now (page .entry))) (contextIn x) (stmtA (decoded (now (c .entry))) i)) ⌝ }
 {
-    let a = table::stmt_a(t, s, i);
-    operands::eval::eval(t, s, types, sizes, offsets, places, state, page, x, a)
+    let a = code::stmt_a(c, i);
+    operands::eval::eval(c, state, page, x, a)
 }
 
 // The guards of the arms from i on, in the order written (11.6).
-fn choose(
-    t: &[u8],
-    s: table::Sections,
-    types: &[u16],
-    sizes: &[u16],
-    offsets: &[u16],
-    places: &[u16],
-    state: &[u8],
-    page: &[u8],
-    x: Context,
-    i: usize,
-) -> Found
-    requires { ⌜ Ready (now t) s (now types) (now sizes) (now offsets) (now places) (now state) (now page) x ⌝ }
-    requires { ⌜ Choosable (tableOf (s .w) (now t)) (memoryOf (now state)) (memoryOf (now page)) (contextIn x) i ⌝ }
-    ensures { λ r. ⌜ Chosen (tableOf (s .w) (now (t .entry))) (memoryOf (now (state .entry))) (memoryOf (now (page .entry))) (contextIn x) i r ⌝ }
+fn choose(c: &code::Slots, state: &[u8], page: &[u8], x: Context, i: usize) -> Found
+    requires { ⌜ Ready (now c) (now state) (now page) x ⌝ }
+    requires { ⌜ Choosable (decoded (now c)) (memoryOf (now state)) (memoryOf (now page)) (contextIn x) i ⌝ }
+    ensures { λ r. ⌜ Chosen (decoded (now (c .entry))) (memoryOf (now (state .entry))) (memoryOf (now (page .entry))) (contextIn x) i r ⌝ }
 {
     let mut j = i;
-    while table::stmt_kind(t, s, j) == 10 {
-        let v = guard(t, s, types, sizes, offsets, places, state, page, x, j);
+    while code::stmt_kind(c, j) == 10 {
+        let v = guard(c, state, page, x, j);
         match v {
             Value::Fail(f) => {
                 return Found::Fails(f);
@@ -87,7 +64,7 @@ fn choose(
                 }
             }
         }
-        j = table::stmt_link(t, s, j);
+        j = code::stmt_link(c, j);
     }
     Found::End(j)
 }
@@ -97,11 +74,11 @@ fn enter(state: &mut [u8], x: Context, waits: bool, i: usize) -> u8
     requires { ⌜ Going (now state) x i ⌝ }
     ensures { λ r. ⌜ (r ≡ 0) × Changed 17664 (now (state .exit)) (update (pick waits (update (memoryOf (now (state .entry))) (holderAt (x .works)) (x .process)) (memoryOf (now (state .entry)))) (statementAt (x .process)) (i + 1)) ⌝ }
 {
-    let c = (i + 1) as u16;
+    let first = (i + 1) as u16;
     if waits {
-        frames::enter_arm(state, x.process, x.works, c);
+        frames::enter_arm(state, x.process, x.works, first);
     } else {
-        frames::go_to(state, x.process, c);
+        frames::go_to(state, x.process, first);
     }
     0
 }
@@ -120,24 +97,14 @@ fn pass(state: &mut [u8], x: Context, waits: bool, i: usize) -> u8
 }
 
 // An if, while, when or cycle is followed by its first arm.
-pub fn open(
-    t: &[u8],
-    s: table::Sections,
-    types: &[u16],
-    sizes: &[u16],
-    offsets: &[u16],
-    places: &[u16],
-    state: &mut [u8],
-    page: &[u8],
-    x: Context,
-) -> u8
-    requires { ⌜ Standing (now t) s (now types) (now sizes) (now offsets) (now places) (now state) (now page) x ⌝ }
-    requires { ⌜ (6 ≤ stmtKind (tableOf (s .w) (now t)) (x .statement)) × (stmtKind (tableOf (s .w) (now t)) (x .statement) ≤ 9) ⌝ }
-    ensures { λ r. ⌜ Stepped r (now (state .exit)) (now (page .entry)) (carried (tableOf (s .w) (now (t .entry))) (memoryOf (now (state .entry))) (memoryOf (now (page .entry))) (contextIn x)) ⌝ }
+pub fn open(c: &code::Slots, state: &mut [u8], page: &[u8], x: Context) -> u8
+    requires { ⌜ Standing (now c) (now state) (now page) x ⌝ }
+    requires { ⌜ (6 ≤ stmtKind (decoded (now c)) (x .statement)) × (stmtKind (decoded (now c)) (x .statement) ≤ 9) ⌝ }
+    ensures { λ r. ⌜ Stepped r (now (state .exit)) (now (page .entry)) (carried (decoded (now (c .entry))) (memoryOf (now (state .entry))) (memoryOf (now (page .entry))) (contextIn x)) ⌝ }
 {
-    let waits = 8 <= table::stmt_kind(t, s, x.statement);
+    let waits = 8 <= code::stmt_kind(c, x.statement);
     let first = x.statement + 1;
-    let r = choose(t, s, types, sizes, offsets, places, state, page, x, first);
+    let r = choose(c, state, page, x, first);
     match r {
         Found::Fails(f) => effects::fail(state, f),
         Found::Arm(i) => enter(state, x, waits, i),
@@ -146,14 +113,13 @@ pub fn open(
 }
 
 // The end of the arms from i on: each arm is linked to the next.
-fn end_of(t: &[u8], s: table::Sections, i: usize) -> usize
-    requires { ⌜ Of (now t) s ⌝ }
-    requires { ⌜ Linked (tableOf (s .w) (now t)) i ⌝ }
-    ensures { λ r. ⌜ Ended (tableOf (s .w) (now (t .entry))) i r ⌝ }
+fn end_of(c: &code::Slots, i: usize) -> usize
+    requires { ⌜ Linked (decoded (now c)) i ⌝ }
+    ensures { λ r. ⌜ Ended (decoded (now (c .entry))) i r ⌝ }
 {
     let mut j = i;
-    while table::stmt_kind(t, s, j) == 10 {
-        j = table::stmt_link(t, s, j);
+    while code::stmt_kind(c, j) == 10 {
+        j = code::stmt_link(c, j);
     }
     j
 }
@@ -173,14 +139,14 @@ fn next(k: usize, opener: usize, end: usize) -> u16
 }
 
 // An arm or end that is reached from inside: the conditional statements have been executed (11.7 to 11.10).
-pub fn end_arm(t: &[u8], s: table::Sections, state: &mut [u8], page: &[u8], x: Context) -> u8
-    requires { ⌜ Plain (now t) s (now state) (now page) x ⌝ }
-    requires { ⌜ (10 ≤ stmtKind (tableOf (s .w) (now t)) (x .statement)) × (stmtKind (tableOf (s .w) (now t)) (x .statement) ≤ 11) ⌝ }
-    ensures { λ r. ⌜ Stepped r (now (state .exit)) (now (page .entry)) (carried (tableOf (s .w) (now (t .entry))) (memoryOf (now (state .entry))) (memoryOf (now (page .entry))) (contextIn x)) ⌝ }
+pub fn end_arm(c: &code::Slots, state: &mut [u8], page: &[u8], x: Context) -> u8
+    requires { ⌜ Standing (now c) (now state) (now page) x ⌝ }
+    requires { ⌜ (10 ≤ stmtKind (decoded (now c)) (x .statement)) × (stmtKind (decoded (now c)) (x .statement) ≤ 11) ⌝ }
+    ensures { λ r. ⌜ Stepped r (now (state .exit)) (now (page .entry)) (carried (decoded (now (c .entry))) (memoryOf (now (state .entry))) (memoryOf (now (page .entry))) (contextIn x)) ⌝ }
 {
-    let end = end_of(t, s, x.statement);
-    let opener = table::stmt_link(t, s, end);
-    let c = next(table::stmt_kind(t, s, opener), opener, end);
-    frames::go_to(state, x.process, c);
+    let end = end_of(c, x.statement);
+    let opener = code::stmt_link(c, end);
+    let after = next(code::stmt_kind(c, opener), opener, end);
+    frames::go_to(state, x.process, after);
     0
 }

@@ -9,15 +9,12 @@ use borrow.Author.Needs.{needs}
 use mir.Val.{Fits}
 use mir.Syntax.{w64}
 use Rattle.basics.specs.Chain.{Chain}
-use Rattle.table.specs.Table.{Table, tableOf}
+use Rattle.table.specs.Table.{Table}
 use Rattle.table.specs.Entries.{blockCount, firstStmt, stmtCount, stmtKind, stmtLink}
 use Rattle.nesting.specs.Nest.{classOf, class, Statement, Arm, stmtEnd, bodyFrom, armEnd, armsFrom, closed, bodyEnd, armsEnd, blockEnd, blockOk, finished, nested}
-use Rattle.nesting.specs.Ends.{BodyEnds, ArmsEnds, ArmEnds, StmtEnds, BodyRest, ArmsRest}
+use Rattle.nesting.specs.Ends.{ClassIs, BodyEnds, ArmsEnds, ArmEnds, StmtEnds, BodyRest, ArmsRest}
 use Rattle.basics.proofs.Chains.{chain-none, chain-more, chain-fail, chain-all}
-use mathlib.Core.List.{List}
-use Rattle.table.specs.Reading.{Of}
-use Rattle.table.specs.declared.Sections.{Sections}
-use Rattle.table.proofs.Cells.{count-is}
+use Rattle.table.specs.Reading.{Field}
 use Rattle.nesting.proofs.Grammar.{within, stmt-is, arm-is, arms-sound, body-sound, stmt-up, stmt-in, arm-up, arm-in}
 
 module _ (T : Table) where
@@ -118,13 +115,10 @@ module _ (T : Table) where
             go zero h = absurd (omega arith)
             go (suc f) h = rw (← s .is f (omega arith), ne-eqb j 0 u, ← k, ne-eqb c 3 e) (b .is f (omega (arith, arm-moves u, arm-inside u)))
 
--- what a call asks: a sum fits, a measure falls
-pub count-small : (t : List ℕ) (s : Sections) → Of t s → stmtCount (tableOf (s .w) t) < 65536
-count-small t s o = let f = count-is t s o 6 (omega arith) in rw (← f .is) (f .small)
-
-module _ (t : List ℕ) (s : Sections) (o : Of t s) (i c : ℕ) (k : c ≡ class (tableOf (s .w) t) i) where
+-- what a call asks: a sum fits, a number is low, a measure falls
+module _ (T : Table) (i c : ℕ) (k : ClassIs T i c) where
   fits : c < 5 → Fits w64 (i + 1)
-  fits e = let h = within (tableOf (s .w) t) i (omega arith) in let m = count-small t s o in record { fits = omega arith }
+  fits e = let h = k .small e in record { fits = omega arith }
 
   pub fits-0 : c ≡ 0 → Fits w64 (i + 1)
   fits-0 e = fits (omega arith)
@@ -138,8 +132,8 @@ module _ (t : List ℕ) (s : Sections) (o : Of t s) (i c : ℕ) (k : c ≡ class
   pub fits-4 : c ≡ 4 → Fits w64 (i + 1)
   fits-4 e = fits (omega arith)
 
-pub fits-end : (t : List ℕ) (s : Sections) → Of t s → (i : ℕ) → class (tableOf (s .w) t) i ≡ 3 → Fits w64 (i + 1)
-fits-end t s o i e = fits t s o i (class (tableOf (s .w) t) i) refl (omega arith)
+  pub end-low : c ≡ 3 → i < 65536
+  end-low e = k .small (omega arith)
 
 module _ (T : Table) (i c : ℕ) (k : c ≡ class T i) where
   module _ (m : ℕ) (g : 2 * (stmtCount T - i) ≡ m) where
@@ -150,14 +144,14 @@ module _ (T : Table) (i c : ℕ) (k : c ≡ class T i) where
     falls-arm-body e = let h = within T i (omega arith) in omega arith
 
 -- the class of a statement
-module _ (T : Table) (i n : ℕ) (h : n ≡ stmtCount T) where
-  pub class-is : (k r : ℕ) → i < n → k ≡ stmtKind T i → r ≡ classOf k → r ≡ class T i
+module _ (T : Table) (i n : ℕ) (h : Field (stmtCount T) n) where
+  pub class-is : (k r : ℕ) → i < n → k ≡ stmtKind T i → r ≡ classOf k → ClassIs T i r
   unfolding class
-  class-is k r l e g = rw (← h, lt-ltb i n l, ← e) g
+  class-is k r l e g = record { is = rw (← h .is, lt-ltb i n l, ← e) g; small = λ q. omega (arith, h .small) }
 
-  pub class-none : n ≤ i → 5 ≡ class T i
+  pub class-none : n ≤ i → ClassIs T i 5
   unfolding class
-  class-none l = rw (← h, le-ltb i n l)
+  class-none l = record { is = rw (← h .is, le-ltb i n l); small = λ q. absurd (omega arith) }
 
 -- the loop over a body
 module _ (T : Table) (i : ℕ) where
@@ -236,7 +230,7 @@ pub ruleset bodies = (body-whole, body-fails, body-stops, body-more, body-less)
 
 pub ruleset armlists = (arms-whole, arms-fail, arms-stop, arms-more, arms-less)
 
-pub ruleset calls = (fits-0, fits-1, fits-2, fits-4, falls-stmt-arms, falls-arm-body, needs)
+pub ruleset calls = (fits-0, fits-1, fits-2, falls-stmt-arms, falls-arm-body, needs)
 
 pub ruleset blocks = (block-apart, block-empty, block-done)
 

@@ -3,7 +3,12 @@ use mathlib.Core.Path.{_≡_}
 use Prim.Native.Nat.{ℕ, _+_, _-_, _≤_, _<_}
 use Rattle.table.specs.Table.{Table}
 use Rattle.table.specs.Entries.{stmtCount}
-use Rattle.nesting.specs.Nest.{stmtEnd, armEnd, bodyEnd, armsEnd}
+use Rattle.nesting.specs.Nest.{class, stmtEnd, armEnd, bodyEnd, armsEnd}
+
+-- r is the class of statement i; a statement that has one is among the table's, which are few
+pub record ClassIs (T : Table) (i r : ℕ) : Type 0 where
+  pub is : r ≡ class T i
+  pub small : r < 5 → i < 65536
 
 pub record BodyEnds (T : Table) (i r : ℕ) : Type 0 where
   pub is : (f : ℕ) → stmtCount T - i < f → r ≡ bodyEnd f T i

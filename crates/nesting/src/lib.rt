@@ -1,10 +1,10 @@
 // The rule of nesting, refusal 6 of the table's verdict: statements nest in the blocks as in the report's 4.2 and 11.6.
 // The functions of a body and of arms call each other: the stack is as deep as the statements nest.
 ghost use mathlib.Core.Path.{_≡_};
-ghost use Rattle.table.specs.Table.{tableOf};
-ghost use Rattle.table.specs.Reading.{Of};
-ghost use Rattle.nesting.specs.Nest.{classOf, class, closed, finished, blockEnd, nested};
-ghost use Rattle.nesting.specs.Ends.{BodyEnds, ArmsEnds, ArmEnds, StmtEnds};
+ghost use Prim.Native.Nat.{_<_};
+ghost use Rattle.code.specs.Code.{decoded};
+ghost use Rattle.nesting.specs.Nest.{classOf, closed, finished, blockEnd, nested};
+ghost use Rattle.nesting.specs.Ends.{ClassIs, BodyEnds, ArmsEnds, ArmEnds, StmtEnds};
 
 fn class_of(k: usize) -> usize
     ensures { λ r. ⌜ r ≡ classOf k ⌝ }
@@ -31,43 +31,40 @@ fn class_of(k: usize) -> usize
 }
 
 // The class of statement i; past the last there is none.
-fn stmt_class(t: &[u8], s: table::Sections, i: usize) -> usize
-    requires { ⌜ Of (now t) s ⌝ }
-    ensures { λ r. ⌜ r ≡ class (tableOf (s .w) (now (t .entry))) i ⌝ }
+fn stmt_class(c: &code::Slots, i: usize) -> usize
+    ensures { λ r. ⌜ ClassIs (decoded (now (c .entry))) i r ⌝ }
 {
-    if i < table::statements(t, s) {
-        return class_of(table::stmt_kind(t, s, i));
+    if i < code::statements(c) {
+        return class_of(code::stmt_kind(c, i));
     }
     5
 }
 
 // The number after the statement at i, or 0 where there is none.
-fn stmt_end(t: &[u8], s: table::Sections, i: usize) -> usize
-    requires { ⌜ Of (now t) s ⌝ }
-    ensures { λ r. ⌜ StmtEnds (tableOf (s .w) (now (t .entry))) i r ⌝ }
+fn stmt_end(c: &code::Slots, i: usize) -> usize
+    ensures { λ r. ⌜ StmtEnds (decoded (now (c .entry))) i r ⌝ }
 {
-    let c = stmt_class(t, s, i);
-    if c == 0 {
+    let class = stmt_class(c, i);
+    if class == 0 {
         return i + 1;
     }
-    if c == 1 {
-        return arms_end(t, s, i, i + 1);
+    if class == 1 {
+        return arms_end(c, i, i + 1);
     }
     0
 }
 
 // The number after the body that begins at i, or 0 where there is none.
-fn body_end(t: &[u8], s: table::Sections, i: usize) -> usize
-    requires { ⌜ Of (now t) s ⌝ }
-    ensures { λ r. ⌜ BodyEnds (tableOf (s .w) (now (t .entry))) i r ⌝ }
+fn body_end(c: &code::Slots, i: usize) -> usize
+    ensures { λ r. ⌜ BodyEnds (decoded (now (c .entry))) i r ⌝ }
 {
     let mut j = i;
     loop {
-        let k = stmt_end(t, s, j);
+        let k = stmt_end(c, j);
         if k == 0 {
             return 0; // no statement begins at j
         }
-        if 2 <= stmt_class(t, s, k) {
+        if 2 <= stmt_class(c, k) {
             return k;
         }
         j = k;
@@ -75,57 +72,53 @@ fn body_end(t: &[u8], s: table::Sections, i: usize) -> usize
 }
 
 // The number after the body of the arm at i, which is its link, or 0 where that is not so.
-fn arm_end(t: &[u8], s: table::Sections, i: usize) -> usize
-    requires { ⌜ Of (now t) s ⌝ }
-    ensures { λ r. ⌜ ArmEnds (tableOf (s .w) (now (t .entry))) i r ⌝ }
+fn arm_end(c: &code::Slots, i: usize) -> usize
+    ensures { λ r. ⌜ ArmEnds (decoded (now (c .entry))) i r ⌝ }
 {
-    if stmt_class(t, s, i) != 2 {
+    if stmt_class(c, i) != 2 {
         return 0;
     }
-    let j = body_end(t, s, i + 1);
-    if table::stmt_link(t, s, i) == j {
+    let j = body_end(c, i + 1);
+    if code::stmt_link(c, i) == j {
         return j;
     }
     0
 }
 
 // The number after the end at j, or 0 where it is not that of opener o.
-fn closing(t: &[u8], s: table::Sections, o: usize, j: usize) -> usize
-    requires { ⌜ Of (now t) s ⌝ }
-    requires { ⌜ class (tableOf (s .w) (now t)) j ≡ 3 ⌝ }
-    ensures { λ r. ⌜ r ≡ closed (tableOf (s .w) (now (t .entry))) o j ⌝ }
+fn closing(c: &code::Slots, o: usize, j: usize) -> usize
+    requires { ⌜ j < 65536 ⌝ }
+    ensures { λ r. ⌜ r ≡ closed (decoded (now (c .entry))) o j ⌝ }
 {
-    if table::stmt_link(t, s, j) == o {
+    if code::stmt_link(c, j) == o {
         return j + 1;
     }
     0
 }
 
 // The number after the arms of opener o that begin at i, and their end; or 0 where that is not so.
-fn arms_end(t: &[u8], s: table::Sections, o: usize, i: usize) -> usize
-    requires { ⌜ Of (now t) s ⌝ }
-    ensures { λ r. ⌜ ArmsEnds (tableOf (s .w) (now (t .entry))) o i r ⌝ }
+fn arms_end(c: &code::Slots, o: usize, i: usize) -> usize
+    ensures { λ r. ⌜ ArmsEnds (decoded (now (c .entry))) o i r ⌝ }
 {
     let mut j = i;
     loop {
-        let k = arm_end(t, s, j);
+        let k = arm_end(c, j);
         if k == 0 {
             return 0;
         }
-        if stmt_class(t, s, k) == 3 {
-            return closing(t, s, o, k);
+        if stmt_class(c, k) == 3 {
+            return closing(c, o, k);
         }
         j = k;
     }
 }
 
 // The number after the block end at e of block b, or 0 where it is not there.
-fn finish(t: &[u8], s: table::Sections, b: usize, e: usize) -> usize
-    requires { ⌜ Of (now t) s ⌝ }
-    ensures { λ r. ⌜ r ≡ finished (tableOf (s .w) (now (t .entry))) b e ⌝ }
+fn finish(c: &code::Slots, b: usize, e: usize) -> usize
+    ensures { λ r. ⌜ r ≡ finished (decoded (now (c .entry))) b e ⌝ }
 {
-    if stmt_class(t, s, e) == 4 {
-        if table::stmt_a(t, s, e) == b {
+    if stmt_class(c, e) == 4 {
+        if code::stmt_a(c, e) == b {
             return e + 1;
         }
         return 0;
@@ -134,35 +127,33 @@ fn finish(t: &[u8], s: table::Sections, b: usize, e: usize) -> usize
 }
 
 // The number after block b, where j is free, or 0 where the block is not there.
-fn block_end(t: &[u8], s: table::Sections, b: usize, j: usize) -> usize
-    requires { ⌜ Of (now t) s ⌝ }
-    ensures { λ r. ⌜ r ≡ blockEnd (tableOf (s .w) (now (t .entry))) b j ⌝ }
+fn block_end(c: &code::Slots, b: usize, j: usize) -> usize
+    ensures { λ r. ⌜ r ≡ blockEnd (decoded (now (c .entry))) b j ⌝ }
 {
-    if table::first_stmt(t, s, b) == j {
-        let e = body_end(t, s, j);
+    if code::first_stmt(c, b) == j {
+        let e = body_end(c, j);
         if e == 0 {
             return 0;
         }
-        return finish(t, s, b, e);
+        return finish(c, b, e);
     }
     0
 }
 
 // The rule of nesting.
-pub fn all_nested(t: &[u8], s: table::Sections) -> bool
-    requires { ⌜ Of (now t) s ⌝ }
-    ensures { λ r. ⌜ r ≡ nested (tableOf (s .w) (now (t .entry))) ⌝ }
+pub fn all_nested(c: &code::Slots) -> bool
+    ensures { λ r. ⌜ r ≡ nested (decoded (now (c .entry))) ⌝ }
 {
-    let n = table::blocks(t, s);
+    let n = code::blocks(c);
     let mut j = 0;
     let mut b = 0;
     while b < n {
-        let e = block_end(t, s, b, j);
+        let e = block_end(c, b, j);
         if e == 0 {
             return false;
         }
         j = e;
         b += 1;
     }
-    j == table::statements(t, s)
+    j == code::statements(c)
 }

@@ -2,46 +2,42 @@
 ghost use mathlib.Core.Path.{_≡_};
 ghost use Prim.Native.Nat.{_+_, _<_};
 ghost use Rattle.basics.specs.Choice.{allBelow};
-ghost use Rattle.table.specs.Table.{tableOf};
+ghost use Rattle.code.specs.Code.{decoded};
 ghost use Rattle.table.specs.Entries.{blockCount};
-ghost use Rattle.table.specs.Reading.{Of};
 ghost use Rattle.numbers.specs.Blocks.{programPlaced, ownerRanged, blockPlaced, spaceRanged, modePlaced, variablesPlaced, blockRanged};
 
 // Block 0 is the only program and has no parameters.
-fn program_placed(t: &[u8], s: table::Sections, b: usize) -> bool
-    requires { ⌜ Of (now t) s ⌝ }
-    ensures { λ r. ⌜ r ≡ programPlaced (tableOf (s .w) (now (t .entry))) b ⌝ }
+fn program_placed(c: &code::Slots, b: usize) -> bool
+    ensures { λ r. ⌜ r ≡ programPlaced (decoded (now (c .entry))) b ⌝ }
 {
-    let k = table::block_kind(t, s, b);
+    let k = code::block_kind(c, b);
     if b == 0 {
         if k == 0 {
-            return table::block_params(t, s, b) == 0;
+            return code::block_params(c, b) == 0;
         }
         return false;
     }
     1 <= k
 }
 
-fn owner_ranged(t: &[u8], s: table::Sections, b: usize) -> bool
-    requires { ⌜ Of (now t) s ⌝ }
-    ensures { λ r. ⌜ r ≡ ownerRanged (tableOf (s .w) (now (t .entry))) b ⌝ }
+fn owner_ranged(c: &code::Slots, b: usize) -> bool
+    ensures { λ r. ⌜ r ≡ ownerRanged (decoded (now (c .entry))) b ⌝ }
 {
-    let o = table::block_owner(t, s, b);
-    if table::block_kind(t, s, b) == 2 {
-        if o < table::blocks(t, s) {
-            return table::block_kind(t, s, o) <= 1;
+    let o = code::block_owner(c, b);
+    if code::block_kind(c, b) == 2 {
+        if o < code::blocks(c) {
+            return code::block_kind(c, o) <= 1;
         }
         return false;
     }
     o == b
 }
 
-fn space_ranged(t: &[u8], s: table::Sections, b: usize) -> bool
-    requires { ⌜ Of (now t) s ⌝ }
-    ensures { λ r. ⌜ r ≡ spaceRanged (tableOf (s .w) (now (t .entry))) b ⌝ }
+fn space_ranged(c: &code::Slots, b: usize) -> bool
+    ensures { λ r. ⌜ r ≡ spaceRanged (decoded (now (c .entry))) b ⌝ }
 {
-    let x = table::block_space(t, s, b);
-    if table::block_kind(t, s, b) == 2 {
+    let x = code::block_space(c, b);
+    if code::block_kind(c, b) == 2 {
         return x == 0;
     }
     if x <= 510 {
@@ -51,26 +47,24 @@ fn space_ranged(t: &[u8], s: table::Sections, b: usize) -> bool
 }
 
 // Variable j of block b is a parameter or a local, by its place.
-fn mode_placed(t: &[u8], s: table::Sections, b: usize, j: usize) -> bool
-    requires { ⌜ Of (now t) s ⌝ }
+fn mode_placed(c: &code::Slots, b: usize, j: usize) -> bool
     requires { ⌜ j < 65536 ⌝ }
-    ensures { λ r. ⌜ r ≡ modePlaced (tableOf (s .w) (now (t .entry))) b j ⌝ }
+    ensures { λ r. ⌜ r ≡ modePlaced (decoded (now (c .entry))) b j ⌝ }
 {
-    let m = table::var_mode(t, s, table::first_var(t, s, b) + j);
-    if j < table::block_params(t, s, b) {
+    let m = code::var_mode(c, code::first_var(c, b) + j);
+    if j < code::block_params(c, b) {
         return basics::between(1, 2, m);
     }
     m == 0
 }
 
-fn modes_placed(t: &[u8], s: table::Sections, b: usize, n: usize) -> bool
-    requires { ⌜ Of (now t) s ⌝ }
+fn modes_placed(c: &code::Slots, b: usize, n: usize) -> bool
     requires { ⌜ n < 65536 ⌝ }
-    ensures { λ r. ⌜ r ≡ allBelow n (modePlaced (tableOf (s .w) (now (t .entry))) b) ⌝ }
+    ensures { λ r. ⌜ r ≡ allBelow n (modePlaced (decoded (now (c .entry))) b) ⌝ }
 {
     let mut j = 0;
     while j < n {
-        if mode_placed(t, s, b, j) {
+        if mode_placed(c, b, j) {
             j += 1;
         } else {
             return false;
@@ -79,35 +73,32 @@ fn modes_placed(t: &[u8], s: table::Sections, b: usize, n: usize) -> bool
     true
 }
 
-fn variables_placed(t: &[u8], s: table::Sections, b: usize) -> bool
-    requires { ⌜ Of (now t) s ⌝ }
-    ensures { λ r. ⌜ r ≡ variablesPlaced (tableOf (s .w) (now (t .entry))) b ⌝ }
+fn variables_placed(c: &code::Slots, b: usize) -> bool
+    ensures { λ r. ⌜ r ≡ variablesPlaced (decoded (now (c .entry))) b ⌝ }
 {
-    let n = table::block_vars(t, s, b);
-    if table::block_params(t, s, b) <= n {
-        return modes_placed(t, s, b, n);
+    let n = code::block_vars(c, b);
+    if code::block_params(c, b) <= n {
+        return modes_placed(c, b, n);
     }
     false
 }
 
-fn block_placed(t: &[u8], s: table::Sections, b: usize) -> bool
-    requires { ⌜ Of (now t) s ⌝ }
-    ensures { λ r. ⌜ r ≡ blockPlaced (tableOf (s .w) (now (t .entry))) b ⌝ }
+fn block_placed(c: &code::Slots, b: usize) -> bool
+    ensures { λ r. ⌜ r ≡ blockPlaced (decoded (now (c .entry))) b ⌝ }
 {
-    if program_placed(t, s, b) {
-        return owner_ranged(t, s, b);
+    if program_placed(c, b) {
+        return owner_ranged(c, b);
     }
     false
 }
 
-fn block_ranged(t: &[u8], s: table::Sections, b: usize) -> bool
-    requires { ⌜ Of (now t) s ⌝ }
-    ensures { λ r. ⌜ r ≡ blockRanged (tableOf (s .w) (now (t .entry))) b ⌝ }
+fn block_ranged(c: &code::Slots, b: usize) -> bool
+    ensures { λ r. ⌜ r ≡ blockRanged (decoded (now (c .entry))) b ⌝ }
 {
-    if block_placed(t, s, b) {
-        if table::first_stmt(t, s, b) < table::statements(t, s) {
-            if space_ranged(t, s, b) {
-                return variables_placed(t, s, b);
+    if block_placed(c, b) {
+        if code::first_stmt(c, b) < code::statements(c) {
+            if space_ranged(c, b) {
+                return variables_placed(c, b);
             }
             return false;
         }
@@ -116,14 +107,13 @@ fn block_ranged(t: &[u8], s: table::Sections, b: usize) -> bool
     false
 }
 
-pub fn all_blocks(t: &[u8], s: table::Sections) -> bool
-    requires { ⌜ Of (now t) s ⌝ }
-    ensures { λ r. ⌜ r ≡ allBelow (blockCount (tableOf (s .w) (now (t .entry)))) (blockRanged (tableOf (s .w) (now (t .entry)))) ⌝ }
+pub fn all_blocks(c: &code::Slots) -> bool
+    ensures { λ r. ⌜ r ≡ allBelow (blockCount (decoded (now (c .entry)))) (blockRanged (decoded (now (c .entry)))) ⌝ }
 {
-    let n = table::blocks(t, s);
+    let n = code::blocks(c);
     let mut i = 0;
     while i < n {
-        if block_ranged(t, s, i) {
+        if block_ranged(c, i) {
             i += 1;
         } else {
             return false;

@@ -2,30 +2,27 @@
 ghost use mathlib.Core.Path.{_≡_};
 ghost use Prim.Native.Nat.{_+_, _<_};
 ghost use Rattle.basics.specs.Choice.{allBelow};
-ghost use Rattle.table.specs.Table.{tableOf};
+ghost use Rattle.code.specs.Code.{decoded};
 ghost use Rattle.table.specs.Entries.{typeCount, varCount, blockCount};
-ghost use Rattle.table.specs.Reading.{Of};
 ghost use Rattle.numbers.specs.Declarations.{fieldBelow, recordRanged, arrayRanged, typeRanged, namedOnce, modulesOnce, varRanged};
 ghost use Rattle.numbers.specs.Marking.{Clear, Named, moduleMarked};
 use super::sorts;
 
 // Field j of record x has a type with a lower number.
-fn field_below(t: &[u8], s: table::Sections, x: usize, j: usize) -> bool
-    requires { ⌜ Of (now t) s ⌝ }
+fn field_below(c: &code::Slots, x: usize, j: usize) -> bool
     requires { ⌜ j < 65536 ⌝ }
-    ensures { λ r. ⌜ r ≡ fieldBelow (tableOf (s .w) (now (t .entry))) x j ⌝ }
+    ensures { λ r. ⌜ r ≡ fieldBelow (decoded (now (c .entry))) x j ⌝ }
 {
-    table::field_type(t, s, table::type_p(t, s, x) + j) < x
+    code::field_type(c, code::type_p(c, x) + j) < x
 }
 
-fn fields_below(t: &[u8], s: table::Sections, x: usize, q: usize) -> bool
-    requires { ⌜ Of (now t) s ⌝ }
+fn fields_below(c: &code::Slots, x: usize, q: usize) -> bool
     requires { ⌜ q < 65536 ⌝ }
-    ensures { λ r. ⌜ r ≡ allBelow q (fieldBelow (tableOf (s .w) (now (t .entry))) x) ⌝ }
+    ensures { λ r. ⌜ r ≡ allBelow q (fieldBelow (decoded (now (c .entry))) x) ⌝ }
 {
     let mut j = 0;
     while j < q {
-        if field_below(t, s, x, j) {
+        if field_below(c, x, j) {
             j += 1;
         } else {
             return false;
@@ -34,54 +31,50 @@ fn fields_below(t: &[u8], s: table::Sections, x: usize, q: usize) -> bool
     true
 }
 
-fn record_ranged(t: &[u8], s: table::Sections, x: usize) -> bool
-    requires { ⌜ Of (now t) s ⌝ }
-    ensures { λ r. ⌜ r ≡ recordRanged (tableOf (s .w) (now (t .entry))) x ⌝ }
+fn record_ranged(c: &code::Slots, x: usize) -> bool
+    ensures { λ r. ⌜ r ≡ recordRanged (decoded (now (c .entry))) x ⌝ }
 {
-    let q = table::type_q(t, s, x);
+    let q = code::type_q(c, x);
     if 1 <= q {
-        return fields_below(t, s, x, q);
+        return fields_below(c, x, q);
     }
     false
 }
 
-fn array_ranged(t: &[u8], s: table::Sections, x: usize) -> bool
-    requires { ⌜ Of (now t) s ⌝ }
-    ensures { λ r. ⌜ r ≡ arrayRanged (tableOf (s .w) (now (t .entry))) x ⌝ }
+fn array_ranged(c: &code::Slots, x: usize) -> bool
+    ensures { λ r. ⌜ r ≡ arrayRanged (decoded (now (c .entry))) x ⌝ }
 {
-    if table::type_p(t, s, x) <= 2 {
-        return table::type_q(t, s, x) < x;
+    if code::type_p(c, x) <= 2 {
+        return code::type_q(c, x) < x;
     }
     false
 }
 
 // Type 3 + i.
-fn type_ranged(t: &[u8], s: table::Sections, i: usize) -> bool
-    requires { ⌜ Of (now t) s ⌝ }
+fn type_ranged(c: &code::Slots, i: usize) -> bool
     requires { ⌜ i < 65536 ⌝ }
-    ensures { λ r. ⌜ r ≡ typeRanged (tableOf (s .w) (now (t .entry))) i ⌝ }
+    ensures { λ r. ⌜ r ≡ typeRanged (decoded (now (c .entry))) i ⌝ }
 {
-    let k = table::type_kind(t, s, 3 + i);
+    let k = code::type_kind(c, 3 + i);
     if k == 1 {
-        return record_ranged(t, s, 3 + i);
+        return record_ranged(c, 3 + i);
     }
     if k == 2 {
-        return array_ranged(t, s, 3 + i);
+        return array_ranged(c, 3 + i);
     }
     if k == 3 {
-        return sorts::block_of(t, s, 1, table::type_p(t, s, 3 + i));
+        return sorts::block_of(c, 1, code::type_p(c, 3 + i));
     }
     true
 }
 
-pub fn all_types(t: &[u8], s: table::Sections) -> bool
-    requires { ⌜ Of (now t) s ⌝ }
-    ensures { λ r. ⌜ r ≡ allBelow (typeCount (tableOf (s .w) (now (t .entry)))) (typeRanged (tableOf (s .w) (now (t .entry)))) ⌝ }
+pub fn all_types(c: &code::Slots) -> bool
+    ensures { λ r. ⌜ r ≡ allBelow (typeCount (decoded (now (c .entry)))) (typeRanged (decoded (now (c .entry)))) ⌝ }
 {
-    let n = table::types(t, s);
+    let n = code::types(c);
     let mut i = 0;
     while i < n {
-        if type_ranged(t, s, i) {
+        if type_ranged(c, i) {
             i += 1;
         } else {
             return false;
@@ -90,21 +83,19 @@ pub fn all_types(t: &[u8], s: table::Sections) -> bool
     true
 }
 
-fn var_ranged(t: &[u8], s: table::Sections, i: usize) -> bool
-    requires { ⌜ Of (now t) s ⌝ }
-    ensures { λ r. ⌜ r ≡ varRanged (tableOf (s .w) (now (t .entry))) i ⌝ }
+fn var_ranged(c: &code::Slots, i: usize) -> bool
+    ensures { λ r. ⌜ r ≡ varRanged (decoded (now (c .entry))) i ⌝ }
 {
-    table::var_type(t, s, i) < 3 + table::types(t, s)
+    code::var_type(c, i) < 3 + code::types(c)
 }
 
-pub fn all_vars(t: &[u8], s: table::Sections) -> bool
-    requires { ⌜ Of (now t) s ⌝ }
-    ensures { λ r. ⌜ r ≡ allBelow (varCount (tableOf (s .w) (now (t .entry)))) (varRanged (tableOf (s .w) (now (t .entry)))) ⌝ }
+pub fn all_vars(c: &code::Slots) -> bool
+    ensures { λ r. ⌜ r ≡ allBelow (varCount (decoded (now (c .entry)))) (varRanged (decoded (now (c .entry)))) ⌝ }
 {
-    let n = table::variables(t, s);
+    let n = code::variables(c);
     let mut i = 0;
     while i < n {
-        if var_ranged(t, s, i) {
+        if var_ranged(c, i) {
             i += 1;
         } else {
             return false;
@@ -114,47 +105,44 @@ pub fn all_vars(t: &[u8], s: table::Sections) -> bool
 }
 
 // Marks the module that type 3 + i names, where it is a process type.
-fn mark_module(t: &[u8], s: table::Sections, i: usize, marks: &mut [u8])
-    requires { ⌜ Of (now t) s ⌝ }
+fn mark_module(c: &code::Slots, i: usize, marks: &mut [u8])
     requires { ⌜ i < 65536 ⌝ }
-    ensures { λ _. ⌜ now (marks .exit) ≡ moduleMarked (tableOf (s .w) (now (t .entry))) i (now (marks .entry)) ⌝ }
+    ensures { λ _. ⌜ now (marks .exit) ≡ moduleMarked (decoded (now (c .entry))) i (now (marks .entry)) ⌝ }
 {
-    if table::type_kind(t, s, 3 + i) == 3 {
-        basics::mark(marks, table::type_p(t, s, 3 + i));
+    if code::type_kind(c, 3 + i) == 3 {
+        basics::mark(marks, code::type_p(c, 3 + i));
     }
 }
 
-fn mark_modules(t: &[u8], s: table::Sections, marks: &mut [u8])
-    requires { ⌜ Of (now t) s ⌝ }
-    requires { ⌜ Clear (tableOf (s .w) (now t)) (now marks) ⌝ }
-    ensures { λ _. ⌜ Named (tableOf (s .w) (now (t .entry))) (typeCount (tableOf (s .w) (now (t .entry)))) (now (marks .exit)) ⌝ }
+fn mark_modules(c: &code::Slots, marks: &mut [u8])
+    requires { ⌜ Clear (decoded (now c)) (now marks) ⌝ }
+    ensures { λ _. ⌜ Named (decoded (now (c .entry))) (typeCount (decoded (now (c .entry)))) (now (marks .exit)) ⌝ }
 {
-    let n = table::types(t, s);
+    let n = code::types(c);
     let mut i = 0;
     while i < n {
-        mark_module(t, s, i, marks);
+        mark_module(c, i, marks);
         i += 1;
     }
 }
 
 // Block b is marked once at most.
-fn named_once(t: &[u8], s: table::Sections, marks: &[u8], b: usize) -> bool
-    requires { ⌜ Named (tableOf (s .w) (now t)) (typeCount (tableOf (s .w) (now t))) (now marks) ⌝ }
-    requires { ⌜ b < blockCount (tableOf (s .w) (now t)) ⌝ }
-    ensures { λ r. ⌜ r ≡ namedOnce (tableOf (s .w) (now (t .entry))) b ⌝ }
+fn named_once(c: &code::Slots, marks: &[u8], b: usize) -> bool
+    requires { ⌜ Named (decoded (now c)) (typeCount (decoded (now c))) (now marks) ⌝ }
+    requires { ⌜ b < blockCount (decoded (now c)) ⌝ }
+    ensures { λ r. ⌜ r ≡ namedOnce (decoded (now (c .entry))) b ⌝ }
 {
     marks[b] <= 1
 }
 
-fn marked_once(t: &[u8], s: table::Sections, marks: &[u8]) -> bool
-    requires { ⌜ Of (now t) s ⌝ }
-    requires { ⌜ Named (tableOf (s .w) (now t)) (typeCount (tableOf (s .w) (now t))) (now marks) ⌝ }
-    ensures { λ r. ⌜ r ≡ modulesOnce (tableOf (s .w) (now (t .entry))) ⌝ }
+fn marked_once(c: &code::Slots, marks: &[u8]) -> bool
+    requires { ⌜ Named (decoded (now c)) (typeCount (decoded (now c))) (now marks) ⌝ }
+    ensures { λ r. ⌜ r ≡ modulesOnce (decoded (now (c .entry))) ⌝ }
 {
-    let n = table::blocks(t, s);
+    let n = code::blocks(c);
     let mut i = 0;
     while i < n {
-        if named_once(t, s, marks, i) {
+        if named_once(c, marks, i) {
             i += 1;
         } else {
             return false;
@@ -164,11 +152,10 @@ fn marked_once(t: &[u8], s: table::Sections, marks: &[u8]) -> bool
 }
 
 // No two process types name the same block. The marks are 0 at first.
-pub fn modules_once(t: &[u8], s: table::Sections, marks: &mut [u8]) -> bool
-    requires { ⌜ Of (now t) s ⌝ }
-    requires { ⌜ Clear (tableOf (s .w) (now t)) (now marks) ⌝ }
-    ensures { λ r. ⌜ r ≡ modulesOnce (tableOf (s .w) (now (t .entry))) ⌝ }
+pub fn modules_once(c: &code::Slots, marks: &mut [u8]) -> bool
+    requires { ⌜ Clear (decoded (now c)) (now marks) ⌝ }
+    ensures { λ r. ⌜ r ≡ modulesOnce (decoded (now (c .entry))) ⌝ }
 {
-    mark_modules(t, s, marks);
-    marked_once(t, s, marks)
+    mark_modules(c, marks);
+    marked_once(c, marks)
 }

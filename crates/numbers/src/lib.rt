@@ -7,57 +7,52 @@ pub mod operands; // arguments, nodes, statements
 
 ghost use mathlib.Core.Path.{_≡_};
 ghost use Prim.Native.Nat.{_<_};
-ghost use Rattle.table.specs.Table.{tableOf};
-ghost use Rattle.table.specs.Reading.{Of};
+ghost use Rattle.code.specs.Code.{decoded};
 ghost use Rattle.types.specs.Types.{Types};
 ghost use Rattle.numbers.specs.Marking.{Clear};
 ghost use Rattle.numbers.specs.Ranges.{inOrder, typesRanged, declarationsRanged, operandsRanged, inRange};
 
-fn in_order(t: &[u8], s: table::Sections) -> bool
-    requires { ⌜ Of (now t) s ⌝ }
-    ensures { λ r. ⌜ r ≡ inOrder (tableOf (s .w) (now (t .entry))) ⌝ }
+fn in_order(c: &code::Slots) -> bool
+    ensures { λ r. ⌜ r ≡ inOrder (decoded (now (c .entry))) ⌝ }
 {
-    if order::fields_taken(t, s) {
-        if order::variables_taken(t, s) {
-            return order::arguments_taken(t, s);
+    if order::fields_taken(c) {
+        if order::variables_taken(c) {
+            return order::arguments_taken(c);
         }
         return false;
     }
     false
 }
 
-fn types_ranged(t: &[u8], s: table::Sections, marks: &mut [u8]) -> bool
-    requires { ⌜ Of (now t) s ⌝ }
-    requires { ⌜ Clear (tableOf (s .w) (now t)) (now marks) ⌝ }
-    ensures { λ r. ⌜ r ≡ typesRanged (tableOf (s .w) (now (t .entry))) ⌝ }
+fn types_ranged(c: &code::Slots, marks: &mut [u8]) -> bool
+    requires { ⌜ Clear (decoded (now c)) (now marks) ⌝ }
+    ensures { λ r. ⌜ r ≡ typesRanged (decoded (now (c .entry))) ⌝ }
 {
-    if declared::all_types(t, s) {
-        return declared::modules_once(t, s, marks);
+    if declared::all_types(c) {
+        return declared::modules_once(c, marks);
     }
     false
 }
 
-fn declarations_ranged(t: &[u8], s: table::Sections) -> bool
-    requires { ⌜ Of (now t) s ⌝ }
-    ensures { λ r. ⌜ r ≡ declarationsRanged (tableOf (s .w) (now (t .entry))) ⌝ }
+fn declarations_ranged(c: &code::Slots) -> bool
+    ensures { λ r. ⌜ r ≡ declarationsRanged (decoded (now (c .entry))) ⌝ }
 {
-    if 1 <= table::blocks(t, s) {
-        if declared::all_vars(t, s) {
-            return blocks::all_blocks(t, s);
+    if 1 <= code::blocks(c) {
+        if declared::all_vars(c) {
+            return blocks::all_blocks(c);
         }
         return false;
     }
     false
 }
 
-fn operands_ranged(t: &[u8], s: table::Sections, types: &[u16]) -> bool
-    requires { ⌜ Of (now t) s ⌝ }
-    requires { ⌜ Types (tableOf (s .w) (now t)) (now types) ⌝ }
-    ensures { λ r. ⌜ r ≡ operandsRanged (tableOf (s .w) (now (t .entry))) ⌝ }
+fn operands_ranged(c: &code::Slots, types: &[u16]) -> bool
+    requires { ⌜ Types (decoded (now c)) (now types) ⌝ }
+    ensures { λ r. ⌜ r ≡ operandsRanged (decoded (now (c .entry))) ⌝ }
 {
-    if operands::all_args(t, s) {
-        if operands::all_nodes(t, s, types) {
-            return operands::all_stmts(t, s);
+    if operands::all_args(c) {
+        if operands::all_nodes(c, types) {
+            return operands::all_stmts(c);
         }
         return false;
     }
@@ -65,16 +60,15 @@ fn operands_ranged(t: &[u8], s: table::Sections, types: &[u16]) -> bool
 }
 
 // Whether the table escapes refusal 4. `types` holds the types of its nodes; `marks` are 0, one for each block at least.
-pub fn in_range(t: &[u8], s: table::Sections, types: &[u16], marks: &mut [u8]) -> bool
-    requires { ⌜ Of (now t) s ⌝ }
-    requires { ⌜ Types (tableOf (s .w) (now t)) (now types) ⌝ }
-    requires { ⌜ Clear (tableOf (s .w) (now t)) (now marks) ⌝ }
-    ensures { λ r. ⌜ r ≡ inRange (tableOf (s .w) (now (t .entry))) ⌝ }
+pub fn in_range(c: &code::Slots, types: &[u16], marks: &mut [u8]) -> bool
+    requires { ⌜ Types (decoded (now c)) (now types) ⌝ }
+    requires { ⌜ Clear (decoded (now c)) (now marks) ⌝ }
+    ensures { λ r. ⌜ r ≡ inRange (decoded (now (c .entry))) ⌝ }
 {
-    if in_order(t, s) {
-        if types_ranged(t, s, marks) {
-            if declarations_ranged(t, s) {
-                return operands_ranged(t, s, types);
+    if in_order(c) {
+        if types_ranged(c, marks) {
+            if declarations_ranged(c) {
+                return operands_ranged(c, types);
             }
             return false;
         }

@@ -2,28 +2,25 @@
 ghost use mathlib.Core.Path.{_≡_};
 ghost use Prim.Native.Nat.{_+_, _<_};
 ghost use Rattle.basics.specs.Choice.{allBelow};
-ghost use Rattle.table.specs.Table.{tableOf};
+ghost use Rattle.code.specs.Code.{decoded};
 ghost use Rattle.table.specs.Entries.{argCount, nodeCount, stmtCount};
-ghost use Rattle.table.specs.Reading.{Of};
 ghost use Rattle.types.specs.Types.{Types};
 ghost use Rattle.numbers.specs.Operands.{argRanged, pRanged, placeRanged, qRanged, nodeRanged, aVariable, aExpression, aBlock, aRanged, bExpression, bRanged, linkRanged, stmtRanged};
 use super::sorts;
 
-fn arg_ranged(t: &[u8], s: table::Sections, i: usize) -> bool
-    requires { ⌜ Of (now t) s ⌝ }
-    ensures { λ r. ⌜ r ≡ argRanged (tableOf (s .w) (now (t .entry))) i ⌝ }
+fn arg_ranged(c: &code::Slots, i: usize) -> bool
+    ensures { λ r. ⌜ r ≡ argRanged (decoded (now (c .entry))) i ⌝ }
 {
-    table::arg_node(t, s, i) < table::nodes(t, s)
+    code::arg_node(c, i) < code::nodes(c)
 }
 
-pub fn all_args(t: &[u8], s: table::Sections) -> bool
-    requires { ⌜ Of (now t) s ⌝ }
-    ensures { λ r. ⌜ r ≡ allBelow (argCount (tableOf (s .w) (now (t .entry)))) (argRanged (tableOf (s .w) (now (t .entry)))) ⌝ }
+pub fn all_args(c: &code::Slots) -> bool
+    ensures { λ r. ⌜ r ≡ allBelow (argCount (decoded (now (c .entry)))) (argRanged (decoded (now (c .entry)))) ⌝ }
 {
-    let n = table::arguments(t, s);
+    let n = code::arguments(c);
     let mut i = 0;
     while i < n {
-        if arg_ranged(t, s, i) {
+        if arg_ranged(c, i) {
             i += 1;
         } else {
             return false;
@@ -33,51 +30,48 @@ pub fn all_args(t: &[u8], s: table::Sections) -> bool
 }
 
 // The first operand of node n.
-fn p_ranged(t: &[u8], s: table::Sections, n: usize) -> bool
-    requires { ⌜ Of (now t) s ⌝ }
-    ensures { λ r. ⌜ r ≡ pRanged (tableOf (s .w) (now (t .entry))) n ⌝ }
+fn p_ranged(c: &code::Slots, n: usize) -> bool
+    ensures { λ r. ⌜ r ≡ pRanged (decoded (now (c .entry))) n ⌝ }
 {
-    let k = table::node_kind(t, s, n);
-    let p = table::node_p(t, s, n);
+    let k = code::node_kind(c, n);
+    let p = code::node_p(c, n);
     if k == 0 {
         return p <= 2;
     }
     if k == 1 {
-        return p < table::variables(t, s);
+        return p < code::variables(c);
     }
     if k <= 4 {
-        return sorts::variable_below(t, s, n, p);
+        return sorts::variable_below(c, n, p);
     }
-    sorts::expression_below(t, s, n, p)
+    sorts::expression_below(c, n, p)
 }
 
 // The place q of a field in a variable of type x.
-fn place_ranged(t: &[u8], s: table::Sections, x: usize, q: usize) -> bool
-    requires { ⌜ Of (now t) s ⌝ }
-    ensures { λ r. ⌜ r ≡ placeRanged (tableOf (s .w) (now (t .entry))) x q ⌝ }
+fn place_ranged(c: &code::Slots, x: usize, q: usize) -> bool
+    ensures { λ r. ⌜ r ≡ placeRanged (decoded (now (c .entry))) x q ⌝ }
 {
-    if table::type_kind(t, s, x) == 1 {
-        return q < table::type_q(t, s, x);
+    if code::type_kind(c, x) == 1 {
+        return q < code::type_q(c, x);
     }
     true
 }
 
 // The second operand of node n.
-fn q_ranged(t: &[u8], s: table::Sections, types: &[u16], n: usize) -> bool
-    requires { ⌜ Of (now t) s ⌝ }
-    requires { ⌜ Types (tableOf (s .w) (now t)) (now types) ⌝ }
-    ensures { λ r. ⌜ r ≡ qRanged (tableOf (s .w) (now (t .entry))) n ⌝ }
+fn q_ranged(c: &code::Slots, types: &[u16], n: usize) -> bool
+    requires { ⌜ Types (decoded (now c)) (now types) ⌝ }
+    ensures { λ r. ⌜ r ≡ qRanged (decoded (now (c .entry))) n ⌝ }
 {
-    let k = table::node_kind(t, s, n);
-    let q = table::node_q(t, s, n);
+    let k = code::node_kind(c, n);
+    let q = code::node_q(c, n);
     if k == 2 {
-        return place_ranged(t, s, types::type_of(t, s, types, table::node_p(t, s, n)), q);
+        return place_ranged(c, types::type_of(c, types, code::node_p(c, n)), q);
     }
     if k == 3 {
-        return sorts::expression_below(t, s, n, q);
+        return sorts::expression_below(c, n, q);
     }
     if k == 6 {
-        return sorts::expression_below(t, s, n, q);
+        return sorts::expression_below(c, n, q);
     }
     if k == 7 {
         return q <= 2;
@@ -85,26 +79,24 @@ fn q_ranged(t: &[u8], s: table::Sections, types: &[u16], n: usize) -> bool
     true
 }
 
-fn node_ranged(t: &[u8], s: table::Sections, types: &[u16], n: usize) -> bool
-    requires { ⌜ Of (now t) s ⌝ }
-    requires { ⌜ Types (tableOf (s .w) (now t)) (now types) ⌝ }
-    ensures { λ r. ⌜ r ≡ nodeRanged (tableOf (s .w) (now (t .entry))) n ⌝ }
+fn node_ranged(c: &code::Slots, types: &[u16], n: usize) -> bool
+    requires { ⌜ Types (decoded (now c)) (now types) ⌝ }
+    ensures { λ r. ⌜ r ≡ nodeRanged (decoded (now (c .entry))) n ⌝ }
 {
-    if p_ranged(t, s, n) {
-        return q_ranged(t, s, types, n);
+    if p_ranged(c, n) {
+        return q_ranged(c, types, n);
     }
     false
 }
 
-pub fn all_nodes(t: &[u8], s: table::Sections, types: &[u16]) -> bool
-    requires { ⌜ Of (now t) s ⌝ }
-    requires { ⌜ Types (tableOf (s .w) (now t)) (now types) ⌝ }
-    ensures { λ r. ⌜ r ≡ allBelow (nodeCount (tableOf (s .w) (now (t .entry)))) (nodeRanged (tableOf (s .w) (now (t .entry)))) ⌝ }
+pub fn all_nodes(c: &code::Slots, types: &[u16]) -> bool
+    requires { ⌜ Types (decoded (now c)) (now types) ⌝ }
+    ensures { λ r. ⌜ r ≡ allBelow (nodeCount (decoded (now (c .entry)))) (nodeRanged (decoded (now (c .entry)))) ⌝ }
 {
-    let n = table::nodes(t, s);
+    let n = code::nodes(c);
     let mut i = 0;
     while i < n {
-        if node_ranged(t, s, types, i) {
+        if node_ranged(c, types, i) {
             i += 1;
         } else {
             return false;
@@ -140,84 +132,78 @@ fn b_expression(k: usize) -> bool
     k == 12
 }
 
-fn a_block(t: &[u8], s: table::Sections, i: usize) -> bool
-    requires { ⌜ Of (now t) s ⌝ }
-    ensures { λ r. ⌜ r ≡ aBlock (tableOf (s .w) (now (t .entry))) i ⌝ }
+fn a_block(c: &code::Slots, i: usize) -> bool
+    ensures { λ r. ⌜ r ≡ aBlock (decoded (now (c .entry))) i ⌝ }
 {
-    let k = table::stmt_kind(t, s, i);
-    let a = table::stmt_a(t, s, i);
+    let k = code::stmt_kind(c, i);
+    let a = code::stmt_a(c, i);
     if k == 2 {
-        return sorts::block_of(t, s, 2, a);
+        return sorts::block_of(c, 2, a);
     }
     if k == 13 {
-        return a < table::blocks(t, s);
+        return a < code::blocks(c);
     }
     true
 }
 
 // What a of statement i names.
-fn a_ranged(t: &[u8], s: table::Sections, i: usize) -> bool
-    requires { ⌜ Of (now t) s ⌝ }
-    ensures { λ r. ⌜ r ≡ aRanged (tableOf (s .w) (now (t .entry))) i ⌝ }
+fn a_ranged(c: &code::Slots, i: usize) -> bool
+    ensures { λ r. ⌜ r ≡ aRanged (decoded (now (c .entry))) i ⌝ }
 {
-    let k = table::stmt_kind(t, s, i);
-    let a = table::stmt_a(t, s, i);
+    let k = code::stmt_kind(c, i);
+    let a = code::stmt_a(c, i);
     if a_variable(k) {
-        return sorts::variable_below(t, s, table::nodes(t, s), a);
+        return sorts::variable_below(c, code::nodes(c), a);
     }
     if a_expression(k) {
-        return sorts::expression_below(t, s, table::nodes(t, s), a);
+        return sorts::expression_below(c, code::nodes(c), a);
     }
-    a_block(t, s, i)
+    a_block(c, i)
 }
 
 // What b of statement i names.
-fn b_ranged(t: &[u8], s: table::Sections, i: usize) -> bool
-    requires { ⌜ Of (now t) s ⌝ }
-    ensures { λ r. ⌜ r ≡ bRanged (tableOf (s .w) (now (t .entry))) i ⌝ }
+fn b_ranged(c: &code::Slots, i: usize) -> bool
+    ensures { λ r. ⌜ r ≡ bRanged (decoded (now (c .entry))) i ⌝ }
 {
-    let k = table::stmt_kind(t, s, i);
-    let b = table::stmt_b(t, s, i);
+    let k = code::stmt_kind(c, i);
+    let b = code::stmt_b(c, i);
     if b_expression(k) {
-        return sorts::expression_below(t, s, table::nodes(t, s), b);
+        return sorts::expression_below(c, code::nodes(c), b);
     }
     if k == 3 {
-        return sorts::block_of(t, s, 2, b);
+        return sorts::block_of(c, 2, b);
     }
     true
 }
 
-fn link_ranged(t: &[u8], s: table::Sections, i: usize) -> bool
-    requires { ⌜ Of (now t) s ⌝ }
-    ensures { λ r. ⌜ r ≡ linkRanged (tableOf (s .w) (now (t .entry))) i ⌝ }
+fn link_ranged(c: &code::Slots, i: usize) -> bool
+    ensures { λ r. ⌜ r ≡ linkRanged (decoded (now (c .entry))) i ⌝ }
 {
-    if basics::between(10, 11, table::stmt_kind(t, s, i)) {
-        return table::stmt_link(t, s, i) < table::statements(t, s);
+    if basics::between(10, 11, code::stmt_kind(c, i)) {
+        return code::stmt_link(c, i) < code::statements(c);
     }
     true
 }
 
-fn stmt_ranged(t: &[u8], s: table::Sections, i: usize) -> bool
-    requires { ⌜ Of (now t) s ⌝ }
-    ensures { λ r. ⌜ r ≡ stmtRanged (tableOf (s .w) (now (t .entry))) i ⌝ }
+fn stmt_ranged(c: &code::Slots, i: usize) -> bool
+    ensures { λ r. ⌜ r ≡ stmtRanged (decoded (now (c .entry))) i ⌝ }
 {
-    if a_ranged(t, s, i) {
-        if b_ranged(t, s, i) {
-            return link_ranged(t, s, i);
+    if a_ranged(c, i) {
+        if b_ranged(c, i) {
+            return link_ranged(c, i);
         }
         return false;
     }
     false
 }
 
-pub fn all_stmts(t: &[u8], s: table::Sections) -> bool
-    requires { ⌜ Of (now t) s ⌝ }
-    ensures { λ r. ⌜ r ≡ allBelow (stmtCount (tableOf (s .w) (now (t .entry)))) (stmtRanged (tableOf (s .w) (now (t .entry)))) ⌝ }
+pub fn all_stmts(c: &code::Slots) -> bool
+    ensures { λ r. ⌜ r ≡ allBelow (stmtCount (decoded (now (c .entry)))) (stmtRanged (decoded (now (c .entry)))) ⌝ }
 {
-    let n = table::statements(t, s);
+    let n = code::statements(c);
     let mut i = 0;
     while i < n {
-        if stmt_ranged(t, s, i) {
+        if stmt_ranged(c, i) {
             i += 1;
         } else {
             return false;

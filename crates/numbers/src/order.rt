@@ -4,8 +4,8 @@ ghost use mathlib.Core.Bool.{true};
 ghost use Prim.Native.Nat.{_+_, _<_};
 ghost use lib.Dec.{eqb};
 ghost use Rattle.basics.specs.Choice.{pick};
-ghost use Rattle.table.specs.Table.{tableOf};
-ghost use Rattle.table.specs.Reading.{Of, Field};
+ghost use Rattle.code.specs.Code.{decoded};
+ghost use Rattle.table.specs.Reading.{Field};
 ghost use Rattle.numbers.specs.Declarations.{isRecord, recordFirst, recordCount, fieldsTaken};
 ghost use Rattle.numbers.specs.Blocks.{variablesTaken};
 ghost use Rattle.numbers.specs.Operands.{isCall, callFirst, callCount, argumentsTaken};
@@ -31,110 +31,101 @@ fn after(takes: bool, first: usize, count: usize, j: usize) -> usize
     j
 }
 
-fn is_record(t: &[u8], s: table::Sections, i: usize) -> bool
-    requires { ⌜ Of (now t) s ⌝ }
+fn is_record(c: &code::Slots, i: usize) -> bool
     requires { ⌜ i < 65536 ⌝ }
-    ensures { λ r. ⌜ r ≡ isRecord (tableOf (s .w) (now (t .entry))) i ⌝ }
+    ensures { λ r. ⌜ r ≡ isRecord (decoded (now (c .entry))) i ⌝ }
 {
-    table::type_kind(t, s, 3 + i) == 1
+    code::type_kind(c, 3 + i) == 1
 }
 
-fn record_first(t: &[u8], s: table::Sections, i: usize) -> usize
-    requires { ⌜ Of (now t) s ⌝ }
+fn record_first(c: &code::Slots, i: usize) -> usize
     requires { ⌜ i < 65536 ⌝ }
-    ensures { λ r. ⌜ Field (recordFirst (tableOf (s .w) (now (t .entry))) i) r ⌝ }
+    ensures { λ r. ⌜ Field (recordFirst (decoded (now (c .entry))) i) r ⌝ }
 {
-    table::type_p(t, s, 3 + i)
+    code::type_p(c, 3 + i)
 }
 
-fn record_count(t: &[u8], s: table::Sections, i: usize) -> usize
-    requires { ⌜ Of (now t) s ⌝ }
+fn record_count(c: &code::Slots, i: usize) -> usize
     requires { ⌜ i < 65536 ⌝ }
-    ensures { λ r. ⌜ Field (recordCount (tableOf (s .w) (now (t .entry))) i) r ⌝ }
+    ensures { λ r. ⌜ Field (recordCount (decoded (now (c .entry))) i) r ⌝ }
 {
-    table::type_q(t, s, 3 + i)
+    code::type_q(c, 3 + i)
 }
 
-fn is_call(t: &[u8], s: table::Sections, i: usize) -> bool
-    requires { ⌜ Of (now t) s ⌝ }
-    ensures { λ r. ⌜ r ≡ isCall (tableOf (s .w) (now (t .entry))) i ⌝ }
+fn is_call(c: &code::Slots, i: usize) -> bool
+    ensures { λ r. ⌜ r ≡ isCall (decoded (now (c .entry))) i ⌝ }
 {
-    let k = table::stmt_kind(t, s, i);
+    let k = code::stmt_kind(c, i);
     if basics::between(2, 3, k) {
         return true;
     }
     k == 5
 }
 
-fn call_first(t: &[u8], s: table::Sections, i: usize) -> usize
-    requires { ⌜ Of (now t) s ⌝ }
-    ensures { λ r. ⌜ Field (callFirst (tableOf (s .w) (now (t .entry))) i) r ⌝ }
+fn call_first(c: &code::Slots, i: usize) -> usize
+    ensures { λ r. ⌜ Field (callFirst (decoded (now (c .entry))) i) r ⌝ }
 {
-    table::stmt_c(t, s, i)
+    code::stmt_c(c, i)
 }
 
-fn call_count(t: &[u8], s: table::Sections, i: usize) -> usize
-    requires { ⌜ Of (now t) s ⌝ }
-    ensures { λ r. ⌜ Field (callCount (tableOf (s .w) (now (t .entry))) i) r ⌝ }
+fn call_count(c: &code::Slots, i: usize) -> usize
+    ensures { λ r. ⌜ Field (callCount (decoded (now (c .entry))) i) r ⌝ }
 {
-    table::stmt_d(t, s, i)
+    code::stmt_d(c, i)
 }
 
-pub fn fields_taken(t: &[u8], s: table::Sections) -> bool
-    requires { ⌜ Of (now t) s ⌝ }
-    ensures { λ r. ⌜ r ≡ fieldsTaken (tableOf (s .w) (now (t .entry))) ⌝ }
+pub fn fields_taken(c: &code::Slots) -> bool
+    ensures { λ r. ⌜ r ≡ fieldsTaken (decoded (now (c .entry))) ⌝ }
 {
-    let n = table::types(t, s);
+    let n = code::types(c);
     let mut j = 0;
     let mut i = 0;
     while i < n {
-        let takes = is_record(t, s, i);
-        let first = record_first(t, s, i);
+        let takes = is_record(c, i);
+        let first = record_first(c, i);
         if begins(takes, first, j) {
-            j = after(takes, first, record_count(t, s, i), j);
+            j = after(takes, first, record_count(c, i), j);
             i += 1;
         } else {
             return false;
         }
     }
-    j == table::fields(t, s)
+    j == code::fields(c)
 }
 
-pub fn variables_taken(t: &[u8], s: table::Sections) -> bool
-    requires { ⌜ Of (now t) s ⌝ }
-    ensures { λ r. ⌜ r ≡ variablesTaken (tableOf (s .w) (now (t .entry))) ⌝ }
+pub fn variables_taken(c: &code::Slots) -> bool
+    ensures { λ r. ⌜ r ≡ variablesTaken (decoded (now (c .entry))) ⌝ }
 {
-    let n = table::blocks(t, s);
+    let n = code::blocks(c);
     let mut j = 0;
     let mut i = 0;
     while i < n {
-        let first = table::first_var(t, s, i);
+        let first = code::first_var(c, i);
         if first == j {
-            j = first + table::block_vars(t, s, i);
+            j = first + code::block_vars(c, i);
             i += 1;
         } else {
             return false;
         }
     }
-    j == table::variables(t, s)
+    j == code::variables(c)
 }
 
-pub fn arguments_taken(t: &[u8], s: table::Sections) -> bool
-    requires { ⌜ Of (now t) s ⌝ }
-    ensures { λ r. ⌜ r ≡ argumentsTaken (tableOf (s .w) (now (t .entry))) ⌝ }
+pub fn arguments_taken(c: &code::Slots) -> bool
+    ensures { λ r. ⌜ r ≡ argumentsTaken (decoded (now (c .entry))) ⌝ }
 {
-    let n = table::statements(t, s);
+    let n = code::statements(c);
     let mut j = 0;
     let mut i = 0;
     while i < n {
-        let takes = is_call(t, s, i);
-        let first = call_first(t, s, i);
+        let takes = is_call(c, i);
+        let first = call_first(c, i);
         if begins(takes, first, j) {
-            j = after(takes, first, call_count(t, s, i), j);
+            j = after(takes, first, call_count(c, i), j);
             i += 1;
         } else {
             return false;
         }
     }
-    j == table::arguments(t, s)
+    j == code::arguments(c)
 }

@@ -1,7 +1,6 @@
 // Nodes and blocks of the sort that a place asks.
 ghost use mathlib.Core.Path.{_≡_};
-ghost use Rattle.table.specs.Table.{tableOf};
-ghost use Rattle.table.specs.Reading.{Of};
+ghost use Rattle.code.specs.Code.{decoded};
 ghost use Rattle.numbers.specs.Sorts.{variableKind, expressionKind, variableBelow, expressionBelow, blockOf};
 
 fn variable_kind(k: usize) -> bool
@@ -20,34 +19,31 @@ fn expression_kind(k: usize) -> bool
 }
 
 // Node v is below m and a variable.
-pub fn variable_below(t: &[u8], s: table::Sections, m: usize, v: usize) -> bool
-    requires { ⌜ Of (now t) s ⌝ }
-    ensures { λ r. ⌜ r ≡ variableBelow (tableOf (s .w) (now (t .entry))) m v ⌝ }
+pub fn variable_below(c: &code::Slots, m: usize, v: usize) -> bool
+    ensures { λ r. ⌜ r ≡ variableBelow (decoded (now (c .entry))) m v ⌝ }
 {
     if v < m {
-        return variable_kind(table::node_kind(t, s, v));
+        return variable_kind(code::node_kind(c, v));
     }
     false
 }
 
 // Node e is below m and an expression.
-pub fn expression_below(t: &[u8], s: table::Sections, m: usize, e: usize) -> bool
-    requires { ⌜ Of (now t) s ⌝ }
-    ensures { λ r. ⌜ r ≡ expressionBelow (tableOf (s .w) (now (t .entry))) m e ⌝ }
+pub fn expression_below(c: &code::Slots, m: usize, e: usize) -> bool
+    ensures { λ r. ⌜ r ≡ expressionBelow (decoded (now (c .entry))) m e ⌝ }
 {
     if e < m {
-        return expression_kind(table::node_kind(t, s, e));
+        return expression_kind(code::node_kind(c, e));
     }
     false
 }
 
 // Block b exists and is of kind k.
-pub fn block_of(t: &[u8], s: table::Sections, k: usize, b: usize) -> bool
-    requires { ⌜ Of (now t) s ⌝ }
-    ensures { λ r. ⌜ r ≡ blockOf (tableOf (s .w) (now (t .entry))) k b ⌝ }
+pub fn block_of(c: &code::Slots, k: usize, b: usize) -> bool
+    ensures { λ r. ⌜ r ≡ blockOf (decoded (now (c .entry))) k b ⌝ }
 {
-    if b < table::blocks(t, s) {
-        return table::block_kind(t, s, b) == k;
+    if b < code::blocks(c) {
+        return code::block_kind(c, b) == k;
     }
     false
 }

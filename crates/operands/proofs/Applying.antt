@@ -1,11 +1,8 @@
 -- The operators by their numbers: the laws of each return. Assumes nothing.
 use Prim.Native.Nat.{ℕ, _≤_, _<_}
-use mathlib.Core.Path.{_≡_, refl, sym, ap, _∙_}
-use mathlib.Core.Bool.{Bool, true, false}
-use mathlib.Core.List.{List}
-use lib.Dec.{eqb, leb}
-use borrow.Author.Tests.{eq-eqb, ne-eqb, le-leb, lt-leb}
-use Rattle.basics.specs.Choice.{pick}
+use mathlib.Core.Path.{_≡_}
+use mathlib.Core.Bool.{Bool}
+use borrow.Author.Tests.{le-leb, lt-leb}
 use Rattle.words.specs.Outcomes as words
 use Rattle.words.specs.Operators.{boolWord}
 use Rattle.operands.specs.Operators.{relates, arithmetic, logic, binaryWord}

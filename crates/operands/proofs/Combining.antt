@@ -2,46 +2,39 @@
 use Prim.Native.Nat.{ℕ, _+_, _-_, _*_, _<_, _≤_}
 use mathlib.Core.Path.{_≡_, refl, sym, ap, subst, _∙_}
 use mathlib.Core.Bool.{Bool, true, false}
-use mathlib.Core.Bool as bool
-use mathlib.Core.List.{List, [], _∷_}
+use mathlib.Core.List.{List}
 use lib.ListN.{length}
-use lib.Dec.{eqb, leb, ltb}
+use lib.Dec.{eqb, leb}
 use native.Mathlib.Omega.{arith}
-use borrow.Author.Tests.{eqb-true, eqb-false, ltb-true, ltb-false, leb-true, leb-false, le-leb, lt-leb, eq-eqb, ne-eqb}
-use Rattle.basics.specs.Choice.{pick, cases, both}
+use borrow.Author.Tests.{eqb-true, eqb-false, ltb-true, ltb-false, leb-true, le-leb}
+use Rattle.basics.specs.Choice.{cases}
 use Rattle.basics.proofs.Bools.{no-true}
-use Rattle.table.specs.Table.{Table, tableOf}
-use Rattle.table.specs.Entries.{nodeCount, nodeKind, nodeP, nodeQ, nodeV}
-use Rattle.table.specs.declared.Sections.{Sections}
+use Rattle.table.specs.Table.{Table}
+use Rattle.table.specs.Entries.{nodeCount, nodeP, nodeQ, nodeV}
 use Rattle.types.specs.Types.{typeOf}
-use Rattle.types.specs.Match.{matches}
-use Rattle.numbers.specs.Sorts.{Variable, Expression}
+use Rattle.numbers.specs.Sorts.{Expression}
 use Rattle.numbers.proofs.OperandPromise.{binary-left, binary-right}
 use Rattle.typing.proofs.Promise as typing
 use Rattle.sizes.specs.Sizes.{wordsOf}
 use Rattle.words.specs.Outcomes as words
-use Rattle.words.specs.Outcomes.{failureNumber, outcomeOf}
-use Rattle.words.specs.Operators.{boolWord}
-use Rattle.words.specs.declared.values.Failure.{Failure}
-use Rattle.words.specs.declared.values.Value.{Value}
-use Rattle.words.specs.declared.values.Value.the-variants.{Word, Fail}
-use Rattle.machine.specs.Memory.{Memory, memoryOf, wordsAt}
-use Rattle.machine.specs.Entries as entries
+use Rattle.machine.specs.Memory.{memoryOf}
 use Rattle.machine.specs.Entries.{binaryAt}
-use Rattle.machine.specs.Outcomes.{Outcome, ok, fail, stuck, Operand, place, value, onValue, wordOf}
-use Rattle.machine.specs.Operands.{same, binaryValue, operand}
+use Rattle.machine.specs.Outcomes.{ok, fail, value, onValue, wordOf}
+use Rattle.machine.specs.Operands.{binaryValue}
+use Rattle.code.specs.Code.{slotIn, decoded}
 use Rattle.operands.specs.declared.Context.{Context}
-use Rattle.operands.specs.declared.Place.{Place}
-use Rattle.operands.specs.declared.Place.the-variants as place
-use Rattle.operands.specs.Answers.{selected, firstWord, structured, Unstuck, Selectable, Evaluable, Binary, Retrieval}
+use Rattle.operands.specs.Answers.{firstWord, structured, Unstuck, Binary}
 use Rattle.operands.specs.Operators.{binaryWord}
+use Rattle.operands.specs.Packed.{WordIs, Evaluated}
 use Rattle.operands.specs.Ready.{contextIn, Ready}
+use Rattle.operands.proofs.Packing.{told-word, told-failure, tell-failure, retell}
 use Rattle.operands.proofs.Nodes.{is-binary}
 use Rattle.operands.proofs.TypeWords.{some-words, match-words}
-use Rattle.operands.proofs.Typed.{OfType, typed-expression, binary-cases}
-use Rattle.operands.proofs.Yielding.{no-unstuck, first-value, Gave, gave, failed, first-binary, by-words, first-equal, first-unequal}
-use Rattle.operands.proofs.Selecting.{tab, out, Sel, fits-high}
-use Rattle.operands.proofs.Evaluating.{Ev, failed-value, at-value, binary-at, wider, only-retrieval, got-lower, got-selectable, got-failed, got-fits, got-value}
+use Rattle.operands.proofs.Typed.{OfType, typed-expression}
+use Rattle.operands.proofs.Lending.{lends-type, expression-valued}
+use Rattle.operands.proofs.Yielding.{no-unstuck, first-value, Gave, gave, first-binary, by-words}
+use Rattle.operands.proofs.Selecting.{out}
+use Rattle.operands.proofs.Evaluating.{Ev, failed-value, at-value, binary-at, wider}
 
 module _ (T : Table) (n : ℕ) where
   pub compares-few : structured T n ≡ false → nodeV T n ≤ 2 → wordsOf T (typeOf T (nodeP T n)) ≤ 1
@@ -63,103 +56,105 @@ equal-two T o τ σ us vs l u n =
     (λ e. let q = eqb-true o 0 e in no-unstuck _ refl (subst (λ (i : ℕ). Unstuck (binaryValue T (binaryAt i) τ us σ vs)) q u))
     (λ e. let q = eqb-false o 0 e in omega arith)
 
-module _ (t : List ℕ) (s : Sections) (y z o f m p : List ℕ) (x : Context) (h : Ready t s y z o f m p x) (n : ℕ) (b : Bool) (c : Binary (tab t s) (memoryOf m) (memoryOf p) (contextIn x) n b) (v q : ℕ) (hv : v ≡ nodeP (tab t s) n) (hq : q ≡ nodeQ (tab t s) n) where
-  pub within-table : n < nodeCount (tab t s)
+module _ (t m p : List ℕ) (x : Context) (h : Ready t m p x) (n : ℕ) (b : Bool) (c : Binary (decoded t) (memoryOf m) (memoryOf p) (contextIn x) n b) (v q : ℕ) (hv : v ≡ nodeP (decoded t) n) (hq : q ≡ nodeQ (decoded t) n) where
+  pub within-table : n < nodeCount (decoded t)
   within-table = c .evaluable .expression .below
 
-  the-binary : out t s m p x n ≡ onValue (out t s m p x v) (λ τ us. onValue (out t s m p x q) (λ σ vs. binaryValue (tab t s) (binaryAt (nodeV (tab t s) n)) τ us σ vs))
-  the-binary = is-binary (tab t s) (memoryOf m) (memoryOf p) (contextIn x) n within-table (h .prepared .ranged) (c .kind) ∙ rw (hv, hq)
+  the-binary : out t m p x n ≡ onValue (out t m p x v) (λ τ us. onValue (out t m p x q) (λ σ vs. binaryValue (decoded t) (binaryAt (nodeV (decoded t) n)) τ us σ vs))
+  the-binary = is-binary (decoded t) (memoryOf m) (memoryOf p) (contextIn x) n within-table (h .ranged) (c .kind) ∙ rw (hv, hq)
 
-  pub left-node : Expression (tab t s) n v
-  left-node = rw hv (binary-left (tab t s) (h .prepared .ranged) n within-table (c .kind))
+  pub left-node : Expression (decoded t) n v
+  left-node = rw hv (binary-left (decoded t) (h .ranged) n within-table (c .kind))
 
-  pub right-node : Expression (tab t s) n q
-  right-node = rw hq (binary-right (tab t s) (h .prepared .ranged) n within-table (c .kind))
+  pub right-node : Expression (decoded t) n q
+  right-node = rw hq (binary-right (decoded t) (h .ranged) n within-table (c .kind))
 
-  left-unstuck : Unstuck (onValue (out t s m p x v) (λ τ us. onValue (out t s m p x q) (λ σ vs. binaryValue (tab t s) (binaryAt (nodeV (tab t s) n)) τ us σ vs)))
+  left-unstuck : Unstuck (onValue (out t m p x v) (λ τ us. onValue (out t m p x q) (λ σ vs. binaryValue (decoded t) (binaryAt (nodeV (decoded t) n)) τ us σ vs)))
   left-unstuck = subst Unstuck the-binary (c .evaluable .unstuck)
 
-  pub left-below : (u : ℕ) → 2 * n ≡ u → 2 * v + 1 < u
+  pub left-below : (u : ℕ) → 3 * n ≡ u → 3 * v + 2 < u
   left-below u e = let i = left-node .below in omega arith
 
-  pub left-evaluable : Ev t s m p x v
-  left-evaluable = record { expression = wider (tab t s) n v within-table left-node; unstuck = first-value _ _ left-unstuck }
+  pub left-evaluable : Ev t m p x v
+  left-evaluable = record { expression = wider (decoded t) n v within-table left-node; unstuck = first-value _ _ left-unstuck }
 
-  left-typed : OfType (tab t s) (typeOf (tab t s) v) (out t s m p x v)
-  left-typed = typed-expression (tab t s) (memoryOf m) (memoryOf p) (contextIn x) (h .prepared .ranged) v (left-evaluable .expression)
+  left-typed : OfType (decoded t) (typeOf (decoded t) v) (out t m p x v)
+  left-typed = typed-expression (decoded t) (memoryOf m) (memoryOf p) (contextIn x) (h .ranged) v (left-evaluable .expression)
 
-  pub left-failed : (k : ℕ) → words.fail k ≡ firstWord (out t s m p x v) → words.fail k ≡ firstWord (out t s m p x n)
+  pub left-failed : (k : ℕ) → words.fail k ≡ firstWord (out t m p x v) → words.fail k ≡ firstWord (out t m p x n)
   left-failed k e = rw the-binary (failed-value _ _ _ e)
 
   -- the left operand gave the words us
-  module _ (us : List ℕ) (hu : out t s m p x v ≡ ok (value (typeOf (tab t s) v) us)) where
-    the-right : out t s m p x n ≡ onValue (out t s m p x q) (λ σ vs. binaryValue (tab t s) (binaryAt (nodeV (tab t s) n)) (typeOf (tab t s) v) us σ vs)
+  module _ (us : List ℕ) (hu : out t m p x v ≡ ok (value (typeOf (decoded t) v) us)) where
+    the-right : out t m p x n ≡ onValue (out t m p x q) (λ σ vs. binaryValue (decoded t) (binaryAt (nodeV (decoded t) n)) (typeOf (decoded t) v) us σ vs)
     the-right = the-binary ∙ at-value _ _ _ _ hu
 
-    right-unstuck : Unstuck (onValue (out t s m p x q) (λ σ vs. binaryValue (tab t s) (binaryAt (nodeV (tab t s) n)) (typeOf (tab t s) v) us σ vs))
+    right-unstuck : Unstuck (onValue (out t m p x q) (λ σ vs. binaryValue (decoded t) (binaryAt (nodeV (decoded t) n)) (typeOf (decoded t) v) us σ vs))
     right-unstuck = subst Unstuck the-right (c .evaluable .unstuck)
 
-    pub right-is-evaluable : Ev t s m p x q
-    right-is-evaluable = record { expression = wider (tab t s) n q within-table right-node; unstuck = first-value _ _ right-unstuck }
+    pub right-is-evaluable : Ev t m p x q
+    right-is-evaluable = record { expression = wider (decoded t) n q within-table right-node; unstuck = first-value _ _ right-unstuck }
 
-    right-typed : OfType (tab t s) (typeOf (tab t s) q) (out t s m p x q)
-    right-typed = typed-expression (tab t s) (memoryOf m) (memoryOf p) (contextIn x) (h .prepared .ranged) q (right-is-evaluable .expression)
+    right-typed : OfType (decoded t) (typeOf (decoded t) q) (out t m p x q)
+    right-typed = typed-expression (decoded t) (memoryOf m) (memoryOf p) (contextIn x) (h .ranged) q (right-is-evaluable .expression)
 
-    pub right-failed : (k : ℕ) → words.fail k ≡ firstWord (out t s m p x q) → words.fail k ≡ firstWord (out t s m p x n)
+    pub right-failed : (k : ℕ) → words.fail k ≡ firstWord (out t m p x q) → words.fail k ≡ firstWord (out t m p x n)
     right-failed k e = rw the-right (failed-value _ _ _ e)
 
-    module _ (vs : List ℕ) (hw : out t s m p x q ≡ ok (value (typeOf (tab t s) q) vs)) where
-      pub the-operator : out t s m p x n ≡ binaryValue (tab t s) (binaryAt (nodeV (tab t s) n)) (typeOf (tab t s) v) us (typeOf (tab t s) q) vs
+    module _ (vs : List ℕ) (hw : out t m p x q ≡ ok (value (typeOf (decoded t) q) vs)) where
+      pub the-operator : out t m p x n ≡ binaryValue (decoded t) (binaryAt (nodeV (decoded t) n)) (typeOf (decoded t) v) us (typeOf (decoded t) q) vs
       the-operator = the-right ∙ at-value _ _ _ _ hw
 
-      operator-unstuck : Unstuck (binaryValue (tab t s) (binaryAt (nodeV (tab t s) n)) (typeOf (tab t s) v) us (typeOf (tab t s) q) vs)
+      operator-unstuck : Unstuck (binaryValue (decoded t) (binaryAt (nodeV (decoded t) n)) (typeOf (decoded t) v) us (typeOf (decoded t) q) vs)
       operator-unstuck = subst Unstuck the-operator (c .evaluable .unstuck)
 
-  pub operands-match : nodeV (tab t s) n ≤ 2 → wordsOf (tab t s) (typeOf (tab t s) v) ≡ wordsOf (tab t s) (typeOf (tab t s) q)
+  pub operands-match : nodeV (decoded t) n ≤ 2 → wordsOf (decoded t) (typeOf (decoded t) v) ≡ wordsOf (decoded t) (typeOf (decoded t) q)
   operands-match l =
-      rw (hv, hq) (match-words (tab t s) (typeOf (tab t s) (nodeP (tab t s) n)) (typeOf (tab t s) (nodeQ (tab t s) n)) (typing.equality-operands (tab t s) (h .prepared .typed) n within-table (c .kind) l))
+      rw (hv, hq) (match-words (decoded t) (typeOf (decoded t) (nodeP (decoded t) n)) (typeOf (decoded t) (nodeQ (decoded t) n)) (typing.equality-operands (decoded t) (h .typed) n within-table (c .kind) l))
 
   -- ---- the laws of `combine`
-  module _ (l : Value) (hl : outcomeOf l ≡ firstWord (out t s m p x v)) where
-    pub left-fails : (e : Failure) → l ≡ Fail e → outcomeOf l ≡ firstWord (out t s m p x n)
-    left-fails e g = rw g (left-failed (failureNumber e) (rw g at hl))
+  module _ (l : ℕ) (hl : Evaluated t m p x v l) where
+    pub left-fails : 65536 ≤ l → Evaluated t m p x n l
+    left-fails g = tell-failure (firstWord (out t m p x n)) l (hl .listed) g (left-failed (l - 65536) (told-failure (firstWord (out t m p x v)) l hl g))
 
-    module _ (a : ℕ) (ha : l ≡ Word a) where
-      left-gave : Gave (tab t s) (out t s m p x v) (typeOf (tab t s) v) a
-      left-gave = gave (tab t s) (typeOf (tab t s) v) (out t s m p x v) a _ left-unstuck left-typed (rw ha at hl)
+    module _ (sl : l < 65536) where
+      left-gave : Gave (decoded t) (out t m p x v) (typeOf (decoded t) v) l
+      left-gave = gave (decoded t) (typeOf (decoded t) v) (out t m p x v) l _ left-unstuck left-typed (told-word (firstWord (out t m p x v)) l hl sl)
 
-      pub right-below : (u : ℕ) → 2 * n ≡ u → 2 * q + 1 < u
+      pub right-below : (u : ℕ) → 3 * n ≡ u → 3 * q + 2 < u
       right-below u e = let i = right-node .below in omega arith
 
-      pub right-evaluable : Ev t s m p x q
+      pub right-evaluable : Ev t m p x q
       right-evaluable = right-is-evaluable (left-gave .words) (left-gave .is)
 
-      module _ (r : Value) (hr : outcomeOf r ≡ firstWord (out t s m p x q)) where
-        pub right-fails : (e : Failure) → r ≡ Fail e → outcomeOf r ≡ firstWord (out t s m p x n)
-        right-fails e g = rw g (right-failed (left-gave .words) (left-gave .is) (failureNumber e) (rw g at hr))
+      module _ (r : ℕ) (hr : Evaluated t m p x q r) where
+        pub right-fails : 65536 ≤ r → Evaluated t m p x n r
+        right-fails g = tell-failure (firstWord (out t m p x n)) r (hr .listed) g (right-failed (left-gave .words) (left-gave .is) (r - 65536) (told-failure (firstWord (out t m p x q)) r hr g))
 
-        module _ (d : ℕ) (hd : r ≡ Word d) where
-          right-gave : Gave (tab t s) (out t s m p x q) (typeOf (tab t s) q) d
+        module _ (sr : r < 65536) where
+          right-gave : Gave (decoded t) (out t m p x q) (typeOf (decoded t) q) r
           right-gave =
-              gave (tab t s) (typeOf (tab t s) q) (out t s m p x q) d _
-              (right-unstuck (left-gave .words) (left-gave .is)) (right-typed (left-gave .words) (left-gave .is)) (rw hd at hr)
+              gave (decoded t) (typeOf (decoded t) q) (out t m p x q) r _
+              (right-unstuck (left-gave .words) (left-gave .is)) (right-typed (left-gave .words) (left-gave .is)) (told-word (firstWord (out t m p x q)) r hr sr)
 
-          one-each : b ≡ false → nodeV (tab t s) n ≤ 2 → (length (left-gave .words) ≡ 1) × (length (right-gave .words) ≡ 1)
+          one-each : b ≡ false → nodeV (decoded t) n ≤ 2 → (length (left-gave .words) ≡ 1) × (length (right-gave .words) ≡ 1)
           one-each e g =
-              let few = compares-few (tab t s) n (c .compares ∙ e) g in
-              let some = some-words (s .w) t (h .prepared .ranged) (h .prepared .sized) (typeOf (tab t s) v) in
-              let i : wordsOf (tab t s) (typeOf (tab t s) v) ≡ 1 = one (wordsOf (tab t s) (typeOf (tab t s) v)) some (rw (← hv) at few) in
+              let few = compares-few (decoded t) n (c .compares ∙ e) g in
+              let some = some-words (decoded t) (h .ranged) (h .sized) (typeOf (decoded t) v) (expression-valued t m p x h v (left-evaluable .expression) .type .there) in
+              let i : wordsOf (decoded t) (typeOf (decoded t) v) ≡ 1 = one (wordsOf (decoded t) (typeOf (decoded t) v)) some (rw (← hv) at few) in
               (left-gave .long ∙ i, right-gave .long ∙ (sym (operands-match g) ∙ i))
             where
               one : (k : ℕ) → 1 ≤ k → k ≤ 1 → k ≡ 1
               one k a b = omega arith
 
-          pub combine-returns : (op τ : ℕ) (w : Value) → b ≡ false → op ≡ nodeV (tab t s) n → τ ≡ typeOf (tab t s) v → outcomeOf w ≡ binaryWord op τ a d → outcomeOf w ≡ firstWord (out t s m p x n)
-          combine-returns op τ w e ho hτ g =
+          pub combine-returns : (op τ a d : ℕ) (o : words.Outcome) (w : ℕ) → b ≡ false → op ≡ nodeV (decoded t) n → τ ≡ slotIn t v 23 → a ≡ l → d ≡ r → o ≡ binaryWord op τ a d → WordIs o w → Evaluated t m p x n w
+          combine-returns op τ a d o w e ho read ha hd g hw =
+              let hτ = lends-type t m p x h v τ (left-evaluable .expression .below) read in
               let i = the-operator (left-gave .words) (left-gave .is) (right-gave .words) (right-gave .is) in
-              let j = by-words (tab t s) (typeOf (tab t s) v) (typeOf (tab t s) q) (left-gave .words) (right-gave .words) (nodeV (tab t s) n) (one-each e) in
+              let j = by-words (decoded t) (typeOf (decoded t) v) (typeOf (decoded t) q) (left-gave .words) (right-gave .words) (nodeV (decoded t) n) (one-each e) in
               let u = subst Unstuck (i ∙ j) (c .evaluable .unstuck) in
-              g ∙ (binary-at ho hτ (sym (left-gave .first)) (sym (right-gave .first))
-              ∙ sym (ap firstWord (i ∙ j) ∙ first-binary (tab t s) (typeOf (tab t s) v) (typeOf (tab t s) q) (wordOf (left-gave .words)) (wordOf (right-gave .words)) (nodeV (tab t s) n) u))
+              retell w hw
+              (g ∙ (binary-at ho hτ (ha ∙ sym (left-gave .first)) (hd ∙ sym (right-gave .first))
+              ∙ sym (ap firstWord (i ∙ j) ∙ first-binary (decoded t) (typeOf (decoded t) v) (typeOf (decoded t) q) (wordOf (left-gave .words)) (wordOf (right-gave .words)) (nodeV (decoded t) n) u)))
 
 pub ruleset combines = (left-below, left-evaluable, left-fails, right-below, right-evaluable, right-fails, combine-returns)

@@ -1,53 +1,51 @@
 -- The evaluation of an expression that is not stuck: what each call may ask, and each return. Assumes nothing.
 use Prim.Native.Nat.{ℕ, _+_, _-_, _*_, _<_, _≤_}
-use mathlib.Core.Path.{_≡_, refl, sym, ap, subst, _∙_}
+use mathlib.Core.Path.{_≡_, sym, ap, subst, _∙_}
 use mathlib.Core.Bool.{Bool, true, false}
-use mathlib.Core.Bool as bool
 use mathlib.Core.List.{List}
-use lib.ListN.{length}
 use lib.Dec.{eqb, leb, ltb}
 use native.Mathlib.Omega.{arith}
-use borrow.Author.Tests.{eqb-true, eqb-false, ltb-true, ltb-false, leb-true, leb-false, le-leb, lt-leb, eq-eqb, ne-eqb}
-use Rattle.basics.specs.Choice.{pick, cases, both}
-use Rattle.basics.proofs.Bools.{no-true}
-use Rattle.table.specs.Table.{Table, tableOf}
+use borrow.Author.Tests.{eqb-true, eqb-false, leb-false, le-leb, lt-leb}
+use Rattle.basics.specs.Choice.{cases, both}
+use Rattle.table.specs.Table.{Table}
 use Rattle.table.specs.Entries.{nodeCount, nodeKind, nodeP, nodeQ, nodeV}
-use Rattle.table.specs.declared.Sections.{Sections}
+use Rattle.table.specs.Reading.{Field}
 use Rattle.types.specs.Types.{unaryType, binaryType, typeOf}
-use Rattle.types.specs.Match.{matches}
 use Rattle.numbers.specs.Sorts.{Variable, Expression}
 use Rattle.numbers.specs.Ranges.{inRange}
 use Rattle.typing.specs.Typing.{typed}
-use Rattle.numbers.proofs.OperandPromise.{constant-type, value-variable, unary-operand, binary-left, binary-right, transfer-operand, transfer-type}
+use Rattle.numbers.proofs.OperandPromise.{constant-type, value-variable, unary-operand, binary-left, transfer-operand, transfer-type}
 use Rattle.typing.proofs.Promise as typing
 use Rattle.sizes.specs.Sizes.{wordsOf}
 use Rattle.sizes.proofs.Counting.{words-standard}
 use Rattle.words.specs.Outcomes as words
-use Rattle.words.specs.Outcomes.{failureNumber, outcomeOf}
-use Rattle.words.specs.Operators.{boolWord}
+use Rattle.words.specs.Outcomes.{failureNumber}
 use Rattle.words.specs.Types.{transferW}
 use Rattle.words.specs.declared.values.Failure.{Failure}
-use Rattle.words.specs.declared.values.Value.{Value}
-use Rattle.words.specs.declared.values.Value.the-variants.{Word, Fail}
-use Rattle.machine.specs.Memory.{Memory, memoryOf, wordsAt}
-use Rattle.machine.specs.Entries.{unaryAt, binaryAt}
-use Rattle.machine.specs.Outcomes.{Outcome, ok, fail, stuck, andThen, need, Operand, place, value, valued, onPlace, onValue, wordOf}
+use Rattle.machine.specs.Memory.{memoryOf, wordsAt}
+use Rattle.machine.specs.Entries.{unaryAt}
+use Rattle.machine.specs.Outcomes.{Outcome, ok, fail, andThen, need, Operand, place, value, valued, onPlace, onValue, wordOf}
 use Rattle.machine.specs.Variables.{fits}
-use Rattle.machine.specs.Operands.{simple, given, same, unaryValue, binaryValue, operand}
+use Rattle.machine.specs.Operands.{given, unaryValue}
+use Rattle.code.specs.Code.{slotIn, decoded}
 use Rattle.operands.specs.declared.Context.{Context}
 use Rattle.operands.specs.declared.Place.{Place}
 use Rattle.operands.specs.declared.Place.the-variants as place
-use Rattle.operands.specs.Answers.{selected, firstWord, structured, Unstuck, Selectable, Evaluable, Binary, Retrieval}
+use Rattle.operands.specs.Answers.{selected, firstWord, structured, Unstuck, Evaluable, Binary, Retrieval}
 use Rattle.operands.specs.Operators.{unaryWord, binaryWord}
-use Rattle.operands.specs.Ready.{contextIn, Ready}
-use Rattle.operands.proofs.Nodes.{is-constant, is-retrieve, is-unary, is-binary, is-transfer, type-constant, type-retrieve, type-unary, type-binary, type-transfer}
-use Rattle.operands.proofs.TypeWords.{some-words, match-words}
-use Rattle.operands.proofs.Typed.{OfType, typed-variable, typed-expression, binary-cases}
-use Rattle.operands.proofs.Yielding.{no-unstuck, through, need-is, first-place, first-value, Gave, gave, place-fits, failed, first-word, first-constant, first-transfer, first-unary, first-binary, by-words, first-equal, first-unequal, equal-match}
-use Rattle.operands.proofs.Selecting.{tab, out, Sel, fits-low, fits-high, failed-place, at-place}
+use Rattle.operands.specs.Packed.{WordIs, Located, Evaluated}
+use Rattle.operands.specs.Places.{wholeAt}
+use Rattle.operands.specs.Ready.{contextIn, Ready, Naming, Valued}
+use Rattle.operands.proofs.Packing.{told-word, told-failure, told-place, told-no-place, tell-word, tell-failure, retell}
+use Rattle.operands.proofs.Nodes.{is-constant, is-retrieve, is-unary, is-transfer, type-constant, type-retrieve, type-unary, type-binary, type-transfer}
+use Rattle.operands.proofs.TypeWords.{some-words}
+use Rattle.operands.proofs.Typed.{OfType, typed-expression}
+use Rattle.operands.proofs.Lending.{lends-type, expression-valued}
+use Rattle.operands.proofs.Yielding.{first-place, first-value, gave, failed, first-word, first-constant, first-transfer, first-unary}
+use Rattle.operands.proofs.Selecting.{out, Sel, failed-place, at-place, selected-fits, selected-low, whole-naming, whole-selected}
 
-abbrev pub Ev : List ℕ → Sections → List ℕ → List ℕ → Context → ℕ → Type 0
-Ev t s m p x n = Evaluable (tableOf (s .w) t) (memoryOf m) (memoryOf p) (contextIn x) n
+abbrev pub Ev : List ℕ → List ℕ → List ℕ → Context → ℕ → Type 0
+Ev t m p x n = Evaluable (decoded t) (memoryOf m) (memoryOf p) (contextIn x) n
 
 -- what follows an evaluation
 pub failed-value : (o : Outcome Operand) (k : ℕ) (g : ℕ → List ℕ → Outcome Operand) → words.fail k ≡ firstWord o → words.fail k ≡ firstWord (onValue o g)
@@ -70,99 +68,109 @@ binary-at e g h k = rw (e, g, h, k)
 pub wider : (T : Table) (n v : ℕ) → n < nodeCount T → Expression T n v → Expression T (nodeCount T) v
 wider T n v l b = record { below = omega (arith, b .below); sort = b .sort; high = b .high }
 
-module _ (t : List ℕ) (s : Sections) (y z o f m p : List ℕ) (x : Context) (h : Ready t s y z o f m p x) (n : ℕ) where
-  -- ---- the laws of `eval`
-  module _ (c : Ev t s m p x n) (k : ℕ) (hk : k ≡ nodeKind (tab t s) n) where
-    pub constant-returns : (v w : ℕ) → k ≡ 0 → v ≡ nodeV (tab t s) n → w ≡ v → words.word w ≡ firstWord (out t s m p x n)
-    constant-returns v w e hv hw =
-        let d = is-constant (tab t s) (memoryOf m) (memoryOf p) (contextIn x) n (c .expression .below) (sym hk ∙ e) in
-        rw (d, hw, hv) (sym (first-constant _ _ _ (subst Unstuck d (c .unstuck))))
+module _ (t m p : List ℕ) (x : Context) (h : Ready t m p x) (n : ℕ) where
+  -- ---- the laws of `evaluate`
+  module _ (c : Ev t m p x n) (k : ℕ) (hk : k ≡ nodeKind (decoded t) n) where
+    pub constant-returns : (v r : ℕ) → k ≡ 0 → v ≡ nodeV (decoded t) n → Field v r → Evaluated t m p x n r
+    constant-returns v r e hv f =
+        let d = is-constant (decoded t) (memoryOf m) (memoryOf p) (contextIn x) n (c .expression .below) (sym hk ∙ e) in
+        tell-word (firstWord (out t m p x n)) v r f (rw (d, hv) (sym (first-constant _ _ _ (subst Unstuck d (c .unstuck)))))
 
-    pub retrieval : k ≡ 4 → Retrieval (tab t s) (memoryOf m) (memoryOf p) (contextIn x) n
+    pub retrieval : k ≡ 4 → Retrieval (decoded t) (memoryOf m) (memoryOf p) (contextIn x) n
     retrieval e = record { evaluable = c; kind = sym hk ∙ e }
 
-    pub binary-node : (b d : Bool) → k ≡ 6 → b ≡ structured (tab t s) n → b ≡ d → Binary (tab t s) (memoryOf m) (memoryOf p) (contextIn x) n d
+    pub binary-node : (b d : Bool) → k ≡ 6 → b ≡ structured (decoded t) n → b ≡ d → Binary (decoded t) (memoryOf m) (memoryOf p) (contextIn x) n d
     binary-node b d e hb g = record { evaluable = c; kind = sym hk ∙ e; compares = sym hb ∙ g }
 
-    module _ (v : ℕ) (hv : v ≡ nodeP (tab t s) n) (n0 : k ≡ 0 → ⊥) (n4 : k ≡ 4 → ⊥) (n6 : k ≡ 6 → ⊥) where
-      is-seven : (k ≡ 5 → ⊥) → nodeKind (tab t s) n ≡ 7
+    pub operand-valued : k ≡ 6 → Valued t (nodeP (decoded t) n)
+    operand-valued e =
+        let l = c .expression .below in
+        expression-valued t m p x h (nodeP (decoded t) n) (wider (decoded t) n (nodeP (decoded t) n) l (binary-left (decoded t) (h .ranged) n l (sym hk ∙ e)))
+
+    module _ (v : ℕ) (hv : v ≡ nodeP (decoded t) n) (n0 : k ≡ 0 → ⊥) (n4 : k ≡ 4 → ⊥) (n6 : k ≡ 6 → ⊥) where
+      is-seven : (k ≡ 5 → ⊥) → nodeKind (decoded t) n ≡ 7
       is-seven n5 =
           sym hk ∙ seven k (λ l. rw (← hk) at (c .expression .sort (rw hk at l))) (let g = c .expression .high in rw (← hk) at g) n0 n4 n5 n6
         where
           seven : (k : ℕ) → (1 ≤ k → 4 ≤ k) → k ≤ 7 → (k ≡ 0 → ⊥) → (k ≡ 4 → ⊥) → (k ≡ 5 → ⊥) → (k ≡ 6 → ⊥) → k ≡ 7
           seven k l a b d e g = let i : 1 ≤ k = omega arith in let j = l i in omega arith
 
-      the-unary : k ≡ 5 → out t s m p x n ≡ onValue (out t s m p x v) (λ τ us. unaryValue (memoryOf p) (unaryAt (nodeQ (tab t s) n)) τ (wordOf us))
-      the-unary e = is-unary (tab t s) (memoryOf m) (memoryOf p) (contextIn x) n (c .expression .below) (h .prepared .ranged) (sym hk ∙ e) ∙ rw hv
+      the-unary : k ≡ 5 → out t m p x n ≡ onValue (out t m p x v) (λ τ us. unaryValue (memoryOf p) (unaryAt (nodeQ (decoded t) n)) τ (wordOf us))
+      the-unary e = is-unary (decoded t) (memoryOf m) (memoryOf p) (contextIn x) n (c .expression .below) (h .ranged) (sym hk ∙ e) ∙ rw hv
 
-      the-transfer : (k ≡ 5 → ⊥) → out t s m p x n ≡ onValue (out t s m p x v) (λ σ us. need (both (ltb σ 3) (ltb (nodeQ (tab t s) n) 3)) (given (nodeQ (tab t s) n) (transferW (nodeQ (tab t s) n) (wordOf us))))
-      the-transfer n5 = is-transfer (tab t s) (memoryOf m) (memoryOf p) (contextIn x) n (c .expression .below) (h .prepared .ranged) (is-seven n5) ∙ rw hv
+      the-transfer : (k ≡ 5 → ⊥) → out t m p x n ≡ onValue (out t m p x v) (λ σ us. need (both (ltb σ 3) (ltb (nodeQ (decoded t) n) 3)) (given (nodeQ (decoded t) n) (transferW (nodeQ (decoded t) n) (wordOf us))))
+      the-transfer n5 = is-transfer (decoded t) (memoryOf m) (memoryOf p) (contextIn x) n (c .expression .below) (h .ranged) (is-seven n5) ∙ rw hv
 
-      one-operand : Expression (tab t s) n v
+      one-operand : Expression (decoded t) n v
       one-operand =
           rw hv
           (cases (eqb k 5)
-          (λ e. unary-operand (tab t s) (h .prepared .ranged) n (c .expression .below) (sym hk ∙ eqb-true k 5 e))
-          (λ e. transfer-operand (tab t s) (h .prepared .ranged) n (c .expression .below) (is-seven (eqb-false k 5 e))))
+          (λ e. unary-operand (decoded t) (h .ranged) n (c .expression .below) (sym hk ∙ eqb-true k 5 e))
+          (λ e. transfer-operand (decoded t) (h .ranged) n (c .expression .below) (is-seven (eqb-false k 5 e))))
 
-      pub one-below : (u : ℕ) → 2 * n + 1 ≡ u → 2 * v + 1 < u
+      pub one-below : (u : ℕ) → 3 * n + 1 ≡ u → 3 * v + 2 < u
       one-below u e = let b = one-operand .below in omega arith
 
-      pub one-evaluable : Ev t s m p x v
+      pub one-evaluable : Ev t m p x v
       one-evaluable =
           record {
-            expression = wider (tab t s) n v (c .expression .below) one-operand;
+            expression = wider (decoded t) n v (c .expression .below) one-operand;
             unstuck =
                 cases (eqb k 5)
                 (λ e. first-value _ _ (subst Unstuck (the-unary (eqb-true k 5 e)) (c .unstuck)))
                 (λ e. first-value _ _ (subst Unstuck (the-transfer (eqb-false k 5 e)) (c .unstuck)));
           }
 
-      module _ (l : Value) (hl : outcomeOf l ≡ firstWord (out t s m p x v)) where
-        pub one-fails : (e : Failure) → l ≡ Fail e → outcomeOf l ≡ firstWord (out t s m p x n)
-        one-fails e g =
-            rw g
+      module _ (l : ℕ) (hl : Evaluated t m p x v l) where
+        pub one-fails : 65536 ≤ l → Evaluated t m p x n l
+        one-fails g =
+            let q = told-failure (firstWord (out t m p x v)) l hl g in
+            tell-failure (firstWord (out t m p x n)) l (hl .listed) g
             (cases (eqb k 5)
-            (λ d. rw (the-unary (eqb-true k 5 d)) (failed-value _ _ _ (rw g at hl)))
-            (λ d. rw (the-transfer (eqb-false k 5 d)) (failed-value _ _ _ (rw g at hl))))
+            (λ d. rw (the-unary (eqb-true k 5 d)) (failed-value _ _ _ q))
+            (λ d. rw (the-transfer (eqb-false k 5 d)) (failed-value _ _ _ q)))
 
-        module _ (w q : ℕ) (hw : l ≡ Word w) (hq : q ≡ nodeQ (tab t s) n) (r : Value) where
-          one-typed : OfType (tab t s) (typeOf (tab t s) v) (out t s m p x v)
-          one-typed = typed-expression (tab t s) (memoryOf m) (memoryOf p) (contextIn x) (h .prepared .ranged) v (one-evaluable .expression)
+        module _ (s : l < 65536) (w q : ℕ) (hw : w ≡ l) (hq : q ≡ nodeQ (decoded t) n) (o : words.Outcome) (r : ℕ) (hr : WordIs o r) where
+          one-typed : OfType (decoded t) (typeOf (decoded t) v) (out t m p x v)
+          one-typed = typed-expression (decoded t) (memoryOf m) (memoryOf p) (contextIn x) (h .ranged) v (one-evaluable .expression)
 
-          pub unary-returns : (τ : ℕ) → k ≡ 5 → τ ≡ typeOf (tab t s) v → outcomeOf r ≡ unaryWord p q τ w → outcomeOf r ≡ firstWord (out t s m p x n)
-          unary-returns τ e hτ g =
+          one-told : words.word w ≡ firstWord (out t m p x v)
+          one-told = rw hw (told-word (firstWord (out t m p x v)) l hl s)
+
+          pub unary-returns : (τ : ℕ) → k ≡ 5 → τ ≡ slotIn t v 23 → o ≡ unaryWord p q τ w → Evaluated t m p x n r
+          unary-returns τ e read g =
+              let hτ = lends-type t m p x h v τ (one-evaluable .expression .below) read in
               let d = the-unary e in
               let u = subst Unstuck d (c .unstuck) in
-              let j = gave (tab t s) (typeOf (tab t s) v) (out t s m p x v) w _ u one-typed (rw hw at hl) in
+              let j = gave (decoded t) (typeOf (decoded t) v) (out t m p x v) w _ u one-typed one-told in
               let i = d ∙ at-value _ _ _ _ (j .is) in
-              g ∙ (unary-at p hq hτ (sym (j .first)) ∙ sym (ap firstWord i ∙ first-unary p (nodeQ (tab t s) n) (typeOf (tab t s) v) (wordOf (j .words)) (subst Unstuck i (c .unstuck))))
+              retell r hr (g ∙ (unary-at p hq hτ (sym (j .first)) ∙ sym (ap firstWord i ∙ first-unary p (nodeQ (decoded t) n) (typeOf (decoded t) v) (wordOf (j .words)) (subst Unstuck i (c .unstuck)))))
 
-          pub transfer-returns : (k ≡ 5 → ⊥) → outcomeOf r ≡ transferW q w → outcomeOf r ≡ firstWord (out t s m p x n)
+          pub transfer-returns : (k ≡ 5 → ⊥) → o ≡ transferW q w → Evaluated t m p x n r
           transfer-returns n5 g =
               let d = the-transfer n5 in
               let u = subst Unstuck d (c .unstuck) in
-              let j = gave (tab t s) (typeOf (tab t s) v) (out t s m p x v) w _ u one-typed (rw hw at hl) in
+              let j = gave (decoded t) (typeOf (decoded t) v) (out t m p x v) w _ u one-typed one-told in
               let i = d ∙ at-value _ _ _ _ (j .is) in
-              g ∙ (transfer-at hq (sym (j .first)) ∙ sym (ap firstWord i ∙ first-transfer _ _ _ (subst Unstuck i (c .unstuck))))
+              retell r hr (g ∙ (transfer-at hq (sym (j .first)) ∙ sym (ap firstWord i ∙ first-transfer _ _ _ (subst Unstuck i (c .unstuck)))))
 
-pub ruleset evaluates = (constant-returns, retrieval, binary-node, one-below, one-evaluable, one-fails, unary-returns, transfer-returns)
+pub ruleset evaluates = (constant-returns, retrieval, binary-node, operand-valued, one-below, one-evaluable, one-fails, unary-returns, transfer-returns)
 
 -- ---- the laws of `retrieve`
-module _ (t : List ℕ) (s : Sections) (y z o f m p : List ℕ) (x : Context) (h : Ready t s y z o f m p x) (n : ℕ) (c : Retrieval (tab t s) (memoryOf m) (memoryOf p) (contextIn x) n) (v : ℕ) (hv : v ≡ nodeP (tab t s) n) where
-  the-retrieve : out t s m p x n ≡ onPlace (out t s m p x v) (λ a τ. ok (value τ (wordsAt (memoryOf m) a (wordsOf (tab t s) τ))))
-  the-retrieve = is-retrieve (tab t s) (memoryOf m) (memoryOf p) (contextIn x) n (c .evaluable .expression .below) (h .prepared .ranged) (c .kind) ∙ rw hv
+module _ (t m p : List ℕ) (x : Context) (h : Ready t m p x) (n : ℕ) (c : Retrieval (decoded t) (memoryOf m) (memoryOf p) (contextIn x) n) (v : ℕ) (hv : v ≡ nodeP (decoded t) n) where
+  the-retrieve : out t m p x n ≡ onPlace (out t m p x v) (λ a τ. ok (value τ (wordsAt (memoryOf m) a (wordsOf (decoded t) τ))))
+  the-retrieve = is-retrieve (decoded t) (memoryOf m) (memoryOf p) (contextIn x) n (c .evaluable .expression .below) (h .ranged) (c .kind) ∙ rw hv
 
-  got-variable : Variable (tab t s) n v
-  got-variable = rw hv (value-variable (tab t s) (h .prepared .ranged) n (c .evaluable .expression .below) (c .kind))
+  got-variable : Variable (decoded t) n v
+  got-variable = rw hv (value-variable (decoded t) (h .ranged) n (c .evaluable .expression .below) (c .kind))
 
   pub got-lower : v < n
   got-lower = got-variable .below
 
-  pub got-below : (u : ℕ) → 2 * n ≡ u → 2 * v < u
+  pub got-below : (u : ℕ) → 3 * n ≡ u → 3 * v + 1 < u
   got-below u e = let b = got-variable .below in omega arith
 
-  pub got-selectable : Sel t s m p x v
+  pub got-selectable : Sel t m p x v
   got-selectable =
       let b = got-variable in
       let l = c .evaluable .expression .below in
@@ -171,40 +179,84 @@ module _ (t : List ℕ) (s : Sections) (y z o f m p : List ℕ) (x : Context) (h
         unstuck = first-place _ _ (subst Unstuck the-retrieve (c .evaluable .unstuck));
       }
 
-  pub got-type : typeOf (tab t s) n ≡ typeOf (tab t s) v
-  got-type = type-retrieve (tab t s) n (c .evaluable .expression .below) (rw hv at (got-variable .below)) (c .kind) ∙ rw hv
+  pub got-type : typeOf (decoded t) n ≡ typeOf (decoded t) v
+  got-type = type-retrieve (decoded t) n (c .evaluable .expression .below) (rw hv at (got-variable .below)) (c .kind) ∙ rw hv
 
-  module _ (l : Place) (hl : selected l (typeOf (tab t s) v) ≡ out t s m p x v) where
-    pub got-failed : (e : Failure) → l ≡ place.Fail e → out t s m p x n ≡ fail (failureNumber e)
-    got-failed e g = the-retrieve ∙ failed-place _ _ _ (sym hl ∙ rw g)
+  there-failed : (k : ℕ) → out t m p x v ≡ fail k → out t m p x n ≡ fail k
+  there-failed k e = the-retrieve ∙ failed-place _ _ _ e
 
-    pub got-fails : (e : Failure) → l ≡ place.Fail e → words.fail (failureNumber e) ≡ firstWord (out t s m p x n)
+  -- the variable stands at location a
+  module _ (a : ℕ) (ha : ok (place a (typeOf (decoded t) v)) ≡ out t m p x v) where
+    there-fits : fits (decoded t) a (typeOf (decoded t) n) ≡ true
+    there-fits = rw got-type (selected-fits t m p x h v got-selectable a ha)
+
+    -- THE VALUE is the words there
+    there-value : out t m p x n ≡ ok (value (typeOf (decoded t) n) (wordsAt (memoryOf m) a (wordsOf (decoded t) (typeOf (decoded t) n))))
+    there-value = the-retrieve ∙ (at-place _ _ _ _ (sym ha) ∙ rw got-type)
+
+    there-returns : (w r : ℕ) → w ≡ memoryOf m a → Field w r → Evaluated t m p x n r
     unfolding firstWord
-    got-fails e g = rw (got-failed e g)
+    there-returns w r e f =
+        tell-word (firstWord (out t m p x n)) w r f
+        (rw (there-value, e, first-word (memoryOf m) a _ (some-words (decoded t) (h .ranged) (h .sized) (typeOf (decoded t) n) (expression-valued t m p x h n (c .evaluable .expression) .type .there))))
+
+  -- as `select` tells it
+  module _ (l : Place) (hl : selected l (typeOf (decoded t) v) ≡ out t m p x v) where
+    pub got-failed : (e : Failure) → l ≡ place.Fail e → out t m p x n ≡ fail (failureNumber e)
+    got-failed e g = there-failed (failureNumber e) (sym hl ∙ rw g)
 
     module _ (a : ℕ) (ha : l ≡ place.At a) where
-      got-place : out t s m p x v ≡ ok (place a (typeOf (tab t s) v))
-      got-place = sym hl ∙ rw ha
+      pub got-fits : fits (decoded t) a (typeOf (decoded t) n) ≡ true
+      got-fits = there-fits a (rw ha at hl)
 
-      pub got-fits : fits (tab t s) a (typeOf (tab t s) n) ≡ true
-      got-fits =
-          rw got-type
-          (place-fits (tab t s) (typeOf (tab t s) v) a (typeOf (tab t s) v)
-          (subst (OfType (tab t s) (typeOf (tab t s) v)) got-place
-          (typed-variable (tab t s) (memoryOf m) (memoryOf p) (contextIn x) (h .prepared .ranged) v (got-selectable .variable))))
+      pub got-value : out t m p x n ≡ ok (value (typeOf (decoded t) n) (wordsAt (memoryOf m) a (wordsOf (decoded t) (typeOf (decoded t) n))))
+      got-value = there-value a (rw ha at hl)
 
-      pub got-low : a < 16384
-      got-low = fits-low (tab t s) a (typeOf (tab t s) n) got-fits
+  -- as `place` and `locate` tell it
+  module _ (l : ℕ) (hl : Located t m p x v l) where
+    pub held-fails : 65536 ≤ l → Evaluated t m p x n l
+    unfolding firstWord
+    held-fails g =
+        let q = there-failed (l - 65536) (told-no-place (typeOf (decoded t) v) (out t m p x v) l hl g) in
+        tell-failure (firstWord (out t m p x n)) l (hl .listed) g (rw q)
 
-      -- THE VALUE is the words there
-      pub got-value : out t s m p x n ≡ ok (value (typeOf (tab t s) n) (wordsAt (memoryOf m) a (wordsOf (tab t s) (typeOf (tab t s) n))))
-      got-value = the-retrieve ∙ (at-place _ _ _ _ got-place ∙ rw got-type)
+    module _ (s : l < 65536) (a : ℕ) (ha : a ≡ l) where
+      held-place : ok (place a (typeOf (decoded t) v)) ≡ out t m p x v
+      held-place = rw ha (sym (told-place (typeOf (decoded t) v) (out t m p x v) l hl s))
 
-      pub got-returns : (w : ℕ) → w ≡ memoryOf m a → words.word w ≡ firstWord (out t s m p x n)
-      unfolding firstWord
-      got-returns w e = rw (got-value, e, first-word (memoryOf m) a _ (some-words (s .w) t (h .prepared .ranged) (h .prepared .sized) (typeOf (tab t s) n)))
+      pub held-fits : fits (decoded t) a (typeOf (decoded t) n) ≡ true
+      held-fits = there-fits a held-place
 
-pub ruleset retrieves = (got-below, got-selectable, got-fails, got-low, got-returns)
+      pub held-low : a < 16384
+      held-low = selected-low t m p x h v got-selectable a held-place
+
+      pub held-value : out t m p x n ≡ ok (value (typeOf (decoded t) n) (wordsAt (memoryOf m) a (wordsOf (decoded t) (typeOf (decoded t) n))))
+      held-value = there-value a held-place
+
+      pub held-returns : (w r : ℕ) → w ≡ memoryOf m a → Field w r → Evaluated t m p x n r
+      held-returns = there-returns a held-place
+
+pub ruleset retrieves = (got-below, got-selectable, held-fails, held-low, held-returns)
+
+-- ---- the laws of `word`: the value of a whole variable
+module _ (t m p : List ℕ) (x : Context) (h : Ready t m p x) (n : ℕ) (c : Ev t m p x n) (k v j w : ℕ) (hk : k ≡ nodeKind (decoded t) n) (hv : v ≡ nodeP (decoded t) n) (e : k ≡ 4) (hj : j ≡ nodeKind (decoded t) v) (hw : w ≡ nodeP (decoded t) v) (g : j ≡ 1) where
+  seen-retrieval : Retrieval (decoded t) (memoryOf m) (memoryOf p) (contextIn x) n
+  seen-retrieval = retrieval t m p x h n c k hk e
+
+  seen-selectable : Sel t m p x v
+  seen-selectable = got-selectable t m p x h n seen-retrieval v hv
+
+  pub seen-naming : Naming t x w
+  seen-naming = whole-naming t m p x h v seen-selectable j w hj hw g
+
+  module _ (a : ℕ) (ha : a ≡ wholeAt (decoded t) (memoryOf m) x w) where
+    pub seen-low : a < 16384
+    seen-low = selected-low t m p x h v seen-selectable a (whole-selected t m p x h v seen-selectable j w hj hw a g ha)
+
+    pub seen-returns : (d r : ℕ) → d ≡ memoryOf m a → Field d r → Evaluated t m p x n r
+    seen-returns = there-returns t m p x h n seen-retrieval v hv a (whole-selected t m p x h v seen-selectable j w hj hw a g ha)
+
+pub ruleset sees = (constant-returns, seen-naming, seen-low, seen-returns)
 
 -- an expression of a type that has several words is a retrieval
 module _ (T : Table) (m n : ℕ) (hr : inRange T ≡ true) (ht : typed T ≡ true) (l : n < nodeCount T) (b : Expression T m n) (w : 1 < wordsOf T (typeOf T n)) where
@@ -246,8 +298,11 @@ module _ (T : Table) (n k : ℕ) (hk : k ≡ nodeV T n) where
   unfolding structured
   structured-not l = rw (← hk, lt-leb k 2 l)
 
-  pub structured-by : (v τ w : ℕ) → k ≤ 2 → v ≡ nodeP T n → τ ≡ typeOf T v → w ≡ wordsOf T τ → ltb 1 w ≡ structured T n
+  pub structured-by : (v w : ℕ) → k ≤ 2 → v ≡ nodeP T n → w ≡ wordsOf T (typeOf T v) → ltb 1 w ≡ structured T n
   unfolding structured
-  structured-by v τ w l hv hτ hw = rw (← hk, le-leb k 2 l, hw, hτ, hv)
+  structured-by v w l hv hw = rw (← hk, le-leb k 2 l, hw, hv)
 
-pub ruleset structures = (structured-not, structured-by)
+pub valued-at : (t : List ℕ) (n v : ℕ) → Valued t n → v ≡ n → Valued t v
+valued-at t n v h e = rw e h
+
+pub ruleset structures = (structured-not, structured-by, valued-at)

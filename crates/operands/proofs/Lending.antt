@@ -1,28 +1,22 @@
 -- What is lent serves each function that takes a part of it. Assumes nothing.
-use Prim.Native.Nat.{ℕ}
-use mathlib.Core.Path.{_≡_}
+use Prim.Native.Nat.{ℕ, _<_, _≤_}
+use mathlib.Core.Path.{_≡_, _∙_}
 use mathlib.Core.List.{List}
 use lib.ListN.{length}
-use Rattle.table.specs.Table.{tableOf}
-use Rattle.table.specs.Reading.{Of}
-use Rattle.table.specs.declared.Sections.{Sections}
-use Rattle.types.specs.Types.{Types}
+use native.Mathlib.Omega.{arith}
+use Rattle.table.specs.Entries.{nodeCount, nodeKind, varCount, varType}
+use Rattle.types.specs.Types.{typeOf}
+use Rattle.numbers.specs.Sorts.{Variable, Expression}
+use Rattle.numbers.proofs.TypePromise as numbers
+use Rattle.code.specs.Code.{slotIn, decoded}
+use Rattle.prepare.specs.Prepared.{Prepared}
 use Rattle.operands.specs.declared.Context.{Context}
-use Rattle.operands.specs.Places.{Places}
-use Rattle.operands.specs.Ready.{Ready, Sized}
+use Rattle.operands.specs.Ready.{Ready, Sized, Valued}
+use Rattle.operands.proofs.NodeTypes.{type-there}
 
-module _ (t : List ℕ) (s : Sections) (y z o f m p : List ℕ) (x : Context) (h : Ready t s y z o f m p x) where
-  pub lends-table : Of t s
-  lends-table = h .table
-
-  pub lends-types : Types (tableOf (s .w) t) y
-  lends-types = h .prepared .types
-
-  pub lends-sizes : Sized t s z
-  lends-sizes = record { table = h .table; sizes = h .prepared .sizes; sized = h .prepared .sized }
-
-  pub lends-places : Places (tableOf (s .w) t) f
-  lends-places = h .prepared .places
+module _ (t m p : List ℕ) (x : Context) (h : Ready t m p x) where
+  pub lends-code : Prepared t
+  lends-code = h .code
 
   pub lends-state : length m ≡ 35328
   lends-state = h .state
@@ -30,4 +24,26 @@ module _ (t : List ℕ) (s : Sections) (y z o f m p : List ℕ) (x : Context) (h
   pub lends-page : length p ≡ 8192
   lends-page = h .page
 
-pub ruleset lends = (lends-table, lends-types, lends-sizes, lends-places, lends-state, lends-page)
+  -- the type of node n, as it is read
+  pub lends-type : (n τ : ℕ) → n < nodeCount (decoded t) → τ ≡ slotIn t n 23 → τ ≡ typeOf (decoded t) n
+  lends-type n τ l e = e ∙ h .code .types n l
+
+  pub node-valued : (n : ℕ) → n < nodeCount (decoded t) → nodeKind (decoded t) n ≤ 7 → Valued t n
+  node-valued n l k =
+      record {
+        there = l;
+        type = record { code = h .code; sized = h .sized; there = type-there (decoded t) (h .ranged) (h .typed) n l k };
+      }
+
+  pub variable-valued : (n : ℕ) → Variable (decoded t) (nodeCount (decoded t)) n → Valued t n
+  variable-valued n v = node-valued n (v .below) (omega (arith, v .high))
+
+  pub expression-valued : (n : ℕ) → Expression (decoded t) (nodeCount (decoded t)) n → Valued t n
+  expression-valued n v = node-valued n (v .below) (v .high)
+
+  -- the type of variable v
+  pub variable-sized : (v τ : ℕ) → v < varCount (decoded t) → τ ≡ varType (decoded t) v → Sized t τ
+  variable-sized v τ l e =
+      record { code = h .code; sized = h .sized; there = rw e (numbers.var-type (decoded t) (h .ranged) v l) }
+
+pub ruleset lends = (lends-code, lends-state, lends-page)

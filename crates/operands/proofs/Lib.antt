@@ -1,12 +1,14 @@
+pub mod Packing
+pub mod Bearings
 pub mod Standing
 pub mod Applying
 pub mod Nodes
 pub mod TypeWords
 pub mod Typed
+pub mod NodeTypes
 pub mod Yielding
+pub mod Lending
 pub mod Selecting
 pub mod Evaluating
 pub mod Combining
 pub mod Comparing
-pub mod Lending
-pub mod Preparing

@@ -1,22 +1,21 @@
 -- What a node comes to, by its kind, in a table that keeps the rule of refusal 4. Assumes nothing.
-use Prim.Native.Nat.{ℕ, _<_, _≤_}
-use mathlib.Core.Path.{_≡_, refl, sym, _∙_}
-use mathlib.Core.Bool.{Bool, true, false}
-use lib.Dec.{eqb, ltb}
-use borrow.Author.Tests.{lt-ltb, ne-eqb}
+use Prim.Native.Nat.{ℕ, _<_}
+use mathlib.Core.Path.{_≡_, _∙_}
+use mathlib.Core.Bool.{true}
+use lib.Dec.{ltb}
+use borrow.Author.Tests.{lt-ltb}
 use Rattle.basics.specs.Choice.{pick, both}
 use Rattle.basics.specs.Course.{course}
 use Rattle.basics.proofs.Courses.{course-is, upto-below}
 use Rattle.table.specs.Table.{Table}
 use Rattle.table.specs.Entries.{nodeCount, varType, nodeKind, nodeP, nodeQ, nodeV}
 use Rattle.types.specs.Types.{noType, fieldOf, elementOf, unaryType, binaryType, operandType, nodeType, typeOf}
-use Rattle.numbers.specs.Sorts.{Variable, Expression}
 use Rattle.numbers.specs.Ranges.{inRange}
 use Rattle.numbers.proofs.OperandPromise.{field-variable, element-variable, value-variable, unary-operand, binary-left, transfer-operand, element-index, binary-right}
 use Rattle.words.specs.Types.{transferW}
 use Rattle.machine.specs.Memory.{Memory, wordsAt}
 use Rattle.machine.specs.Context.{Context}
-use Rattle.machine.specs.Outcomes.{Outcome, ok, stuck, need, Operand, value, onPlace, onValue, wordOf}
+use Rattle.machine.specs.Outcomes.{ok, stuck, need, value, onPlace, onValue, wordOf}
 use Rattle.machine.specs.Entries.{nodeOf, nodeAt, unaryAt, binaryAt}
 use Rattle.sizes.specs.Sizes.{wordsOf}
 use Rattle.machine.specs.Operands.{simple, given, unaryValue, binaryValue, fieldPlace, elementPlace, wholePlace, nodeOperand, operandAt, operand}

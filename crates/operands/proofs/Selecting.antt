@@ -1,42 +1,37 @@
 -- The selection of a variable that is not stuck: what each call may ask, and each return. Assumes nothing.
 use Prim.Native.Nat.{ℕ, _+_, _-_, _*_, _%_, _<_, _≤_}
-use mathlib.Core.Path.{_≡_, refl, sym, ap, subst, _∙_}
+use mathlib.Core.Path.{_≡_, refl, sym, subst, _∙_}
 use mathlib.Core.Bool.{Bool, true, false}
 use mathlib.Core.List.{List}
-use lib.ListN.{length}
-use lib.Dec.{eqb, leb, ltb}
+use lib.Dec.{eqb, ltb}
 use native.Mathlib.Omega.{arith}
 use borrow.Author.Tests.{eqb-true, eqb-false, ltb-true, leb-true, lt-ltb, eq-eqb}
-use Rattle.basics.specs.Choice.{pick, cases, both}
+use Rattle.basics.specs.Choice.{pick, cases}
 use Rattle.basics.proofs.Bools.{both-l, both-r, both-i, no-true}
-use Rattle.table.specs.Table.{Table, tableOf}
-use Rattle.table.specs.Entries.{nodeCount, varCount, typeKind, typeP, typeQ, typeLow, typeHigh, fieldType, varMode, varType, owner, nodeKind, nodeP, nodeQ}
-use Rattle.table.specs.declared.Sections.{Sections}
+use Rattle.table.specs.Table.{Table}
+use Rattle.table.specs.Entries.{varCount, typeKind, typeP, typeQ, typeLow, typeHigh, fieldType, varType, owner, nodeKind, nodeP, nodeQ}
+use Rattle.table.specs.Reading.{Field}
 use Rattle.types.specs.Types.{fieldOf, elementOf, typeOf}
-use Rattle.types.specs.Match.{offset}
 use Rattle.numbers.specs.Sorts.{Variable, Expression}
-use Rattle.numbers.specs.Ranges.{inRange}
 use Rattle.numbers.proofs.OperandPromise.{field-variable, element-variable, element-index}
 use Rattle.sizes.specs.Sizes.{wordsOf, offsetIn}
 use Rattle.words.specs.Outcomes as words
-use Rattle.words.specs.Outcomes.{failureNumber, outcomeOf}
-use Rattle.words.specs.declared.values.Failure.{Failure}
-use Rattle.words.specs.declared.values.Value.{Value}
-use Rattle.words.specs.declared.values.Value.the-variants.{Word, Fail}
-use Rattle.machine.specs.Memory.{Memory, memoryOf, within}
+use Rattle.machine.specs.Memory.{Memory, memoryOf}
 use Rattle.machine.specs.Layout.{location}
-use Rattle.machine.specs.Outcomes.{Outcome, ok, fail, stuck, andThen, need, failWhere, Operand, place, value, placed, valued, onPlace, onValue, onWord, wordOf}
+use Rattle.machine.specs.Outcomes.{Outcome, ok, fail, andThen, need, failWhere, Operand, place, value, placed, valued, onPlace, onValue, onWord, wordOf}
 use Rattle.machine.specs.Variables.{offsetOf, belongs, known, fits}
-use Rattle.machine.specs.Context as machine
 use Rattle.machine.specs.Operands.{onRecord, onArray, outside, placeAt, fieldPlace, elementPlace, moduleVariable, frameVariable, wholePlace, operand}
+use Rattle.code.specs.Code.{slotIn, decoded}
 use Rattle.operands.specs.declared.Context.{Context}
-use Rattle.operands.specs.declared.Place.{Place}
-use Rattle.operands.specs.declared.Place.the-variants as place
-use Rattle.operands.specs.Answers.{selected, firstWord, Unstuck, Selectable, Evaluable}
+use Rattle.operands.specs.Answers.{firstWord, Unstuck, Selectable, Evaluable}
+use Rattle.operands.specs.Packed.{PlaceIs, Located, Evaluated}
 use Rattle.operands.specs.Places.{numbered, framed, frameAt, wholeAt, Named, elementAt}
-use Rattle.operands.specs.Ready.{contextIn, Working, Ready, Naming}
+use Rattle.operands.specs.Ready.{contextIn, Working, Ready, Naming, Fielded, Sized, Indexed}
+use Rattle.operands.proofs.Packing.{told-word, told-failure, told-place, told-no-place, tell-place, tell-no-place}
 use Rattle.operands.proofs.Nodes.{is-whole, is-field, is-element, type-whole, type-field, type-element}
 use Rattle.operands.proofs.Typed.{OfType, typed-variable, typed-expression, entry-record, entry-array, no-record, no-array}
+use Rattle.operands.proofs.NodeTypes.{element-there}
+use Rattle.operands.proofs.Lending.{lends-type, variable-valued}
 use Rattle.operands.proofs.Yielding.{no-unstuck, through, need-is, first-place, first-index, Gave, gave, place-fits, failed}
 
 -- a place lies in one area
@@ -200,65 +195,77 @@ pub at-place : (o : Outcome Operand) (a τ : ℕ) (g : ℕ → ℕ → Outcome O
 unfolding onPlace andThen placed
 at-place o a τ g e = rw e
 
--- ---- the laws of `select`
-abbrev pub tab : List ℕ → Sections → Table
-tab t s = tableOf (s .w) t
+-- ---- the laws of `locate` and `place`
+abbrev pub out : List ℕ → List ℕ → List ℕ → Context → ℕ → Outcome Operand
+out t m p x n = operand (decoded t) (memoryOf m) (memoryOf p) (contextIn x) n
 
-abbrev pub out : List ℕ → Sections → List ℕ → List ℕ → Context → ℕ → Outcome Operand
-out t s m p x n = operand (tableOf (s .w) t) (memoryOf m) (memoryOf p) (contextIn x) n
+abbrev pub Sel : List ℕ → List ℕ → List ℕ → Context → ℕ → Type 0
+Sel t m p x n = Selectable (decoded t) (memoryOf m) (memoryOf p) (contextIn x) n
 
-abbrev pub Sel : List ℕ → Sections → List ℕ → List ℕ → Context → ℕ → Type 0
-Sel t s m p x n = Selectable (tableOf (s .w) t) (memoryOf m) (memoryOf p) (contextIn x) n
+-- a variable that is selected lies in one area
+module _ (t m p : List ℕ) (x : Context) (h : Ready t m p x) (n : ℕ) (c : Sel t m p x n) (a : ℕ) (e : ok (place a (typeOf (decoded t) n)) ≡ out t m p x n) where
+  pub selected-fits : fits (decoded t) a (typeOf (decoded t) n) ≡ true
+  selected-fits =
+      place-fits (decoded t) (typeOf (decoded t) n) a (typeOf (decoded t) n)
+      (subst (OfType (decoded t) (typeOf (decoded t) n)) (sym e)
+      (typed-variable (decoded t) (memoryOf m) (memoryOf p) (contextIn x) (h .ranged) n (c .variable)))
 
-module _ (t : List ℕ) (s : Sections) (y z o f m p : List ℕ) (x : Context) (h : Ready t s y z o f m p x) (n : ℕ) (c : Sel t s m p x n) (k v : ℕ) (hk : k ≡ nodeKind (tab t s) n) (hv : v ≡ nodeP (tab t s) n) where
-  the-whole : k ≡ 1 → out t s m p x n ≡ wholePlace (tab t s) (memoryOf m) (memoryOf p) (contextIn x) v
-  the-whole e = is-whole (tab t s) (memoryOf m) (memoryOf p) (contextIn x) n (c .variable .below) (sym hk ∙ e) ∙ rw hv
+  pub selected-low : a < 16384
+  selected-low = fits-low (decoded t) a (typeOf (decoded t) n) selected-fits
 
-  pub whole-naming : k ≡ 1 → Naming t s o m x v
+module _ (t m p : List ℕ) (x : Context) (h : Ready t m p x) (n : ℕ) (c : Sel t m p x n) (k v : ℕ) (hk : k ≡ nodeKind (decoded t) n) (hv : v ≡ nodeP (decoded t) n) where
+  the-whole : k ≡ 1 → out t m p x n ≡ wholePlace (decoded t) (memoryOf m) (memoryOf p) (contextIn x) v
+  the-whole e = is-whole (decoded t) (memoryOf m) (memoryOf p) (contextIn x) n (c .variable .below) (sym hk ∙ e) ∙ rw hv
+
+  pub whole-naming : k ≡ 1 → Naming t x v
   whole-naming e =
       record {
-        table = h .table;
-        offsets = h .prepared .offsets;
-        state = h .state;
+        code = h .code;
         context = h .context;
-        named = whole-named (tab t s) (memoryOf m) (memoryOf p) x (h .context) v (subst Unstuck (the-whole e) (c .unstuck));
+        named = whole-named (decoded t) (memoryOf m) (memoryOf p) x (h .context) v (subst Unstuck (the-whole e) (c .unstuck));
       }
 
-  pub whole-returns : (a : ℕ) → k ≡ 1 → a ≡ wholeAt (tab t s) (memoryOf m) x v → ok (place a (typeOf (tab t s) n)) ≡ out t s m p x n
-  whole-returns a e g =
-      sym (the-whole e ∙ (whole-done (tab t s) (memoryOf m) (memoryOf p) x (h .context) v (subst Unstuck (the-whole e) (c .unstuck))
-      ∙ rw (g, type-whole (tab t s) n (c .variable .below) (sym hk ∙ e), hv)))
+  pub whole-selected : (a : ℕ) → k ≡ 1 → a ≡ wholeAt (decoded t) (memoryOf m) x v → ok (place a (typeOf (decoded t) n)) ≡ out t m p x n
+  whole-selected a e g =
+      sym (the-whole e ∙ (whole-done (decoded t) (memoryOf m) (memoryOf p) x (h .context) v (subst Unstuck (the-whole e) (c .unstuck))
+      ∙ rw (g, type-whole (decoded t) n (c .variable .below) (sym hk ∙ e), hv)))
+
+  pub whole-low : (a : ℕ) → k ≡ 1 → a ≡ wholeAt (decoded t) (memoryOf m) x v → a < 65536
+  whole-low a e g = let l = selected-low t m p x h n c a (whole-selected a e g) in omega arith
+
+  pub whole-returns : (a r : ℕ) → k ≡ 1 → a ≡ wholeAt (decoded t) (memoryOf m) x v → Field a r → Located t m p x n r
+  whole-returns a r e g f = tell-place (typeOf (decoded t) n) (out t m p x n) a r f (whole-selected a e g)
 
   module _ (n1 : k ≡ 1 → ⊥) where
-    two-three : (k ≡ 2 → ⊥) → nodeKind (tab t s) n ≡ 3
+    two-three : (k ≡ 2 → ⊥) → nodeKind (decoded t) n ≡ 3
     two-three n2 = let l = c .variable .low in let g = c .variable .high in sym hk ∙ three k (rw (← hk) at l) (rw (← hk) at g) n1 n2
       where
         three : (k : ℕ) → 1 ≤ k → k ≤ 3 → (k ≡ 1 → ⊥) → (k ≡ 2 → ⊥) → k ≡ 3
         three k a b d e = omega arith
 
-    part-variable : Variable (tab t s) n v
+    part-variable : Variable (decoded t) n v
     part-variable =
         rw hv
         (cases (eqb k 2)
-        (λ e. field-variable (tab t s) (h .prepared .ranged) n (c .variable .below) (sym hk ∙ eqb-true k 2 e))
-        (λ e. element-variable (tab t s) (h .prepared .ranged) n (c .variable .below) (two-three (eqb-false k 2 e))))
+        (λ e. field-variable (decoded t) (h .ranged) n (c .variable .below) (sym hk ∙ eqb-true k 2 e))
+        (λ e. element-variable (decoded t) (h .ranged) n (c .variable .below) (two-three (eqb-false k 2 e))))
 
-    pub part-below : (u : ℕ) → 2 * n ≡ u → 2 * v < u
+    pub part-below : (u : ℕ) → 3 * n ≡ u → 3 * v + 1 < u
     part-below u e = let b = part-variable .below in omega arith
 
-    the-field : k ≡ 2 → out t s m p x n ≡ onPlace (out t s m p x v) (λ a τ. fieldPlace (tab t s) a τ (nodeQ (tab t s) n))
-    the-field e = is-field (tab t s) (memoryOf m) (memoryOf p) (contextIn x) n (c .variable .below) (h .prepared .ranged) (sym hk ∙ e) ∙ rw hv
+    the-field : k ≡ 2 → out t m p x n ≡ onPlace (out t m p x v) (λ a τ. fieldPlace (decoded t) a τ (nodeQ (decoded t) n))
+    the-field e = is-field (decoded t) (memoryOf m) (memoryOf p) (contextIn x) n (c .variable .below) (h .ranged) (sym hk ∙ e) ∙ rw hv
 
-    the-element : (k ≡ 2 → ⊥) → out t s m p x n ≡ onPlace (out t s m p x v) (λ a τ. elementPlace (tab t s) a τ (out t s m p x (nodeQ (tab t s) n)))
-    the-element n2 = is-element (tab t s) (memoryOf m) (memoryOf p) (contextIn x) n (c .variable .below) (h .prepared .ranged) (two-three n2) ∙ rw hv
+    the-element : (k ≡ 2 → ⊥) → out t m p x n ≡ onPlace (out t m p x v) (λ a τ. elementPlace (decoded t) a τ (out t m p x (nodeQ (decoded t) n)))
+    the-element n2 = is-element (decoded t) (memoryOf m) (memoryOf p) (contextIn x) n (c .variable .below) (h .ranged) (two-three n2) ∙ rw hv
 
-    part-unstuck : Unstuck (out t s m p x v)
+    part-unstuck : Unstuck (out t m p x v)
     part-unstuck =
         cases (eqb k 2)
         (λ e. first-place _ _ (subst Unstuck (the-field (eqb-true k 2 e)) (c .unstuck)))
         (λ e. first-place _ _ (subst Unstuck (the-element (eqb-false k 2 e)) (c .unstuck)))
 
-    pub part-selectable : Sel t s m p x v
+    pub part-selectable : Sel t m p x v
     part-selectable =
         let b = part-variable in
         let l = c .variable .below in
@@ -267,85 +274,115 @@ module _ (t : List ℕ) (s : Sections) (y z o f m p : List ℕ) (x : Context) (h
           unstuck = part-unstuck;
         }
 
-    module _ (l : Place) (hl : selected l (typeOf (tab t s) v) ≡ out t s m p x v) where
-      pub part-fails : (e : Failure) → l ≡ place.Fail e → selected l (typeOf (tab t s) n) ≡ out t s m p x n
-      part-fails e g =
-          let q : out t s m p x v ≡ fail (failureNumber e) = sym hl ∙ rw g in
-          rw g
+    module _ (l : ℕ) (hl : Located t m p x v l) where
+      pub part-fails : 65536 ≤ l → Located t m p x n l
+      part-fails g =
+          let q = told-no-place (typeOf (decoded t) v) (out t m p x v) l hl g in
+          tell-no-place (typeOf (decoded t) n) (out t m p x n) l (hl .listed) g
           (sym
           (cases (eqb k 2)
           (λ d. the-field (eqb-true k 2 d) ∙ failed-place _ _ _ q)
           (λ d. the-element (eqb-false k 2 d) ∙ failed-place _ _ _ q)))
 
-      module _ (a : ℕ) (ha : l ≡ place.At a) where
-        part-is : out t s m p x v ≡ ok (place a (typeOf (tab t s) v))
-        part-is = sym hl ∙ rw ha
+      module _ (s : l < 65536) (a : ℕ) (ha : a ≡ l) where
+        part-is : out t m p x v ≡ ok (place a (typeOf (decoded t) v))
+        part-is = told-place (typeOf (decoded t) v) (out t m p x v) l hl s ∙ rw ha
 
-        pub part-fits : fits (tab t s) a (typeOf (tab t s) v) ≡ true
-        part-fits =
-            place-fits (tab t s) (typeOf (tab t s) v) a (typeOf (tab t s) v)
-            (subst (OfType (tab t s) (typeOf (tab t s) v)) part-is
-            (typed-variable (tab t s) (memoryOf m) (memoryOf p) (contextIn x) (h .prepared .ranged) v (part-selectable .variable)))
+        part-low : a < 16384
+        part-low = selected-low t m p x h v part-selectable a (sym part-is)
 
-        pub part-low : a < 16384
-        part-low = fits-low (tab t s) a (typeOf (tab t s) v) part-fits
+        module _ (τ q : ℕ) (read : τ ≡ slotIn t v 23) (hq : q ≡ nodeQ (decoded t) n) where
+          hτ : τ ≡ typeOf (decoded t) v
+          hτ = lends-type t m p x h v τ (part-selectable .variable .below) read
 
-        module _ (τ q : ℕ) (hτ : τ ≡ typeOf (tab t s) v) (hq : q ≡ nodeQ (tab t s) n) where
-          field-here : k ≡ 2 → out t s m p x n ≡ fieldPlace (tab t s) a τ q
+          field-here : k ≡ 2 → out t m p x n ≡ fieldPlace (decoded t) a τ q
           field-here e = the-field e ∙ (at-place _ _ _ _ part-is ∙ rw (hτ, hq))
 
-          field-unstuck : k ≡ 2 → Unstuck (fieldPlace (tab t s) a τ q)
+          field-unstuck : k ≡ 2 → Unstuck (fieldPlace (decoded t) a τ q)
           field-unstuck e = subst Unstuck (field-here e) (c .unstuck)
 
-          pub field-kind : k ≡ 2 → typeKind (tab t s) τ ≡ 1
-          field-kind e = field-record (tab t s) a τ q (field-unstuck e)
+          pub field-there : k ≡ 2 → Fielded t a τ q
+          field-there e =
+              let u = field-unstuck e in
+              record { code = h .code; low = part-low; kind = field-record (decoded t) a τ q u; below = field-below (decoded t) a τ q u }
 
-          pub field-count : k ≡ 2 → q < typeQ (tab t s) τ
-          field-count e = field-below (tab t s) a τ q (field-unstuck e)
+          field-selected : (r : ℕ) → k ≡ 2 → r ≡ a + offsetIn (decoded t) τ q → ok (place r (typeOf (decoded t) n)) ≡ out t m p x n
+          field-selected r e g =
+              let b = field-variable (decoded t) (h .ranged) n (c .variable .below) (sym hk ∙ e) .below in
+              sym (field-here e ∙ (field-done (decoded t) a τ q (field-unstuck e) ∙ rw (g, type-field (decoded t) n (c .variable .below) b (sym hk ∙ e), hτ, hq, hv)))
 
-          pub field-returns : (r : ℕ) → k ≡ 2 → r ≡ a + offsetIn (tab t s) τ q → ok (place r (typeOf (tab t s) n)) ≡ out t s m p x n
-          field-returns r e g =
-              let b = field-variable (tab t s) (h .prepared .ranged) n (c .variable .below) (sym hk ∙ e) .below in
-              sym (field-here e ∙ (field-done (tab t s) a τ q (field-unstuck e) ∙ rw (g, type-field (tab t s) n (c .variable .below) b (sym hk ∙ e), hτ, hq, hv)))
+          pub field-low : (r : ℕ) → k ≡ 2 → r ≡ a + offsetIn (decoded t) τ q → r < 65536
+          field-low r e g = let l = selected-low t m p x h n c r (field-selected r e g) in omega arith
+
+          pub field-returns : (r d : ℕ) → k ≡ 2 → r ≡ a + offsetIn (decoded t) τ q → Field r d → Located t m p x n d
+          field-returns r d e g f = tell-place (typeOf (decoded t) n) (out t m p x n) r d f (field-selected r e g)
 
           module _ (n2 : k ≡ 2 → ⊥) where
-            element-here : out t s m p x n ≡ elementPlace (tab t s) a τ (out t s m p x q)
+            element-here : out t m p x n ≡ elementPlace (decoded t) a τ (out t m p x q)
             element-here = the-element n2 ∙ (at-place _ _ _ _ part-is ∙ rw (hτ, hq))
 
-            element-unstuck : Unstuck (elementPlace (tab t s) a τ (out t s m p x q))
+            element-unstuck : Unstuck (elementPlace (decoded t) a τ (out t m p x q))
             element-unstuck = subst Unstuck element-here (c .unstuck)
 
-            index-node : Expression (tab t s) n q
-            index-node = rw hq (element-index (tab t s) (h .prepared .ranged) n (c .variable .below) (two-three n2))
+            index-node : Expression (decoded t) n q
+            index-node = rw hq (element-index (decoded t) (h .ranged) n (c .variable .below) (two-three n2))
 
-            pub index-below : (u : ℕ) → 2 * n ≡ u → 2 * q + 1 < u
+            pub index-below : (u : ℕ) → 3 * n ≡ u → 3 * q + 2 < u
             index-below u e = let b = index-node .below in omega arith
 
-            pub index-evaluable : Evaluable (tab t s) (memoryOf m) (memoryOf p) (contextIn x) q
+            pub index-evaluable : Evaluable (decoded t) (memoryOf m) (memoryOf p) (contextIn x) q
             index-evaluable =
                 let b = index-node in
                 let i = c .variable .below in
                 record {
                   expression = record { below = omega (arith, b .below); sort = b .sort; high = b .high };
-                  unstuck = element-index-unstuck (tab t s) a τ (out t s m p x q) element-unstuck;
+                  unstuck = element-index-unstuck (decoded t) a τ (out t m p x q) element-unstuck;
                 }
 
-            module _ (w : Value) (hw : outcomeOf w ≡ firstWord (out t s m p x q)) where
-              pub index-fails : (e : Failure) → w ≡ Fail e → fail (failureNumber e) ≡ out t s m p x n
-              index-fails e g =
-                  let d : out t s m p x q ≡ fail (failureNumber e) = failed _ _ (rw g at hw) in
-                  sym (element-here ∙ element-failed (tab t s) a τ (out t s m p x q) element-unstuck (failureNumber e) d)
+            element-sized : Sized t (typeQ (decoded t) τ)
+            element-sized =
+                let u = variable-valued t m p x h v (part-selectable .variable) .type .there in
+                record {
+                  code = h .code;
+                  sized = h .sized;
+                  there = element-there (decoded t) (h .ranged) τ (rw (← hτ) at u) (element-array (decoded t) a τ (out t m p x q) element-unstuck);
+                }
 
-              pub element-returns : (i : ℕ) (r : Place) → w ≡ Word i
-                  → selected r (typeQ (tab t s) τ) ≡ failWhere (outside (typeLow (tab t s) τ) (typeHigh (tab t s) τ) i) 18 (ok (place (elementAt (tab t s) a τ i) (typeQ (tab t s) τ)))
-                  → selected r (typeOf (tab t s) n) ≡ out t s m p x n
-              element-returns i r g d =
-                  let v = typed-expression (tab t s) (memoryOf m) (memoryOf p) (contextIn x) (h .prepared .ranged) q (index-evaluable .expression) in
-                  let j = index-gave (tab t s) a τ (out t s m p x q) element-unstuck (typeOf (tab t s) q) v i (rw g at hw) in
-                  let kind = element-array (tab t s) a τ (out t s m p x q) element-unstuck in
-                  let b = element-variable (tab t s) (h .prepared .ranged) n (c .variable .below) (two-three n2) .below in
-                  let u : typeOf (tab t s) n ≡ typeQ (tab t s) τ = type-element (tab t s) n (c .variable .below) b (two-three n2) ∙ rw (← hv, ← hτ) (element-type (tab t s) τ kind) in
-                  rw u
-                  (d ∙ sym (element-here ∙ (element-done (tab t s) a τ (out t s m p x q) element-unstuck (typeOf (tab t s) q) (j .words) (j .is) ∙ rw (j .first, element-type (tab t s) τ kind))))
+            element-kind : typeKind (decoded t) τ ≡ 2
+            element-kind = element-array (decoded t) a τ (out t m p x q) element-unstuck
 
-pub ruleset selects = (whole-naming, whole-returns, part-below, part-selectable, part-fails, part-low, field-kind, field-count, field-returns, index-below, index-evaluable, index-fails, element-returns)
+            element-typed : typeOf (decoded t) n ≡ typeQ (decoded t) τ
+            element-typed =
+                let b = element-variable (decoded t) (h .ranged) n (c .variable .below) (two-three n2) .below in
+                type-element (decoded t) n (c .variable .below) b (two-three n2) ∙ rw (← hv, ← hτ) (element-type (decoded t) τ element-kind)
+
+            module _ (w : ℕ) (hw : Evaluated t m p x q w) where
+              pub index-fails : 65536 ≤ w → Located t m p x n w
+              index-fails g =
+                  let d = failed (out t m p x q) (w - 65536) (told-failure (firstWord (out t m p x q)) w hw g) in
+                  tell-no-place (typeOf (decoded t) n) (out t m p x n) w (hw .listed) g
+                  (sym (element-here ∙ element-failed (decoded t) a τ (out t m p x q) element-unstuck (w - 65536) d))
+
+              module _ (g : w < 65536) (i : ℕ) (hi : i ≡ w) where
+                element-found : out t m p x n ≡ failWhere (outside (typeLow (decoded t) τ) (typeHigh (decoded t) τ) i) 18 (ok (place (elementAt (decoded t) a τ i) (typeQ (decoded t) τ)))
+                element-found =
+                    let v = typed-expression (decoded t) (memoryOf m) (memoryOf p) (contextIn x) (h .ranged) q (index-evaluable .expression) in
+                    let d = told-word (firstWord (out t m p x q)) w hw g in
+                    let j = index-gave (decoded t) a τ (out t m p x q) element-unstuck (typeOf (decoded t) q) v i (rw hi d) in
+                    element-here ∙ (element-done (decoded t) a τ (out t m p x q) element-unstuck (typeOf (decoded t) q) (j .words) (j .is) ∙ rw (j .first, element-type (decoded t) τ element-kind))
+
+                pub element-indexed : Indexed t a τ i
+                unfolding failWhere
+                element-indexed =
+                    record {
+                      element = element-sized;
+                      low = part-low;
+                      room = λ e. let l = selected-low t m p x h n c (elementAt (decoded t) a τ i) (rw element-typed (sym (element-found ∙ rw e))) in omega arith;
+                    }
+
+                pub element-returns : (r : ℕ)
+                    → PlaceIs (typeQ (decoded t) τ) (failWhere (outside (typeLow (decoded t) τ) (typeHigh (decoded t) τ) i) 18 (ok (place (elementAt (decoded t) a τ i) (typeQ (decoded t) τ)))) r
+                    → Located t m p x n r
+                element-returns r d = rw (element-typed, element-found) d
+
+pub ruleset selects = (whole-naming, whole-low, whole-returns, part-below, part-selectable, part-fails, field-there, field-low, field-returns, index-below, index-evaluable, index-fails, element-indexed, element-returns)

@@ -1,161 +1,183 @@
 -- Where variables stand: the laws of each return. Assumes nothing.
-use Prim.Native.Nat.{ℕ, zero, suc, _+_, _-_, _*_, _<_, _≤_, min}
-use mathlib.Core.Path.{_≡_, refl, sym, ap, _∙_}
+use Prim.Native.Nat.{ℕ, suc, _+_, _-_, _*_, _<_, _≤_}
+use mathlib.Core.Path.{_≡_, sym, ap, _∙_}
 use mathlib.Core.Bool.{Bool, true, false}
-use mathlib.Core.List.{List, [], _∷_}
-use lib.ListN.{length, getD}
+use mathlib.Core.List.{List, _∷_}
+use lib.ListN.{getD}
 use lib.Dec.{eqb, leb, ltb}
 use native.Mathlib.Nat.{mul-le-mul}
 use native.Mathlib.Omega.{arith}
-use borrow.Author.Tests.{eq-eqb, ne-eqb, le-leb, lt-leb, lt-ltb, le-ltb}
+use borrow.Author.Tests.{eq-eqb, ne-eqb, le-leb, lt-leb}
 use mir.Val.{Fits}
 use mir.Syntax.{w64}
-use Rattle.basics.specs.Choice.{pick, both}
-use Rattle.table.specs.Table.{Table, tableOf}
-use Rattle.table.specs.Entries.{varMode, typeKind, typeP, typeQ, typeLow, typeHigh, firstVar, vars}
+use Rattle.basics.specs.Choice.{both}
+use Rattle.table.specs.Table.{Table}
+use Rattle.table.specs.Entries.{varMode, typeP, typeQ, typeLow, typeHigh}
 use Rattle.table.specs.Reading.{Field}
-use Rattle.table.specs.declared.Sections.{Sections}
 use Rattle.types.specs.Match.{offset}
-use Rattle.sizes.specs.Sizes.{wordsOf, offsetIn, sized}
-use Rattle.sizes.proofs.Promise.{size-exact, types-pass}
-use Rattle.sizes.proofs.Judging.{any-small}
+use Rattle.types.specs.Types.{typeOf}
+use Rattle.sizes.specs.Sizes.{wordsOf, offsetIn}
+use Rattle.sizes.proofs.Promise.{words-most}
 use Rattle.words.specs.Memory.{wordAtByte, wordAt}
 use Rattle.machine.specs.Memory.{memoryOf, within, Memory, wordsAt}
 use Rattle.machine.specs.Layout.{location}
-use Rattle.machine.specs.Outcomes.{Outcome, ok, fail, failWhere, Operand, place}
+use Rattle.machine.specs.Outcomes.{ok, failWhere, place}
 use Rattle.machine.specs.Operands.{outside, same}
 use Rattle.words.specs.Operators.{leW}
 use Rattle.operands.proofs.Yielding.{le-offset}
-use Rattle.machine.specs.Variables.{offsetOf, belongs}
+use Rattle.operands.proofs.Packing.{tell-place, tell-no-place}
+use Rattle.machine.specs.Variables.{offsetOf}
+use Rattle.code.specs.Code.{slotIn, decoded}
 use Rattle.operands.specs.declared.Context.{Context}
-use Rattle.operands.specs.Places.{numbered, Offsets, Places, framed, frameAt, wholeAt, Named, elementAt, Rooms, Matched}
-use Rattle.operands.specs.Ready.{Working, Naming, Sized}
+use Rattle.operands.specs.Bases.{contextAt, Based}
+use Rattle.operands.specs.Packed.{PlaceIs}
+use Rattle.operands.specs.Places.{numbered, framed, frameAt, wholeAt, elementAt, Matched}
+use Rattle.operands.specs.Ready.{Naming, Fielded, Sized, Indexed, Valued}
 
 pub memory-word : (s : List ℕ) (a r : ℕ) → r ≡ wordAt s a → r ≡ memoryOf s a
 unfolding memoryOf wordAt wordAtByte
 memory-word s a r e = e
 
--- a range of numbers
-module _ (T : Table) (b v p : ℕ) (hp : Field (firstVar T b) p) where
-  pub numbered-below : v < p → false ≡ numbered T b v
-  unfolding numbered within both
-  numbered-below h = let e = hp .is in rw (← e, lt-leb p v h)
+-- whole variables: the offset w that was found once
+module _ (t : List ℕ) (x : Context) (v : ℕ) (h : Naming t x v) (w : ℕ) (e : w ≡ slotIn t v 10) where
+  module-is : numbered (decoded t) (x .owner) v ≡ true → w ≡ offsetOf (decoded t) (x .owner) v
+  module-is n =
+      let u = h .named .ofModule n in
+      let g = h .code .offsets (x .owner) v (u .0) in
+      let l = u .1 in omega arith
 
-  pub numbered-from : (q : ℕ) → p ≤ v → Field (vars T b) q → ltb v (p + q) ≡ numbered T b v
-  unfolding numbered within both
-  numbered-from q h hq = let e = hp .is in let g = hq .is in rw (← e, ← g, le-leb p v h)
+  module-low : numbered (decoded t) (x .owner) v ≡ true → w < 256
+  module-low n = let g = module-is n in let u = h .named .ofModule n .1 in omega arith
 
--- whole variables
-module _ (t : List ℕ) (s : Sections) (o m : List ℕ) (x : Context) (v : ℕ) (h : Naming t s o m x v) where
-  pub naming-room : v < length o
-  naming-room = omega (arith, h .named .there, h .offsets .long)
+  frame-is : numbered (decoded t) (x .owner) v ≡ false → w ≡ offsetOf (decoded t) (x .block) v
+  unfolding framed
+  frame-is n =
+      let u = h .named .ofFrame n in
+      let g = h .code .offsets (x .block) v (u .0) in
+      let l = u .1 in omega arith
 
-  module _ (n : numbered (tableOf (s .w) t) (x .owner) v ≡ false) where
-    frame-is : getD o v 0 ≡ offsetOf (tableOf (s .w) t) (x .block) v
-    unfolding framed
-    frame-is =
-        let u = h .named .ofFrame n in
-        let e = h .offsets .is (x .block) v (u .0) in
-        let g = u .1 in omega arith
+  frame-low : numbered (decoded t) (x .owner) v ≡ false → x .frame + 4 + w < 256
+  unfolding framed
+  frame-low n = let u = h .named .ofFrame n .1 in let g = frame-is n in omega arith
 
-    pub frame-low : (w : ℕ) → w ≡ getD o v 0 → x .frame + 4 + w < 256
-    unfolding framed
-    frame-low w e = let u = h .named .ofFrame n .1 in let g = frame-is in omega arith
+-- the same by the numbers that a context is lent as
+module _ (t l : List ℕ) (v : ℕ) (h : Naming t (contextAt l) v) (g : Based t l) (b : Bool) (hb : b ≡ both (leb (getD l 6 0) v) (ltb v (getD l 7 0))) (w : ℕ) (hw : w ≡ slotIn t v 10) where
+  is-numbered : b ≡ numbered (decoded t) (contextAt l .owner) v
+  unfolding numbered within
+  is-numbered = let e = g .first in let d = g .after in hb ∙ rw (e, d)
 
-    pub frame-sum : (w : ℕ) → w ≡ getD o v 0 → x .frame + 4 + w ≡ framed (tableOf (s .w) t) x v
-    unfolding framed
-    frame-sum w e = rw (e, frame-is)
+  module _ (e : b ≡ true) where
+    owned-low : getD l 8 0 + w < 16384
+    unfolding location
+    owned-low =
+        let i = module-low t (contextAt l) v h w hw (sym is-numbered ∙ e) in
+        let a = g .owned in let j = h .context .worksHigh in let k = h .context .worksLow in omega arith
 
-    pub frame-fits : Fits w64 (x .frame + 4)
-    frame-fits = let l = frame-low (getD o v 0) refl in record { fits = omega arith }
+    pub owned-fits : Fits w64 (getD l 8 0 + w)
+    owned-fits = let i = owned-low in record { fits = omega arith }
 
-    pub frame-fits-2 : (w : ℕ) → w ≡ getD o v 0 → Fits w64 (x .frame + 4 + w)
-    frame-fits-2 w e = let l = frame-low w e in record { fits = omega arith }
+    pub owned-returns : (m : Memory) → getD l 8 0 + w ≡ wholeAt (decoded t) m (contextAt l) v
+    unfolding wholeAt location
+    owned-returns m =
+        let n = sym is-numbered ∙ e in
+        let i = module-is t (contextAt l) v h w hw n in
+        let a = g .owned in rw (n, ← i) (omega arith)
 
-  module _ (b : Bool) (hb : b ≡ numbered (tableOf (s .w) t) (x .owner) v) where
-    module _ (n : b ≡ true) (w : ℕ) (e : w ≡ getD o v 0) where
-      pub module-is : w ≡ offsetOf (tableOf (s .w) t) (x .owner) v
-      module-is =
-          let u = h .named .ofModule (sym hb ∙ n) in
-          let g = h .offsets .is (x .owner) v (u .0) in
-          let l = u .1 in omega arith
+  module _ (e : b ≡ false) where
+    framed-sum : getD l 9 0 + w ≡ location (contextAt l .process) (framed (decoded t) (contextAt l) v)
+    unfolding framed location
+    framed-sum =
+        let n = sym is-numbered ∙ e in
+        let i = frame-is t (contextAt l) v h w hw n in
+        let j = frame-low t (contextAt l) v h w hw n in
+        let a = g .framed (omega arith) in rw (← i) (omega arith)
 
-      pub module-low : w ≤ 255
-      module-low =
-          let u = h .named .ofModule (sym hb ∙ n) in
-          let g = h .offsets .is (x .owner) v (u .0) in
-          let l = u .1 in omega arith
+    pub framed-low : getD l 9 0 + w < 16384
+    unfolding framed location
+    framed-low =
+        let a = framed-sum in
+        let i = h .named .ofFrame (sym is-numbered ∙ e) .1 in let j = h .context .processHigh in omega arith
 
-    pub not-numbered : b ≡ false → numbered (tableOf (s .w) t) (x .owner) v ≡ false
-    not-numbered n = sym hb ∙ n
+    pub framed-fits : Fits w64 (getD l 9 0 + w)
+    framed-fits = let i = framed-low in record { fits = omega arith }
 
-  pub location-low : (k a : ℕ) → k < 256 → a ≡ location (x .process) k → a < 16384
-  unfolding location
-  location-low k a l e = let g = h .context .processHigh in omega arith
+    module _ (m : Memory) (d : ℕ) (hd : d ≡ varMode (decoded t) v) where
+      pub frame-own : (d ≡ 2 → ⊥) → getD l 9 0 + w ≡ wholeAt (decoded t) m (contextAt l) v
+      unfolding wholeAt frameAt
+      frame-own n = rw (← is-numbered, e, ← hd, ne-eqb d 2 n) framed-sum
 
-  pub naming-state : length m ≡ 35328
-  naming-state = h .state
-
-  pub works-low : 1 ≤ x .works
-  works-low = h .context .worksLow
-
-  pub works-high : x .works ≤ 64
-  works-high = h .context .worksHigh
-
-module _ (T : Table) (m : Memory) (x : Context) (v k a d : ℕ) (hk : k ≡ framed T x v) (ha : a ≡ location (x .process) k) (hd : d ≡ varMode T v) where
-  pub frame-own : (d ≡ 2 → ⊥) → a ≡ frameAt T m x v
-  unfolding frameAt
-  frame-own n = rw (← hd, ne-eqb d 2 n, ← hk) ha
-
-  pub frame-bound : (u w : ℕ) → d ≡ 2 → w ≡ u → u ≡ m a → w ≡ frameAt T m x v
-  unfolding frameAt
-  frame-bound u w e f g = rw (← hd, e, ← hk, ← ha) (f ∙ g)
-
-module _ (T : Table) (m : Memory) (x : Context) (v : ℕ) (b : Bool) (hb : b ≡ numbered T (x .owner) v) where
-  pub whole-module : (k a : ℕ) → b ≡ true → k ≡ offsetOf T (x .owner) v → a ≡ location (x .works) k → a ≡ wholeAt T m x v
-  unfolding wholeAt
-  whole-module k a e hk ha = rw (← hb, e, ← hk) ha
-
-  pub whole-frame : (a : ℕ) → b ≡ false → a ≡ frameAt T m x v → a ≡ wholeAt T m x v
-  unfolding wholeAt
-  whole-frame a e ha = rw (← hb, e) ha
+      pub frame-bound : (u r : ℕ) → d ≡ 2 → r ≡ u → u ≡ m (getD l 9 0 + w) → r ≡ wholeAt (decoded t) m (contextAt l) v
+      unfolding wholeAt frameAt
+      frame-bound u r i f k = rw (← is-numbered, e, ← hd, i, ← framed-sum) (f ∙ k)
 
 -- fields
-module _ (T : Table) (l : List ℕ) (h : Places T l) (a τ i p : ℕ) (k : typeKind T τ ≡ 1) (g : i < typeQ T τ) (hp : p ≡ typeP T τ) where
-  pub field-room : p + i < length l
-  field-room = rw hp (h .there τ i k g)
-
-  pub field-at : (w : ℕ) → w ≡ getD l (p + i) 0 → a + w ≡ a + offsetIn T τ i
-  field-at w e = rw (e, hp, h .is τ i k g)
+pub field-at : (t : List ℕ) (a τ i p w : ℕ) → Fielded t a τ i → p ≡ typeP (decoded t) τ → w ≡ slotIn t (p + i) 7 → a + w ≡ a + offsetIn (decoded t) τ i
+field-at t a τ i p w h hp e = rw (e, hp, h .code .places τ i (h .kind) (h .below))
 
 -- words of types
-module _ (t : List ℕ) (s : Sections) (z : List ℕ) (τ r : ℕ) (h : Sized t s z) (e : r ≡ min (wordsOf (tableOf (s .w) t) τ) 201) where
-  pub exact-words : r ≡ wordsOf (tableOf (s .w) t) τ
-  exact-words = let g = any-small (s .w) t (types-pass (tableOf (s .w) t) (h .sized)) τ in omega arith
+module _ (t : List ℕ) (τ r : ℕ) (h : Sized t τ) where
+  pub type-words : r ≡ slotIn t τ 5 → r ≡ wordsOf (decoded t) τ
+  type-words e = e ∙ h .code .sizes τ (h .there)
 
-  pub few-words : r ≤ 200
-  few-words = let g = any-small (s .w) t (types-pass (tableOf (s .w) t) (h .sized)) τ in omega arith
+  pub few-words : r ≡ slotIn t τ 5 → r ≤ 200
+  few-words e = let g = type-words e in let u = words-most (decoded t) (h .sized) τ (h .there) in omega arith
+
+  pub same-sized : r ≡ τ → Sized t r
+  same-sized e = rw e h
+
+module _ (t : List ℕ) (n τ : ℕ) (h : Valued t n) (e : τ ≡ slotIn t n 23) where
+  value-type : τ ≡ typeOf (decoded t) n
+  value-type = e ∙ h .type .code .types n (h .there)
+
+  pub value-sized : Sized t τ
+  value-sized = rw value-type (h .type)
+
+  pub value-words : (r : ℕ) → r ≡ wordsOf (decoded t) τ → r ≡ wordsOf (decoded t) (typeOf (decoded t) n)
+  value-words r g = g ∙ ap (wordsOf (decoded t)) value-type
 
 -- elements
+pub element-room : (t : List ℕ) (a τ i : ℕ) → Indexed t a τ i → outside (typeLow (decoded t) τ) (typeHigh (decoded t) τ) i ≡ false → elementAt (decoded t) a τ i < 65536
+element-room t a τ i h = h .room
+
 module _ (T : Table) (a τ i c k d low : ℕ) (hc : Field i c) (hk : k ≡ offset c) (hd : Field (typeLow T τ) d) (hl : low ≡ offset d) where
   low-test : leW (typeLow T τ) i ≡ leb low k
   low-test = let u = hc .is in let v = hd .is in rw (← u, ← v, hl, hk) (le-offset d c (hd .small) (hc .small))
 
-  pub index-low : k < low → fail 18 ≡ failWhere (outside (typeLow T τ) (typeHigh T τ) i) 18 (ok (place (elementAt T a τ i) (typeQ T τ)))
-  unfolding outside both failWhere
-  index-low h = rw (low-test, lt-leb low k h)
+  abbrev Element : ℕ → Type 0
+  Element r = PlaceIs (typeQ T τ) (failWhere (outside (typeLow T τ) (typeHigh T τ) i) 18 (ok (place (elementAt T a τ i) (typeQ T τ)))) r
+
+  out-of-range : outside (typeLow T τ) (typeHigh T τ) i ≡ true → Element 65554
+  unfolding failWhere
+  out-of-range e =
+      tell-no-place (typeQ T τ) _ 65554 (record { low = λ g. omega arith; high = omega arith }) (omega arith) (rw e)
+
+  pub index-low : k < low → Element 65554
+  unfolding outside both
+  index-low h = out-of-range (rw (low-test, lt-leb low k h))
 
   module _ (e high : ℕ) (he : Field (typeHigh T τ) e) (hh : high ≡ offset e) (h : low ≤ k) where
     high-test : leW i (typeHigh T τ) ≡ leb k high
     high-test = let u = hc .is in let v = he .is in rw (← u, ← v, hh, hk) (le-offset c e (hc .small) (he .small))
 
-    pub index-high : high < k → fail 18 ≡ failWhere (outside (typeLow T τ) (typeHigh T τ) i) 18 (ok (place (elementAt T a τ i) (typeQ T τ)))
-    unfolding outside both failWhere
-    index-high g = rw (low-test, high-test, le-leb low k h, lt-leb k high g)
+    pub index-high : high < k → Element 65554
+    unfolding outside both
+    index-high g = out-of-range (rw (low-test, high-test, le-leb low k h, lt-leb k high g))
 
-    pub index-in : (y w : ℕ) → k ≤ high → y ≡ typeQ T τ → w ≡ wordsOf T y → ok (place (a + (k - low) * w) (typeQ T τ)) ≡ failWhere (outside (typeLow T τ) (typeHigh T τ) i) 18 (ok (place (elementAt T a τ i) (typeQ T τ)))
-    unfolding outside both failWhere elementAt
-    index-in y w g u q = rw (low-test, high-test, le-leb low k h, le-leb k high g, q, u, hk, hl, hc .is, hd .is)
+    module _ (y w : ℕ) (g : k ≤ high) (u : y ≡ typeQ T τ) (q : w ≡ wordsOf T y) where
+      in-range : outside (typeLow T τ) (typeHigh T τ) i ≡ false
+      unfolding outside both
+      in-range = rw (low-test, high-test, le-leb low k h, le-leb k high g)
+
+      stands : a + (k - low) * w ≡ elementAt T a τ i
+      unfolding elementAt
+      stands = rw (q, u, hk, hl, hc .is, hd .is)
+
+      pub index-room : (outside (typeLow T τ) (typeHigh T τ) i ≡ false → elementAt T a τ i < 65536) → a + (k - low) * w < 65536
+      index-room r = rw stands (r in-range)
+
+      pub index-in : (r : ℕ) → Field (a + (k - low) * w) r → Element r
+      unfolding failWhere
+      index-in r f = tell-place (typeQ T τ) _ _ r f (rw (in-range, stands))
 
 pub element-fits : (k low w : ℕ) → k < 65536 → w ≤ 200 → Fits w64 ((k - low) * w)
 element-fits k low w h g =
@@ -201,4 +223,4 @@ matched-none m a b n =
 
 pub ruleset matching = (matched-none, matched-more, matched-not, matched-all)
 
-pub ruleset standing = (memory-word, numbered-below, numbered-from, naming-room, frame-low, frame-sum, frame-fits, frame-fits-2, module-is, module-low, not-numbered, location-low, naming-state, works-low, works-high, frame-own, frame-bound, whole-module, whole-frame, field-room, field-at, exact-words, few-words, index-low, index-high, index-in, element-fits, element-sum)
+pub ruleset standing = (memory-word, owned-fits, owned-returns, framed-low, framed-fits, frame-own, frame-bound, field-at, type-words, few-words, same-sized, value-sized, value-words, index-low, index-high, element-room, index-room, index-in, element-fits, element-sum)

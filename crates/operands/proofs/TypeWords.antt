@@ -1,27 +1,21 @@
 -- Words of types in a table that keeps the rules of refusals 4 and 7. Assumes nothing.
 use Prim.Native.Nat.{ℕ, zero, suc, _+_, _*_, _<_, _≤_}
-use mathlib.Core.Path.{_≡_, refl, sym, _∙_}
-use mathlib.Core.Bool.{Bool, true, false}
-use mathlib.Core.List.{List}
+use mathlib.Core.Path.{_≡_, sym, _∙_}
+use mathlib.Core.Bool.{true}
 use lib.Dec.{eqb, ltb}
 use native.Mathlib.Nat.{mul-le-mul}
 use native.Mathlib.Omega.{arith}
-use borrow.Author.Tests.{eqb-true, eqb-false, ltb-true, ltb-false}
-use Rattle.basics.specs.Choice.{pick, cases}
+use borrow.Author.Tests.{eqb-true, eqb-false, ltb-false}
+use Rattle.basics.specs.Choice.{cases}
 use Rattle.basics.proofs.Bools.{no-true}
-use Rattle.basics.proofs.Courses.{upto-below}
-use Rattle.table.specs.Table.{Table, tableOf}
+use Rattle.table.specs.Table.{Table}
 use Rattle.table.specs.Entries.{declared, typeCount, typeKind, typeP, typeQ, fieldType}
 use Rattle.types.specs.Match.{elements, isString, matches}
 use Rattle.numbers.specs.Ranges.{inRange}
 use Rattle.numbers.proofs.TypePromise.{record-some, field-lower, element-lower}
-use Rattle.sizes.specs.Sizes.{wordsOf, partWords, typeWords, offsetIn, sized}
-use Rattle.sizes.proofs.Counting.{words-record, words-array, words-simple, words-far, words-standard, offset-more, offset-in}
+use Rattle.sizes.specs.Sizes.{wordsOf, sized}
+use Rattle.sizes.proofs.Counting.{words-array, words-simple, words-standard, part-lower, offset-more, offset-in}
 use Rattle.sizes.proofs.Promise.{elements-some}
-
-pub part-lower : (T : Table) (τ σ : ℕ) → σ < τ → partWords T τ σ ≡ wordsOf T σ
-unfolding partWords wordsOf
-part-lower T τ σ l = upto-below 0 (typeWords T) τ σ l
 
 pub declares : (T : Table) (τ k : ℕ) → typeKind T τ ≡ k → 1 ≤ k → 3 ≤ τ
 unfolding declared
@@ -31,39 +25,35 @@ declares T τ k e h =
     (λ g. ltb-false τ 3 g)
 
 -- every type has a word
-module _ (w : ℕ) (t : List ℕ) (h : inRange (tableOf w t) ≡ true) (z : sized (tableOf w t) ≡ true) where
-  some-at : (τ : ℕ) → ((σ : ℕ) → σ < τ → 1 ≤ wordsOf (tableOf w t) σ) → 1 ≤ wordsOf (tableOf w t) τ
-  some-at τ r =
-      cases (ltb τ (3 + typeCount (tableOf w t)))
-      (λ e.
-      let l = ltb-true τ (3 + typeCount (tableOf w t)) e in
-      cases (eqb (typeKind (tableOf w t) τ) 1)
+module _ (T : Table) (h : inRange T ≡ true) (z : sized T ≡ true) where
+  some-at : (τ : ℕ) → τ < 3 + typeCount T → ((σ : ℕ) → σ < τ → 1 ≤ wordsOf T σ) → 1 ≤ wordsOf T τ
+  some-at τ l r =
+      cases (eqb (typeKind T τ) 1)
       (λ q.
-      let k = eqb-true (typeKind (tableOf w t) τ) 1 q in
-      let c = record-some (tableOf w t) h τ l k in
-      let u = offset-in (tableOf w t) τ k 1 c in
-      let v = offset-more (tableOf w t) τ 0 in
-      let d = field-lower (tableOf w t) h τ l k 0 (omega arith) in
-      let y = part-lower (tableOf w t) τ (fieldType (tableOf w t) (typeP (tableOf w t) τ + 0)) d in
-      let g = r (fieldType (tableOf w t) (typeP (tableOf w t) τ + 0)) d in omega arith)
+      let k = eqb-true (typeKind T τ) 1 q in
+      let c = record-some T h τ l k in
+      let u = offset-in T τ k 1 c in
+      let v = offset-more T τ 0 in
+      let d = field-lower T h τ l k 0 (omega arith) in
+      let y = part-lower T τ (fieldType T (typeP T τ + 0)) d in
+      let g = r (fieldType T (typeP T τ + 0)) d in omega arith)
       (λ q.
-      cases (eqb (typeKind (tableOf w t) τ) 2)
+      cases (eqb (typeKind T τ) 2)
       (λ p.
-      let k = eqb-true (typeKind (tableOf w t) τ) 2 p in
-      let d = element-lower (tableOf w t) h τ l k in
-      let y = part-lower (tableOf w t) τ (typeQ (tableOf w t) τ) d in
-      let g = r (typeQ (tableOf w t) τ) d in
-      let u : 1 * 1 ≤ elements (tableOf w t) τ * wordsOf (tableOf w t) (typeQ (tableOf w t) τ) = mul-le-mul (elements-some (tableOf w t) z τ l k) g in
-      rw (words-array (tableOf w t) τ k, y) u)
-      (λ p. let u = words-simple (tableOf w t) τ (eqb-false (typeKind (tableOf w t) τ) 1 q) (eqb-false (typeKind (tableOf w t) τ) 2 p) in omega arith)))
-      (λ e. let u = words-far w t τ (ltb-false τ (3 + typeCount (tableOf w t)) e) in omega arith)
+      let k = eqb-true (typeKind T τ) 2 p in
+      let d = element-lower T h τ l k in
+      let y = part-lower T τ (typeQ T τ) d in
+      let g = r (typeQ T τ) d in
+      let u : 1 * 1 ≤ elements T τ * wordsOf T (typeQ T τ) = mul-le-mul (elements-some T z τ l k) g in
+      rw (words-array T τ k, y) u)
+      (λ p. let u = words-simple T τ (eqb-false (typeKind T τ) 1 q) (eqb-false (typeKind T τ) 2 p) in omega arith))
 
-  some-below : (k τ : ℕ) → τ < k → 1 ≤ wordsOf (tableOf w t) τ
-  some-below zero τ l = absurd (omega arith)
-  some-below (suc k) τ l = some-at τ (λ σ g. some-below k σ (omega arith))
+  some-below : (k τ : ℕ) → τ < k → τ < 3 + typeCount T → 1 ≤ wordsOf T τ
+  some-below zero τ l g = absurd (omega arith)
+  some-below (suc k) τ l g = some-at τ g (λ σ u. some-below k σ (omega arith) (omega arith))
 
-  pub some-words : (τ : ℕ) → 1 ≤ wordsOf (tableOf w t) τ
-  some-words τ = some-below (suc τ) τ (omega arith)
+  pub some-words : (τ : ℕ) → τ < 3 + typeCount T → 1 ≤ wordsOf T τ
+  some-words τ l = some-below (suc τ) τ (omega arith) l
 
 -- types that match have as many words
 module _ (T : Table) where

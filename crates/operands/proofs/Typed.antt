@@ -1,16 +1,14 @@
 -- An outcome that is not stuck has the type that is read off the table: a place of it fits its area, a value of it has its words. Assumes nothing.
-use Prim.Native.Nat.{ℕ, zero, suc, _+_, _-_, _*_, _<_, _≤_, _%_}
-use mathlib.Core.Path.{_≡_, refl, sym, ap, subst, _∙_}
+use Prim.Native.Nat.{ℕ, zero, suc, _+_, _-_, _*_, _<_, _≤_}
+use mathlib.Core.Path.{_≡_, refl, sym, ap, subst}
 use mathlib.Core.Bool.{Bool, true, false}
-use mathlib.Core.Bool as bool
-use mathlib.Core.List.{List, [], _∷_}
+use mathlib.Core.List.{List}
 use lib.ListN.{length}
-use lib.Dec.{eqb, leb, ltb}
+use lib.Dec.{eqb, ltb}
 use native.Mathlib.Omega.{arith}
-use native.Mathlib.Numerals.{add-one}
-use borrow.Author.Tests.{eqb-true, eqb-false, ltb-true, ltb-false, leb-true, eq-eqb, ne-eqb}
+use borrow.Author.Tests.{eqb-true, eqb-false, ltb-true, ltb-false, ne-eqb}
 use Rattle.basics.specs.Choice.{pick, cases, both}
-use Rattle.basics.proofs.Bools.{both-l, both-r, no-true}
+use Rattle.basics.proofs.Bools.{both-r, no-true}
 use Rattle.table.specs.Table.{Table}
 use Rattle.table.specs.Entries.{declared, nodeCount, typeKind, typeP, typeQ, typeLow, typeHigh, fieldType, varType, owner, nodeKind, nodeP, nodeQ, nodeV}
 use Rattle.types.specs.Types.{noType, fieldOf, elementOf, unaryType, binaryType, typeOf}
@@ -24,12 +22,12 @@ use Rattle.words.specs.Outcomes as words
 use Rattle.machine.specs.Memory.{Memory, wordsAt}
 use Rattle.machine.specs.Context.{Context}
 use Rattle.machine.specs.Outcomes.{Outcome, ok, fail, stuck, andThen, need, failWhere, Operand, place, value, placed, valued, onPlace, onValue, onWord, wordOf}
-use Rattle.machine.specs.Entries.{TypeEntry, integer, boolean, character, recordType, arrayType, processType, noType as noEntry, typeAt, Unary, minus, not, val, noUnary, unaryAt, Binary, equal, notEqual, less, notGreater, greater, notLess, add, subtract, multiply, divide, modulus, and, or, noBinary, binaryAt}
+use Rattle.machine.specs.Entries.{recordType, arrayType, typeAt, noUnary, unaryAt, noBinary, binaryAt}
 use Rattle.machine.specs.Variables.{fits, belongs}
 use Rattle.machine.specs.Operands.{simple, truth, given, unaryValue, ordered, integral, logical, binaryValue, outside, onRecord, onArray, placeAt, fieldPlace, elementPlace, moduleVariable, frameVariable, wholePlace, operand}
 use Rattle.operands.proofs.Nodes.{is-constant, is-whole, is-field, is-element, is-retrieve, is-unary, is-binary, is-transfer, type-constant, type-whole, type-field, type-element, type-retrieve, type-unary, type-binary, type-transfer}
 
-seven : (k : ℕ) → k ≤ 7 → eqb k 0 ≡ false → eqb k 1 ≡ false → eqb k 2 ≡ false → eqb k 3 ≡ false → eqb k 4 ≡ false → eqb k 5 ≡ false → eqb k 6 ≡ false → k ≡ 7
+pub seven : (k : ℕ) → k ≤ 7 → eqb k 0 ≡ false → eqb k 1 ≡ false → eqb k 2 ≡ false → eqb k 3 ≡ false → eqb k 4 ≡ false → eqb k 5 ≡ false → eqb k 6 ≡ false → k ≡ 7
 seven k l a b c d e f g =
     let a' = eqb-false k 0 a in
     let b' = eqb-false k 1 b in

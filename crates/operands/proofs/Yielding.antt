@@ -1,14 +1,14 @@
 -- The first word of what operators yield, where it is not stuck. Assumes nothing.
 use Prim.Native.Nat.{ℕ, zero, suc, _+_, _-_, _*_, _/_, _%_, _<_, _≤_}
 use mathlib.Core.Path.{_≡_, refl, sym, ap, subst, _∙_}
-use mathlib.Core.Bool.{Bool, true, false}
+use mathlib.Core.Bool.{Bool, true}
 use mathlib.Core.Bool as bool
 use mathlib.Core.List.{List, [], _∷_}
-use lib.ListN.{length, getD}
+use lib.ListN.{length}
 use lib.Dec.{eqb, leb, ltb}
-use lib.IntN.{ℤ, pos, negsuc, natAbs}
+use lib.IntN.{ℤ, pos, negsuc}
 use native.Mathlib.Omega.{arith}
-use borrow.Author.Tests.{eqb-true, eqb-false, ltb-true, leb-true, leb-false, le-leb, lt-leb, le-ltb, lt-ltb, ltb-false}
+use borrow.Author.Tests.{eqb-true, ltb-true, leb-true, leb-false, le-leb, lt-leb, le-ltb, ltb-false}
 use Rattle.basics.specs.Choice.{pick, cases, both}
 use Rattle.basics.proofs.Bools.{both-l, both-r, no-true}
 use Rattle.table.specs.Table.{Table}
@@ -17,16 +17,16 @@ use Rattle.sizes.specs.Sizes.{wordsOf}
 use Rattle.words.specs.Outcomes as words
 use Rattle.words.specs.Memory.{wordAtByte}
 use Rattle.words.specs.Numbers.{intOf, between}
-use Rattle.words.specs.Operators.{leW, boolWord, ltW}
+use Rattle.words.specs.Operators.{leW, boolWord}
 use Rattle.words.specs.Devices.{isDevice, positionOf, readDevice}
 use Rattle.machine.specs.Memory.{Memory, memoryOf, wordsAt}
-use Rattle.machine.specs.Outcomes.{Outcome, ok, fail, stuck, andThen, need, failWhere, Operand, place, value, placed, valued, onPlace, onValue, onWord, wordOf}
-use Rattle.machine.specs.Entries.{Unary, unaryAt, Binary, binaryAt, equal, notEqual, noBinary, noUnary}
+use Rattle.machine.specs.Outcomes.{Outcome, ok, fail, stuck, andThen, need, failWhere, Operand, place, value, valued, onPlace, onValue, onWord, wordOf}
+use Rattle.machine.specs.Entries.{Unary, unaryAt, Binary, binaryAt, equal, notEqual}
 use Rattle.machine.specs.Variables.{fits}
 use Rattle.machine.specs.Operands.{simple, truth, given, same, deviceWord, unaryValue, ordered, integral, logical, binaryValue}
 use Rattle.operands.specs.Answers.{firstWord, Unstuck, goes, fails}
 use Rattle.operands.specs.Operators.{unaryWord, relates, arithmetic, logic, binaryWord}
-use Rattle.operands.proofs.Typed.{OfType, a-place, a-value, a-failure, a-stuck, unary-cases, binary-cases}
+use Rattle.operands.proofs.Typed.{OfType, a-place, a-value, a-failure, unary-cases, binary-cases}
 
 pub no-unstuck : {A : Type 0} (o : Outcome Operand) → o ≡ stuck → Unstuck o → A
 no-unstuck (ok x) e goes = let q : _≡_ {A = ℕ} 0 1 = cc in absurd (omega arith)

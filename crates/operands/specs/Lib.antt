@@ -2,4 +2,5 @@ pub mod Answers
 pub mod Places
 pub mod Operators
 pub mod Ready
-pub mod Filling
+pub mod Packed
+pub mod Bases

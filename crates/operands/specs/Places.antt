@@ -1,15 +1,15 @@
 -- Where variables stand, as numbers. Assumes nothing.
-use Prim.Native.Nat.{ℕ, _+_, _-_, _*_, _<_, _≤_, min}
+use Prim.Native.Nat.{ℕ, _+_, _-_, _*_, _<_, _≤_}
 use mathlib.Core.Path.{_≡_}
 use mathlib.Core.Bool.{Bool, true, false}
 use mathlib.Core.List.{List}
-use lib.ListN.{length, getD}
+use lib.ListN.{length}
 use lib.Dec.{eqb}
 use Rattle.basics.specs.Choice.{pick}
 use Rattle.table.specs.Table.{Table}
-use Rattle.table.specs.Entries.{varCount, typeKind, typeP, typeQ, typeLow, varMode, firstVar, vars}
+use Rattle.table.specs.Entries.{varCount, typeQ, typeLow, varMode, firstVar, vars}
 use Rattle.types.specs.Match.{offset}
-use Rattle.sizes.specs.Sizes.{wordsOf, offsetIn}
+use Rattle.sizes.specs.Sizes.{wordsOf}
 use Rattle.machine.specs.Memory.{Memory, within, wordsAt}
 use Rattle.machine.specs.Operands.{same}
 use Rattle.machine.specs.Layout.{location}
@@ -19,16 +19,6 @@ use Rattle.operands.specs.declared.Context.{Context}
 -- the number of v is among those of block b's variables
 unfoldable pub numbered : Table → ℕ → ℕ → Bool
 numbered T b v = within (firstVar T b) (vars T b) v
-
--- for each variable where it begins among those of its block. A frame that does not fit an area is never made: all that is above 256 is 257
-pub record Offsets (T : Table) (l : List ℕ) : Type 0 where
-  pub long : varCount T ≤ length l
-  pub is : (b v : ℕ) → belongs T b v ≡ true → getD l v 0 ≡ min (offsetOf T b v) 257
-
--- for each field where it begins in its record
-pub record Places (T : Table) (l : List ℕ) : Type 0 where
-  pub there : (τ i : ℕ) → typeKind T τ ≡ 1 → i < typeQ T τ → typeP T τ + i < length l
-  pub is : (τ i : ℕ) → typeKind T τ ≡ 1 → i < typeQ T τ → getD l (typeP T τ + i) 0 ≡ offsetIn T τ i
 
 -- variable v of the process's block stands at word k of its own area
 unfoldable pub framed : Table → Context → ℕ → ℕ

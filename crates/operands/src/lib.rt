@@ -1,9 +1,10 @@
-// The selection of variables (8) and the evaluation of expressions (9, 10), in a step that is not stuck. What is found once of a table is
-// lent: the types of nodes, the words of types, the offsets of variables in their blocks and the places of fields in their records.
+// The selection of variables (8) and the evaluation of expressions (9, 10), in a step that is not stuck. The table is lent
+// decoded (code), with what is found once of it.
+pub mod bases;
 pub mod eval;
 pub mod operators;
+pub mod packed;
 pub mod places;
-pub mod prepare;
 
 // A location, or the failure of the step.
 pub enum Place {

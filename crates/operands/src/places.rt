@@ -1,40 +1,35 @@
 // Where variables stand (8.3 to 8.5).
-use super::Context;
-use super::Place;
+use super::bases::AFTER;
+use super::bases::Bases;
+use super::bases::FIRST;
+use super::bases::FRAMED;
+use super::bases::OWNED;
+use super::packed::INDEX_RANGE;
+use super::packed::thin;
 use words::memory::get;
-use words::values::Failure;
 ghost use mathlib.Core.Path.{_≡_};
-ghost use mathlib.Core.Bool.{false};
-ghost use Prim.Native.Nat.{ℕ, _+_, _<_, _≤_};
-ghost use lib.ListN.{length, getD};
-ghost use Rattle.table.specs.Table.{tableOf};
-ghost use Rattle.table.specs.Entries.{typeKind, typeQ, typeLow, typeHigh};
-ghost use Rattle.table.specs.Reading.{Of, Field};
+ghost use Prim.Native.Nat.{_+_, _<_, _≤_};
+ghost use lib.ListN.{length};
+ghost use lib.Dec.{leb, ltb};
+ghost use Rattle.basics.specs.Choice.{both};
+ghost use Rattle.table.specs.Entries.{typeQ, typeLow, typeHigh};
+ghost use Rattle.table.specs.Reading.{Field};
 ghost use Rattle.types.specs.Match.{offset};
-ghost use Rattle.sizes.specs.Sizes.{sized, wordsOf, offsetIn, Sizes};
+ghost use Rattle.types.specs.Types.{typeOf};
+ghost use Rattle.sizes.specs.Sizes.{wordsOf, offsetIn};
 ghost use Rattle.machine.specs.Memory.{memoryOf, wordsAt};
 ghost use Rattle.machine.specs.Outcomes.{ok, failWhere, place};
 ghost use Rattle.machine.specs.Operands.{outside, same};
-ghost use Rattle.operands.specs.Answers.{selected};
-ghost use Rattle.operands.specs.Places.{numbered, Places, framed, frameAt, wholeAt, elementAt, Rooms};
-ghost use Rattle.operands.specs.Ready.{Naming, Sized};
+ghost use Rattle.code.specs.Code.{decoded};
+ghost use Rattle.operands.specs.Bases.{contextAt, Based};
+ghost use Rattle.operands.specs.Packed.{PlaceIs};
+ghost use Rattle.operands.specs.Places.{wholeAt, elementAt, Rooms};
+ghost use Rattle.operands.specs.Ready.{Naming, Fielded, Sized, Indexed, Valued};
 
 fn wide(x: u16) -> usize
     ensures { λ r. ⌜ Field x r ⌝ }
 {
     x as usize
-}
-
-// The number of v is among those of block b's variables.
-fn is_numbered(t: &[u8], s: table::Sections, b: usize, v: usize) -> bool
-    requires { ⌜ Of (now t) s ⌝ }
-    ensures { λ r. ⌜ r ≡ numbered (tableOf (s .w) (now (t .entry))) b v ⌝ }
-{
-    let first = table::first_var(t, s, b);
-    if first <= v {
-        return v < first + table::block_vars(t, s, b);
-    }
-    false
 }
 
 // The word at a location.
@@ -45,76 +40,41 @@ pub fn word_at(state: &[u8], a: usize) -> u16
     get(state, a)
 }
 
-// The word of its own area where a variable of the process's block stands.
-fn frame_word(
-    t: &[u8],
-    s: table::Sections,
-    offsets: &[u16],
-    state: &[u8],
-    x: Context,
-    v: usize,
-) -> usize
-    requires { ⌜ Naming (now t) s (now offsets) (now state) x v ⌝ }
-    requires { ⌜ numbered (tableOf (s .w) (now t)) (x .owner) v ≡ false ⌝ }
-    ensures { λ r. ⌜ (r ≡ framed (tableOf (s .w) (now (t .entry))) x v) × (r < 256) ⌝ }
+// The number v is one of those from first on and before after.
+fn is_within(first: usize, after: usize, v: usize) -> bool
+    ensures { λ r. ⌜ r ≡ both (leb first v) (ltb v after) ⌝ }
 {
-    x.frame + 4 + wide(offsets[v])
+    if first <= v {
+        return v < after;
+    }
+    false
 }
 
-// A variable in the frame; a var parameter is bound to the location that stands there (12.1).
-fn frame_place(
-    t: &[u8],
-    s: table::Sections,
-    offsets: &[u16],
-    state: &[u8],
-    x: Context,
-    v: usize,
-) -> usize
-    requires { ⌜ Naming (now t) s (now offsets) (now state) x v ⌝ }
-    requires { ⌜ numbered (tableOf (s .w) (now t)) (x .owner) v ≡ false ⌝ }
-    ensures { λ r. ⌜ r ≡ frameAt (tableOf (s .w) (now (t .entry))) (memoryOf (now (state .entry))) x v ⌝ }
+// A whole variable is the module's or the procedure's (8.3, 13); a var parameter is bound to the location that stands there (12.1).
+pub fn whole_at(c: &code::Slots, state: &[u8], x: &Bases, v: usize) -> usize
+    requires { ⌜ Naming (now c) (contextAt (now x)) v ⌝ }
+    requires { ⌜ Based (now c) (now x) ⌝ }
+    requires { ⌜ length (now state) ≡ 35328 ⌝ }
+    ensures { λ r. ⌜ r ≡ wholeAt (decoded (now (c .entry))) (memoryOf (now (state .entry))) (contextAt (now (x .entry))) v ⌝ }
 {
-    let at = machine::location_of(x.process, frame_word(t, s, offsets, state, x, v));
-    if table::var_mode(t, s, v) == 2 {
+    let o = code::offset_of(c, v);
+    if is_within(x[FIRST], x[AFTER], v) {
+        return x[OWNED] + o;
+    }
+    let at = x[FRAMED] + o;
+    if code::var_mode(c, v) == 2 {
         return wide(word_at(state, at));
     }
     at
 }
 
-// A whole variable is the module's or the procedure's (8.3, 13).
-pub fn whole_place(
-    t: &[u8],
-    s: table::Sections,
-    offsets: &[u16],
-    state: &[u8],
-    x: Context,
-    v: usize,
-) -> usize
-    requires { ⌜ Naming (now t) s (now offsets) (now state) x v ⌝ }
-    ensures { λ r. ⌜ r ≡ wholeAt (tableOf (s .w) (now (t .entry))) (memoryOf (now (state .entry))) x v ⌝ }
-{
-    if is_numbered(t, s, x.owner, v) {
-        return machine::location_of(x.works, wide(offsets[v]));
-    }
-    frame_place(t, s, offsets, state, x, v)
-}
-
 // Field i of a record of type y at location a (8.4).
-pub fn field_place(
-    t: &[u8],
-    s: table::Sections,
-    places: &[u16],
-    a: usize,
-    y: usize,
-    i: usize,
-) -> usize
-    requires { ⌜ Of (now t) s ⌝ }
-    requires { ⌜ Places (tableOf (s .w) (now t)) (now places) ⌝ }
-    requires { ⌜ (a < 16384) × (i < 65536) × (typeKind (tableOf (s .w) (now t)) y ≡ 1) × (i < typeQ (tableOf (s .w) (now t)) y) ⌝ }
-    ensures { λ r. ⌜ r ≡ a + offsetIn (tableOf (s .w) (now (t .entry))) y i ⌝ }
+pub fn field_place(c: &code::Slots, a: usize, y: usize, i: usize) -> usize
+    requires { ⌜ Fielded (now c) a y i × (i < 65536) ⌝ }
+    ensures { λ r. ⌜ r ≡ a + offsetIn (decoded (now (c .entry))) y i ⌝ }
 {
-    let first = table::type_p(t, s, y);
-    a + wide(places[first + i])
+    let first = code::type_p(c, y);
+    a + code::place_of(c, first + i)
 }
 
 // 32,768 more than the integer that a word stands for.
@@ -129,35 +89,35 @@ fn offset_of(v: usize) -> usize
 }
 
 // The words of type y.
-pub fn words_of(t: &[u8], s: table::Sections, sizes: &[u16], y: usize) -> usize
-    requires { ⌜ Sized (now t) s (now sizes) ⌝ }
-    ensures { λ r. ⌜ (r ≡ wordsOf (tableOf (s .w) (now (t .entry))) y) × (r ≤ 200) ⌝ }
+pub fn words_of(c: &code::Slots, y: usize) -> usize
+    requires { ⌜ Sized (now c) y ⌝ }
+    ensures { λ r. ⌜ (r ≡ wordsOf (decoded (now (c .entry))) y) × (r ≤ 200) ⌝ }
 {
-    sizes::size_of(t, s, sizes, y)
+    code::words_of(c, y)
 }
 
-// The element with index value i of an array of type y at location a (8.5).
-pub fn element_place(
-    t: &[u8],
-    s: table::Sections,
-    sizes: &[u16],
-    a: usize,
-    y: usize,
-    i: u16,
-) -> Place
-    requires { ⌜ Sized (now t) s (now sizes) ⌝ }
-    requires { ⌜ a < 16384 ⌝ }
-    ensures { λ r. ⌜ selected r (typeQ (tableOf (s .w) (now (t .entry))) y) ≡ failWhere (outside (typeLow (tableOf (s .w) (now (t .entry))) y) (typeHigh (tableOf (s .w) (now (t .entry))) y) i) 18 (ok (place (elementAt (tableOf (s .w) (now (t .entry))) a y i) (typeQ (tableOf (s .w) (now (t .entry))) y))) ⌝ }
+// The words of node n's value.
+pub fn node_words(c: &code::Slots, n: usize) -> usize
+    requires { ⌜ Valued (now c) n ⌝ }
+    ensures { λ r. ⌜ (r ≡ wordsOf (decoded (now (c .entry))) (typeOf (decoded (now (c .entry))) n)) × (r ≤ 200) ⌝ }
+{
+    words_of(c, code::type_of(c, n))
+}
+
+// The element with index value i of an array of type y at location a (8.5), as one number.
+pub fn element_place(c: &code::Slots, a: usize, y: usize, i: u16) -> u32
+    requires { ⌜ Indexed (now c) a y i ⌝ }
+    ensures { λ r. ⌜ PlaceIs (typeQ (decoded (now (c .entry))) y) (failWhere (outside (typeLow (decoded (now (c .entry))) y) (typeHigh (decoded (now (c .entry))) y) i) 18 (ok (place (elementAt (decoded (now (c .entry))) a y i) (typeQ (decoded (now (c .entry))) y)))) r ⌝ }
 {
     let k = offset_of(wide(i));
-    let low = offset_of(table::type_low(t, s, y));
+    let low = offset_of(code::type_low(c, y));
     if low <= k {
-        if k <= offset_of(table::type_high(t, s, y)) {
-            return Place::At(a + (k - low) * words_of(t, s, sizes, table::type_q(t, s, y)));
+        if k <= offset_of(code::type_high(c, y)) {
+            return thin(a + (k - low) * words_of(c, code::type_q(c, y)));
         }
-        return Place::Fail(Failure::IndexRange);
+        return INDEX_RANGE;
     }
-    Place::Fail(Failure::IndexRange)
+    INDEX_RANGE
 }
 
 // The n words at two locations are the same.

@@ -9,7 +9,7 @@ use native.Mathlib.Nat.{add-zero}
 use borrow.Author.Tests.{eq-eqb, ne-eqb, le-leb, lt-leb}
 use Rattle.basics.specs.Choice.{pick, cases, both, either, allBelow, Passed}
 use Rattle.basics.proofs.Passes.{passed-none, passed-more, passed-fail, passed-all}
-use Rattle.table.specs.Table.{Table, tableOf}
+use Rattle.table.specs.Table.{Table}
 use Rattle.table.specs.Entries.{varMode, varType, firstVar, vars}
 use Rattle.sizes.specs.Sizes.{wordsOf}
 use Rattle.sizes.proofs.Judging.{any-small}
@@ -24,8 +24,8 @@ use Rattle.rules.specs.Frames.{variableHolds, moduleRow, livesInModule, 
 use Rattle.rules.proofs.Values.{all-same}
 use Rattle.rules.proofs.Parts.{first-none, first-more, offset-first}
 
-pub near-any : (w : ℕ) (t l : List ℕ) (x a : ℕ) → Ready (tableOf w t) l → a ≤ 15000000 → Near (tableOf w t) x a
-near-any w t l x a h g = let u = any-small w t (h .sized) x in record { near = omega arith }
+pub near-any : (T : Table) (l : List ℕ) (x a : ℕ) → Ready T l → a ≤ 15000000 → Near T x a
+near-any T l x a h g = let u = any-small T l (h .sizes) (h .sized) x in record { near = omega arith }
 
 pub variable-is : (T : Table) (m : Memory) (p v a x l : ℕ) (r : Bool) → x ≡ varType T v → l ≡ location p a → r ≡ holds T m x l → r ≡ variableHolds T m p v a
 unfolding variableHolds

@@ -9,7 +9,7 @@ use lib.Dec.{eqb, leb}
 use native.Mathlib.Omega.{arith}
 use borrow.Author.Tests.{eq-eqb, ne-eqb, le-leb, lt-leb}
 use Rattle.basics.specs.Choice.{pick, both}
-use Rattle.table.specs.Table.{Table, tableOf}
+use Rattle.table.specs.Table.{Table}
 use Rattle.table.specs.Reading.{Field}
 use Rattle.sizes.specs.Sizes.{wordsOf}
 use Rattle.sizes.proofs.Judging.{any-small}
@@ -30,8 +30,8 @@ beyond s i l h =
     record { is = omega arith; small = omega arith }
 
 -- the words of a type are all kept
-pub exact : (w : ℕ) (t l : List ℕ) (x r : ℕ) → Ready (tableOf w t) l → r ≡ min (wordsOf (tableOf w t) x) 201 → Words (wordsOf (tableOf w t) x) r
-exact w t l x r h e = let u = any-small w t (h .sized) x in record { is = omega arith; small = omega arith }
+pub exact : (T : Table) (l : List ℕ) (x r : ℕ) → Ready T l → r ≡ min (wordsOf T x) 201 → Words (wordsOf T x) r
+exact T l x r h e = let u = any-small T l (h .sizes) (h .sized) x in record { is = omega arith; small = omega arith }
 
 -- references
 module _ (m : Memory) (μ r : ℕ) where

@@ -3,9 +3,9 @@ ghost use mathlib.Core.Path.{_≡_};
 ghost use Prim.Native.Nat.{ℕ, _+_, _*_, _/_, _%_, _≤_, _<_};
 ghost use lib.Dec.{eqb};
 ghost use Rattle.basics.specs.Choice.{both};
-ghost use Rattle.table.specs.Table.{tableOf};
+ghost use Rattle.code.specs.Code.{decoded};
 ghost use Rattle.table.specs.Entries.{typeKind};
-ghost use Rattle.table.specs.Reading.{Of, Field};
+ghost use Rattle.table.specs.Reading.{Field};
 ghost use Rattle.sizes.specs.Sizes.{wordsOf, partWords, moduleWords};
 ghost use Rattle.machine.specs.Memory.{memoryOf};
 ghost use Rattle.machine.specs.Layout.{location, recordAt, createdAt};
@@ -88,12 +88,11 @@ fn refers_to(state: &[u8], home: usize, r: usize) -> bool
 }
 
 // The words of type x.
-fn words_of(t: &[u8], s: table::Sections, sizes: &[u16], x: usize) -> usize
-    requires { ⌜ Of (now t) s ⌝ }
-    requires { ⌜ Ready (tableOf (s .w) (now t)) (now sizes) ⌝ }
-    ensures { λ r. ⌜ Words (wordsOf (tableOf (s .w) (now (t .entry))) x) r ⌝ }
+fn words_of(c: &code::Slots, sizes: &[u16], x: usize) -> usize
+    requires { ⌜ Ready (decoded (now c)) (now sizes) ⌝ }
+    ensures { λ r. ⌜ Words (wordsOf (decoded (now (c .entry))) x) r ⌝ }
 {
-    sizes::size_of(t, s, sizes, x)
+    sizes::size_of(c, sizes, x)
 }
 
 // A value of a standard type stands at location a.
@@ -126,58 +125,42 @@ fn reference_holds(state: &[u8], home: usize, a: usize) -> bool
 }
 
 // A value of type x stands at location a.
-fn value_holds(
-    t: &[u8],
-    s: table::Sections,
-    sizes: &[u16],
-    state: &[u8],
-    x: usize,
-    a: usize,
-) -> bool
-    requires { ⌜ Of (now t) s ⌝ }
-    requires { ⌜ Ready (tableOf (s .w) (now t)) (now sizes) ⌝ }
+fn value_holds(c: &code::Slots, sizes: &[u16], state: &[u8], x: usize, a: usize) -> bool
+    requires { ⌜ Ready (decoded (now c)) (now sizes) ⌝ }
     requires { ⌜ Lent 17664 (now state) ⌝ }
-    requires { ⌜ Near (tableOf (s .w) (now t)) x a ⌝ }
-    ensures { λ r. ⌜ r ≡ holds (tableOf (s .w) (now (t .entry))) (memoryOf (now (state .entry))) x a ⌝ }
+    requires { ⌜ Near (decoded (now c)) x a ⌝ }
+    ensures { λ r. ⌜ r ≡ holds (decoded (now (c .entry))) (memoryOf (now (state .entry))) x a ⌝ }
 {
-    let kind = table::type_kind(t, s, x);
+    let kind = code::type_kind(c, x);
     if kind == 1 {
-        return fields_hold(t, s, sizes, state, x, a);
+        return fields_hold(c, sizes, state, x, a);
     }
     if kind == 2 {
-        return elements_hold(t, s, sizes, state, x, a);
+        return elements_hold(c, sizes, state, x, a);
     }
     if kind == 3 {
-        return reference_holds(state, table::type_p(t, s, x), a);
+        return reference_holds(state, code::type_p(c, x), a);
     }
     simple_holds(state, x, a)
 }
 
-fn fields_hold(
-    t: &[u8],
-    s: table::Sections,
-    sizes: &[u16],
-    state: &[u8],
-    x: usize,
-    a: usize,
-) -> bool
-    requires { ⌜ Of (now t) s ⌝ }
-    requires { ⌜ Ready (tableOf (s .w) (now t)) (now sizes) ⌝ }
+fn fields_hold(c: &code::Slots, sizes: &[u16], state: &[u8], x: usize, a: usize) -> bool
+    requires { ⌜ Ready (decoded (now c)) (now sizes) ⌝ }
     requires { ⌜ Lent 17664 (now state) ⌝ }
-    requires { ⌜ RecordAt (tableOf (s .w) (now t)) (memoryOf (now state)) x a ⌝ }
-    ensures { λ r. ⌜ r ≡ fieldsHold (tableOf (s .w) (now (t .entry))) (memoryOf (now (state .entry))) x a ⌝ }
+    requires { ⌜ RecordAt (decoded (now c)) (memoryOf (now state)) x a ⌝ }
+    ensures { λ r. ⌜ r ≡ fieldsHold (decoded (now (c .entry))) (memoryOf (now (state .entry))) x a ⌝ }
 {
-    let first = table::type_p(t, s, x);
-    let count = table::type_q(t, s, x);
+    let first = code::type_p(c, x);
+    let count = code::type_q(c, x);
     let mut at = a;
     let mut i = 0;
     while i < count {
-        let f = table::field_type(t, s, first + i);
+        let f = code::field_type(c, first + i);
         if x <= f {
             return false;
         }
-        if value_holds(t, s, sizes, state, f, at) {
-            at += words_of(t, s, sizes, f);
+        if value_holds(c, sizes, state, f, at) {
+            at += words_of(c, sizes, f);
             i += 1;
         } else {
             return false;
@@ -187,33 +170,25 @@ fn fields_hold(
 }
 
 // Every word is an integer, so an array of integers needs no pass.
-fn elements_hold(
-    t: &[u8],
-    s: table::Sections,
-    sizes: &[u16],
-    state: &[u8],
-    x: usize,
-    a: usize,
-) -> bool
-    requires { ⌜ Of (now t) s ⌝ }
-    requires { ⌜ Ready (tableOf (s .w) (now t)) (now sizes) ⌝ }
+fn elements_hold(c: &code::Slots, sizes: &[u16], state: &[u8], x: usize, a: usize) -> bool
+    requires { ⌜ Ready (decoded (now c)) (now sizes) ⌝ }
     requires { ⌜ Lent 17664 (now state) ⌝ }
-    requires { ⌜ ArrayAt (tableOf (s .w) (now t)) (memoryOf (now state)) x a ⌝ }
-    ensures { λ r. ⌜ r ≡ elementsHold (tableOf (s .w) (now (t .entry))) (memoryOf (now (state .entry))) x a ⌝ }
+    requires { ⌜ ArrayAt (decoded (now c)) (memoryOf (now state)) x a ⌝ }
+    ensures { λ r. ⌜ r ≡ elementsHold (decoded (now (c .entry))) (memoryOf (now (state .entry))) x a ⌝ }
 {
-    let q = table::type_q(t, s, x);
+    let q = code::type_q(c, x);
     if q == 0 {
         return true;
     }
-    let count = types::elements_of(t, s, x);
-    let words = words_of(t, s, sizes, q);
+    let count = types::elements_of(c, x);
+    let words = words_of(c, sizes, q);
     let mut at = a;
     let mut i = 0;
     while i < count {
         if x <= q {
             return false;
         }
-        if value_holds(t, s, sizes, state, q, at) {
+        if value_holds(c, sizes, state, q, at) {
             at += words;
             i += 1;
         } else {
@@ -253,51 +228,48 @@ fn begins_whole(x: usize, y: usize, k: usize) -> bool
 }
 
 // The words of type f as a part of type x: none where its number is not lower.
-fn part_words(t: &[u8], s: table::Sections, sizes: &[u16], x: usize, f: usize) -> usize
-    requires { ⌜ Of (now t) s ⌝ }
-    requires { ⌜ Ready (tableOf (s .w) (now t)) (now sizes) ⌝ }
-    ensures { λ r. ⌜ Words (partWords (tableOf (s .w) (now (t .entry))) x f) r ⌝ }
+fn part_words(c: &code::Slots, sizes: &[u16], x: usize, f: usize) -> usize
+    requires { ⌜ Ready (decoded (now c)) (now sizes) ⌝ }
+    ensures { λ r. ⌜ Words (partWords (decoded (now (c .entry))) x f) r ⌝ }
 {
     if f < x {
-        return words_of(t, s, sizes, f);
+        return words_of(c, sizes, f);
     }
     0
 }
 
 // A part of type y begins at word k of a variable of type x.
-fn part_begins(t: &[u8], s: table::Sections, sizes: &[u16], x: usize, y: usize, k: usize) -> bool
-    requires { ⌜ Of (now t) s ⌝ }
-    requires { ⌜ Ready (tableOf (s .w) (now t)) (now sizes) ⌝ }
-    ensures { λ r. ⌜ r ≡ part (tableOf (s .w) (now (t .entry))) y x k ⌝ }
+fn part_begins(c: &code::Slots, sizes: &[u16], x: usize, y: usize, k: usize) -> bool
+    requires { ⌜ Ready (decoded (now c)) (now sizes) ⌝ }
+    ensures { λ r. ⌜ r ≡ part (decoded (now (c .entry))) y x k ⌝ }
 {
     if begins_whole(x, y, k) {
         return true;
     }
-    let kind = table::type_kind(t, s, x);
+    let kind = code::type_kind(c, x);
     if kind == 1 {
-        return part_of_fields(t, s, sizes, x, y, k);
+        return part_of_fields(c, sizes, x, y, k);
     }
     if kind == 2 {
-        return part_of_element(t, s, sizes, x, y, k);
+        return part_of_element(c, sizes, x, y, k);
     }
     false
 }
 
-fn part_of_fields(t: &[u8], s: table::Sections, sizes: &[u16], x: usize, y: usize, k: usize) -> bool
-    requires { ⌜ Of (now t) s ⌝ }
-    requires { ⌜ Ready (tableOf (s .w) (now t)) (now sizes) ⌝ }
-    ensures { λ r. ⌜ r ≡ fieldsBegin (tableOf (s .w) (now (t .entry))) y x k ⌝ }
+fn part_of_fields(c: &code::Slots, sizes: &[u16], x: usize, y: usize, k: usize) -> bool
+    requires { ⌜ Ready (decoded (now c)) (now sizes) ⌝ }
+    ensures { λ r. ⌜ r ≡ fieldsBegin (decoded (now (c .entry))) y x k ⌝ }
 {
-    let first = table::type_p(t, s, x);
-    let count = table::type_q(t, s, x);
+    let first = code::type_p(c, x);
+    let count = code::type_q(c, x);
     let mut at = 0;
     let mut i = 0;
     while i < count {
-        let f = table::field_type(t, s, first + i);
-        if part_of_field(t, s, sizes, x, y, k, f, at) {
+        let f = code::field_type(c, first + i);
+        if part_of_field(c, sizes, x, y, k, f, at) {
             return true;
         }
-        at += part_words(t, s, sizes, x, f);
+        at += part_words(c, sizes, x, f);
         i += 1;
     }
     false
@@ -305,8 +277,7 @@ fn part_of_fields(t: &[u8], s: table::Sections, sizes: &[u16], x: usize, y: usiz
 
 // The part begins in the field of type f that begins at word `at`.
 fn part_of_field(
-    t: &[u8],
-    s: table::Sections,
+    c: &code::Slots,
     sizes: &[u16],
     x: usize,
     y: usize,
@@ -314,15 +285,14 @@ fn part_of_field(
     f: usize,
     at: usize,
 ) -> bool
-    requires { ⌜ Of (now t) s ⌝ }
-    requires { ⌜ Ready (tableOf (s .w) (now t)) (now sizes) ⌝ }
+    requires { ⌜ Ready (decoded (now c)) (now sizes) ⌝ }
     requires { ⌜ at ≤ 14000000 ⌝ }
-    ensures { λ r. ⌜ r ≡ fieldBegins (tableOf (s .w) (now (t .entry))) y x k f at ⌝ }
+    ensures { λ r. ⌜ r ≡ fieldBegins (decoded (now (c .entry))) y x k f at ⌝ }
 {
     if f < x {
         if at <= k {
-            if k < at + words_of(t, s, sizes, f) {
-                return part_begins(t, s, sizes, f, y, k - at);
+            if k < at + words_of(c, sizes, f) {
+                return part_begins(c, sizes, f, y, k - at);
             }
             return false;
         }
@@ -331,23 +301,15 @@ fn part_of_field(
     false
 }
 
-fn part_of_element(
-    t: &[u8],
-    s: table::Sections,
-    sizes: &[u16],
-    x: usize,
-    y: usize,
-    k: usize,
-) -> bool
-    requires { ⌜ Of (now t) s ⌝ }
-    requires { ⌜ Ready (tableOf (s .w) (now t)) (now sizes) ⌝ }
-    ensures { λ r. ⌜ r ≡ elementBegins (tableOf (s .w) (now (t .entry))) y x k ⌝ }
+fn part_of_element(c: &code::Slots, sizes: &[u16], x: usize, y: usize, k: usize) -> bool
+    requires { ⌜ Ready (decoded (now c)) (now sizes) ⌝ }
+    ensures { λ r. ⌜ r ≡ elementBegins (decoded (now (c .entry))) y x k ⌝ }
 {
-    let q = table::type_q(t, s, x);
+    let q = code::type_q(c, x);
     if q < x {
-        let words = words_of(t, s, sizes, q);
-        if quotient(k, words) < types::elements_of(t, s, x) {
-            return part_begins(t, s, sizes, q, y, remainder(k, words));
+        let words = words_of(c, sizes, q);
+        if quotient(k, words) < types::elements_of(c, x) {
+            return part_begins(c, sizes, q, y, remainder(k, words));
         }
         return false;
     }
@@ -355,38 +317,28 @@ fn part_of_element(
 }
 
 // The words of variable v in its area or frame.
-fn var_words(t: &[u8], s: table::Sections, sizes: &[u16], v: usize) -> usize
-    requires { ⌜ Of (now t) s ⌝ }
-    requires { ⌜ Ready (tableOf (s .w) (now t)) (now sizes) ⌝ }
-    ensures { λ r. ⌜ Words (varWords (tableOf (s .w) (now (t .entry))) v) r ⌝ }
+fn var_words(c: &code::Slots, sizes: &[u16], v: usize) -> usize
+    requires { ⌜ Ready (decoded (now c)) (now sizes) ⌝ }
+    ensures { λ r. ⌜ Words (varWords (decoded (now (c .entry))) v) r ⌝ }
 {
-    if table::var_mode(t, s, v) == 2 {
+    if code::var_mode(c, v) == 2 {
         return 1;
     }
-    words_of(t, s, sizes, table::var_type(t, s, v))
+    words_of(c, sizes, code::var_type(c, v))
 }
 
 // A part of type y begins at word k, in the variable v that begins at word `at`, no var parameter.
-fn part_of_variable(
-    t: &[u8],
-    s: table::Sections,
-    sizes: &[u16],
-    y: usize,
-    k: usize,
-    v: usize,
-    at: usize,
-) -> bool
-    requires { ⌜ Of (now t) s ⌝ }
-    requires { ⌜ Ready (tableOf (s .w) (now t)) (now sizes) ⌝ }
+fn part_of_variable(c: &code::Slots, sizes: &[u16], y: usize, k: usize, v: usize, at: usize) -> bool
+    requires { ⌜ Ready (decoded (now c)) (now sizes) ⌝ }
     requires { ⌜ at ≤ 14000000 ⌝ }
-    ensures { λ r. ⌜ r ≡ variableBegins (tableOf (s .w) (now (t .entry))) y k v at ⌝ }
+    ensures { λ r. ⌜ r ≡ variableBegins (decoded (now (c .entry))) y k v at ⌝ }
 {
     if at <= k {
-        if k < at + var_words(t, s, sizes, v) {
-            if table::var_mode(t, s, v) == 2 {
+        if k < at + var_words(c, sizes, v) {
+            if code::var_mode(c, v) == 2 {
                 return false;
             }
-            return part_begins(t, s, sizes, table::var_type(t, s, v), y, k - at);
+            return part_begins(c, sizes, code::var_type(c, v), y, k - at);
         }
         return false;
     }
@@ -394,20 +346,19 @@ fn part_of_variable(
 }
 
 // A part of type y begins at word k of the variables of block b.
-fn part_of_block(t: &[u8], s: table::Sections, sizes: &[u16], b: usize, y: usize, k: usize) -> bool
-    requires { ⌜ Of (now t) s ⌝ }
-    requires { ⌜ Ready (tableOf (s .w) (now t)) (now sizes) ⌝ }
-    ensures { λ r. ⌜ r ≡ partOfBlock (tableOf (s .w) (now (t .entry))) b y k ⌝ }
+fn part_of_block(c: &code::Slots, sizes: &[u16], b: usize, y: usize, k: usize) -> bool
+    requires { ⌜ Ready (decoded (now c)) (now sizes) ⌝ }
+    ensures { λ r. ⌜ r ≡ partOfBlock (decoded (now (c .entry))) b y k ⌝ }
 {
-    let first = table::first_var(t, s, b);
-    let count = table::block_vars(t, s, b);
+    let first = code::first_var(c, b);
+    let count = code::block_vars(c, b);
     let mut at = 0;
     let mut i = 0;
     while i < count {
-        if part_of_variable(t, s, sizes, y, k, first + i, at) {
+        if part_of_variable(c, sizes, y, k, first + i, at) {
             return true;
         }
-        at += var_words(t, s, sizes, first + i);
+        at += var_words(c, sizes, first + i);
         i += 1;
     }
     false
@@ -423,52 +374,35 @@ fn location_at(p: usize, k: usize) -> usize
 
 // Variable v, which begins at word `at` of the area of process p, has a value of its type.
 fn variable_holds(
-    t: &[u8],
-    s: table::Sections,
+    c: &code::Slots,
     sizes: &[u16],
     state: &[u8],
     p: usize,
     v: usize,
     at: usize,
 ) -> bool
-    requires { ⌜ Of (now t) s ⌝ }
-    requires { ⌜ Ready (tableOf (s .w) (now t)) (now sizes) ⌝ }
+    requires { ⌜ Ready (decoded (now c)) (now sizes) ⌝ }
     requires { ⌜ Lent 17664 (now state) ⌝ }
     requires { ⌜ (1 ≤ p) × ((p ≤ 64) × (at ≤ 14000000)) ⌝ }
-    ensures { λ r. ⌜ r ≡ variableHolds (tableOf (s .w) (now (t .entry))) (memoryOf (now (state .entry))) p v at ⌝ }
+    ensures { λ r. ⌜ r ≡ variableHolds (decoded (now (c .entry))) (memoryOf (now (state .entry))) p v at ⌝ }
 {
-    value_holds(
-        t,
-        s,
-        sizes,
-        state,
-        table::var_type(t, s, v),
-        location_at(p, at),
-    )
+    value_holds(c, sizes, state, code::var_type(c, v), location_at(p, at))
 }
 
 // The variables of block b, at the beginning of the area of process p, have values of their types.
-fn modules_hold(
-    t: &[u8],
-    s: table::Sections,
-    sizes: &[u16],
-    state: &[u8],
-    p: usize,
-    b: usize,
-) -> bool
-    requires { ⌜ Of (now t) s ⌝ }
-    requires { ⌜ Ready (tableOf (s .w) (now t)) (now sizes) ⌝ }
+fn modules_hold(c: &code::Slots, sizes: &[u16], state: &[u8], p: usize, b: usize) -> bool
+    requires { ⌜ Ready (decoded (now c)) (now sizes) ⌝ }
     requires { ⌜ Lent 17664 (now state) ⌝ }
     requires { ⌜ (1 ≤ p) × (p ≤ 64) ⌝ }
-    ensures { λ r. ⌜ r ≡ modulesHold (tableOf (s .w) (now (t .entry))) (memoryOf (now (state .entry))) p b ⌝ }
+    ensures { λ r. ⌜ r ≡ modulesHold (decoded (now (c .entry))) (memoryOf (now (state .entry))) p b ⌝ }
 {
-    let first = table::first_var(t, s, b);
-    let count = table::block_vars(t, s, b);
+    let first = code::first_var(c, b);
+    let count = code::block_vars(c, b);
     let mut at = 0;
     let mut i = 0;
     while i < count {
-        if variable_holds(t, s, sizes, state, p, first + i, at) {
-            at += var_words(t, s, sizes, first + i);
+        if variable_holds(c, sizes, state, p, first + i, at) {
+            at += var_words(c, sizes, first + i);
             i += 1;
         } else {
             return false;
@@ -485,31 +419,22 @@ fn is_created(state: &[u8], p: usize) -> bool
 }
 
 // At location a, in the area of a created process, stands one of its module's variables of type y, or such a part of one.
-fn lives_in_module(
-    t: &[u8],
-    s: table::Sections,
-    sizes: &[u16],
-    state: &[u8],
-    y: usize,
-    a: usize,
-) -> bool
-    requires { ⌜ Of (now t) s ⌝ }
-    requires { ⌜ Ready (tableOf (s .w) (now t)) (now sizes) ⌝ }
+fn lives_in_module(c: &code::Slots, sizes: &[u16], state: &[u8], y: usize, a: usize) -> bool
+    requires { ⌜ Ready (decoded (now c)) (now sizes) ⌝ }
     requires { ⌜ Lent 17664 (now state) ⌝ }
     requires { ⌜ a < 65536 ⌝ }
-    ensures { λ r. ⌜ r ≡ livesInModule (tableOf (s .w) (now (t .entry))) (memoryOf (now (state .entry))) y a ⌝ }
+    ensures { λ r. ⌜ r ≡ livesInModule (decoded (now (c .entry))) (memoryOf (now (state .entry))) y a ⌝ }
 {
     let r = a / 256 + 1;
     if is_created(state, r) {
-        return part_of_block(t, s, sizes, record_word(state, r, 1), y, a % 256);
+        return part_of_block(c, sizes, record_word(state, r, 1), y, a % 256);
     }
     false
 }
 
 // Word k of the area of process p lies in the frame at f, and a part of type y begins there.
 fn owned(
-    t: &[u8],
-    s: table::Sections,
+    c: &code::Slots,
     sizes: &[u16],
     state: &[u8],
     p: usize,
@@ -517,22 +442,20 @@ fn owned(
     y: usize,
     k: usize,
 ) -> bool
-    requires { ⌜ Of (now t) s ⌝ }
-    requires { ⌜ Ready (tableOf (s .w) (now t)) (now sizes) ⌝ }
+    requires { ⌜ Ready (decoded (now c)) (now sizes) ⌝ }
     requires { ⌜ Lent 17664 (now state) ⌝ }
     requires { ⌜ (1 ≤ p) × ((p ≤ 64) × (f < 65536)) ⌝ }
-    ensures { λ r. ⌜ r ≡ ownedIn (tableOf (s .w) (now (t .entry))) (memoryOf (now (state .entry))) p f y k ⌝ }
+    ensures { λ r. ⌜ r ≡ ownedIn (decoded (now (c .entry))) (memoryOf (now (state .entry))) p f y k ⌝ }
 {
     if f + 4 <= k {
-        return part_of_block(t, s, sizes, area_word(state, p, f + 3), y, k - (f + 4));
+        return part_of_block(c, sizes, area_word(state, p, f + 3), y, k - (f + 4));
     }
     false
 }
 
 // Word k lies in one of the d calls of process p, the innermost of which has its frame at f.
 fn owns_word(
-    t: &[u8],
-    s: table::Sections,
+    c: &code::Slots,
     sizes: &[u16],
     state: &[u8],
     p: usize,
@@ -541,16 +464,15 @@ fn owns_word(
     y: usize,
     k: usize,
 ) -> bool
-    requires { ⌜ Of (now t) s ⌝ }
-    requires { ⌜ Ready (tableOf (s .w) (now t)) (now sizes) ⌝ }
+    requires { ⌜ Ready (decoded (now c)) (now sizes) ⌝ }
     requires { ⌜ Lent 17664 (now state) ⌝ }
     requires { ⌜ (1 ≤ p) × ((p ≤ 64) × (f < 65536)) ⌝ }
-    ensures { λ r. ⌜ r ≡ owns (tableOf (s .w) (now (t .entry))) (memoryOf (now (state .entry))) p d f y k ⌝ }
+    ensures { λ r. ⌜ r ≡ owns (decoded (now (c .entry))) (memoryOf (now (state .entry))) p d f y k ⌝ }
 {
     let mut n = d;
     let mut g = f;
     while 0 < n {
-        if owned(t, s, sizes, state, p, g, y, k) {
+        if owned(c, sizes, state, p, g, y, k) {
             return true;
         }
         g = area_word(state, p, g);
@@ -561,8 +483,7 @@ fn owns_word(
 
 // At location a stands a live variable of type y, or such a part of one.
 fn lives_at(
-    t: &[u8],
-    s: table::Sections,
+    c: &code::Slots,
     sizes: &[u16],
     state: &[u8],
     p: usize,
@@ -571,25 +492,23 @@ fn lives_at(
     y: usize,
     a: usize,
 ) -> bool
-    requires { ⌜ Of (now t) s ⌝ }
-    requires { ⌜ Ready (tableOf (s .w) (now t)) (now sizes) ⌝ }
+    requires { ⌜ Ready (decoded (now c)) (now sizes) ⌝ }
     requires { ⌜ Lent 17664 (now state) ⌝ }
     requires { ⌜ (1 ≤ p) × ((p ≤ 64) × ((f < 65536) × (a < 65536))) ⌝ }
-    ensures { λ r. ⌜ r ≡ lives (tableOf (s .w) (now (t .entry))) (memoryOf (now (state .entry))) p d f y a ⌝ }
+    ensures { λ r. ⌜ r ≡ lives (decoded (now (c .entry))) (memoryOf (now (state .entry))) p d f y a ⌝ }
 {
-    if lives_in_module(t, s, sizes, state, y, a) {
+    if lives_in_module(c, sizes, state, y, a) {
         return true;
     }
     if a / 256 + 1 == p {
-        return owns_word(t, s, sizes, state, p, d, f, y, a % 256);
+        return owns_word(c, sizes, state, p, d, f, y, a % 256);
     }
     false
 }
 
 // Variable v, which begins at word `at` of the variables of the frame at f: a var parameter names a live variable of its type.
 fn frame_variable_holds(
-    t: &[u8],
-    s: table::Sections,
+    c: &code::Slots,
     sizes: &[u16],
     state: &[u8],
     p: usize,
@@ -598,33 +517,30 @@ fn frame_variable_holds(
     v: usize,
     at: usize,
 ) -> bool
-    requires { ⌜ Of (now t) s ⌝ }
-    requires { ⌜ Ready (tableOf (s .w) (now t)) (now sizes) ⌝ }
+    requires { ⌜ Ready (decoded (now c)) (now sizes) ⌝ }
     requires { ⌜ Lent 17664 (now state) ⌝ }
     requires { ⌜ (1 ≤ p) × ((p ≤ 64) × ((f < 65536) × (at ≤ 13900000))) ⌝ }
-    ensures { λ r. ⌜ r ≡ frameVariable (tableOf (s .w) (now (t .entry))) (memoryOf (now (state .entry))) p d f v at ⌝ }
+    ensures { λ r. ⌜ r ≡ frameVariable (decoded (now (c .entry))) (memoryOf (now (state .entry))) p d f v at ⌝ }
 {
-    if table::var_mode(t, s, v) == 2 {
+    if code::var_mode(c, v) == 2 {
         let a = area_word(state, p, f + 4 + at);
         return lives_at(
-            t,
-            s,
+            c,
             sizes,
             state,
             p,
             d,
             area_word(state, p, f),
-            table::var_type(t, s, v),
+            code::var_type(c, v),
             a,
         );
     }
-    variable_holds(t, s, sizes, state, p, v, f + 4 + at)
+    variable_holds(c, sizes, state, p, v, f + 4 + at)
 }
 
 // The variables of a call of procedure q with its frame at f.
 fn frames_hold(
-    t: &[u8],
-    s: table::Sections,
+    c: &code::Slots,
     sizes: &[u16],
     state: &[u8],
     p: usize,
@@ -632,19 +548,18 @@ fn frames_hold(
     f: usize,
     q: usize,
 ) -> bool
-    requires { ⌜ Of (now t) s ⌝ }
-    requires { ⌜ Ready (tableOf (s .w) (now t)) (now sizes) ⌝ }
+    requires { ⌜ Ready (decoded (now c)) (now sizes) ⌝ }
     requires { ⌜ Lent 17664 (now state) ⌝ }
     requires { ⌜ (1 ≤ p) × ((p ≤ 64) × (f < 65536)) ⌝ }
-    ensures { λ r. ⌜ r ≡ framesHold (tableOf (s .w) (now (t .entry))) (memoryOf (now (state .entry))) p d f q ⌝ }
+    ensures { λ r. ⌜ r ≡ framesHold (decoded (now (c .entry))) (memoryOf (now (state .entry))) p d f q ⌝ }
 {
-    let first = table::first_var(t, s, q);
-    let count = table::block_vars(t, s, q);
+    let first = code::first_var(c, q);
+    let count = code::block_vars(c, q);
     let mut at = 0;
     let mut i = 0;
     while i < count {
-        if frame_variable_holds(t, s, sizes, state, p, d, f, first + i, at) {
-            at += var_words(t, s, sizes, first + i);
+        if frame_variable_holds(c, sizes, state, p, d, f, first + i, at) {
+            at += var_words(c, sizes, first + i);
             i += 1;
         } else {
             return false;
@@ -654,61 +569,56 @@ fn frames_hold(
 }
 
 // Where the statements of block b end: at the first of the next block, or at the end of all.
-fn next_first(t: &[u8], s: table::Sections, b: usize) -> usize
-    requires { ⌜ Of (now t) s ⌝ }
+fn next_first(c: &code::Slots, b: usize) -> usize
     requires { ⌜ b < 65536 ⌝ }
-    ensures { λ r. ⌜ r ≡ nextFirst (tableOf (s .w) (now (t .entry))) b ⌝ }
+    ensures { λ r. ⌜ r ≡ nextFirst (decoded (now (c .entry))) b ⌝ }
 {
-    if b + 1 < table::blocks(t, s) {
-        return table::first_stmt(t, s, b + 1);
+    if b + 1 < code::blocks(c) {
+        return code::first_stmt(c, b + 1);
     }
-    table::statements(t, s)
+    code::statements(c)
 }
 
-// Statement c is one of block b's.
-fn lies_in(t: &[u8], s: table::Sections, b: usize, c: usize) -> bool
-    requires { ⌜ Of (now t) s ⌝ }
+// Statement i is one of block b's.
+fn lies_in(c: &code::Slots, b: usize, i: usize) -> bool
     requires { ⌜ b < 65536 ⌝ }
-    ensures { λ r. ⌜ r ≡ liesIn (tableOf (s .w) (now (t .entry))) b c ⌝ }
+    ensures { λ r. ⌜ r ≡ liesIn (decoded (now (c .entry))) b i ⌝ }
 {
-    if table::first_stmt(t, s, b) <= c {
-        return c < next_first(t, s, b);
+    if code::first_stmt(c, b) <= i {
+        return i < next_first(c, b);
     }
     false
 }
 
-fn is_procedure(t: &[u8], s: table::Sections, b: usize) -> bool
-    requires { ⌜ Of (now t) s ⌝ }
-    ensures { λ r. ⌜ r ≡ isProcedure (tableOf (s .w) (now (t .entry))) b ⌝ }
+fn is_procedure(c: &code::Slots, b: usize) -> bool
+    ensures { λ r. ⌜ r ≡ isProcedure (decoded (now (c .entry))) b ⌝ }
 {
-    if b < table::blocks(t, s) {
-        return table::block_kind(t, s, b) == 2;
+    if b < code::blocks(c) {
+        return code::block_kind(c, b) == 2;
     }
     false
 }
 
-fn is_module(t: &[u8], s: table::Sections, b: usize) -> bool
-    requires { ⌜ Of (now t) s ⌝ }
-    ensures { λ r. ⌜ r ≡ isModule (tableOf (s .w) (now (t .entry))) b ⌝ }
+fn is_module(c: &code::Slots, b: usize) -> bool
+    ensures { λ r. ⌜ r ≡ isModule (decoded (now (c .entry))) b ⌝ }
 {
-    if b < table::blocks(t, s) {
-        return table::block_kind(t, s, b) == 1;
+    if b < code::blocks(c) {
+        return code::block_kind(c, b) == 1;
     }
     false
 }
 
-// Statement c calls procedure q: a local call (kind 2), or one of another process (kind 3).
-fn calls_procedure(t: &[u8], s: table::Sections, q: usize, c: usize) -> bool
-    requires { ⌜ Of (now t) s ⌝ }
-    ensures { λ r. ⌜ r ≡ calls q (stmtAt (tableOf (s .w) (now (t .entry))) c) ⌝ }
+// Statement i calls procedure q: a local call (kind 2), or one of another process (kind 3).
+fn calls_procedure(c: &code::Slots, q: usize, i: usize) -> bool
+    ensures { λ r. ⌜ r ≡ calls q (stmtAt (decoded (now (c .entry))) i) ⌝ }
 {
-    if c < table::statements(t, s) {
-        let kind = table::stmt_kind(t, s, c);
+    if i < code::statements(c) {
+        let kind = code::stmt_kind(c, i);
         if kind == 2 {
-            return table::stmt_a(t, s, c) == q;
+            return code::stmt_a(c, i) == q;
         }
         if kind == 3 {
-            return table::stmt_b(t, s, c) == q;
+            return code::stmt_b(c, i) == q;
         }
         return false;
     }
@@ -716,35 +626,33 @@ fn calls_procedure(t: &[u8], s: table::Sections, q: usize, c: usize) -> bool
 }
 
 // The words of a procedure's variables in its frame.
-fn frame_words(t: &[u8], s: table::Sections, sizes: &[u16], q: usize) -> usize
-    requires { ⌜ Of (now t) s ⌝ }
-    requires { ⌜ Ready (tableOf (s .w) (now t)) (now sizes) ⌝ }
-    ensures { λ r. ⌜ Sum (frameWords (tableOf (s .w) (now (t .entry))) q) r ⌝ }
+fn frame_words(c: &code::Slots, sizes: &[u16], q: usize) -> usize
+    requires { ⌜ Ready (decoded (now c)) (now sizes) ⌝ }
+    ensures { λ r. ⌜ Sum (frameWords (decoded (now (c .entry))) q) r ⌝ }
 {
-    let first = table::first_var(t, s, q);
-    let count = table::block_vars(t, s, q);
+    let first = code::first_var(c, q);
+    let count = code::block_vars(c, q);
     let mut sum = 0;
     let mut i = 0;
     while i < count {
-        sum += var_words(t, s, sizes, first + i);
+        sum += var_words(c, sizes, first + i);
         i += 1;
     }
     sum
 }
 
 // The words of the variables of a module or of block 0.
-fn module_words(t: &[u8], s: table::Sections, sizes: &[u16], b: usize) -> usize
-    requires { ⌜ Of (now t) s ⌝ }
-    requires { ⌜ Ready (tableOf (s .w) (now t)) (now sizes) ⌝ }
-    ensures { λ r. ⌜ Sum (moduleWords (tableOf (s .w) (now (t .entry))) b) r ⌝ }
+fn module_words(c: &code::Slots, sizes: &[u16], b: usize) -> usize
+    requires { ⌜ Ready (decoded (now c)) (now sizes) ⌝ }
+    ensures { λ r. ⌜ Sum (moduleWords (decoded (now (c .entry))) b) r ⌝ }
 {
-    let first = table::first_var(t, s, b);
-    let count = table::block_vars(t, s, b);
+    let first = code::first_var(c, b);
+    let count = code::block_vars(c, b);
     let mut sum = 0;
     let mut i = 0;
     while i < count {
-        let x = table::var_type(t, s, first + i);
-        sum += words_of(t, s, sizes, x);
+        let x = code::var_type(c, first + i);
+        sum += words_of(c, sizes, x);
         i += 1;
     }
     sum
@@ -765,54 +673,50 @@ fn is_of(state: &[u8], b: usize, w: usize) -> bool
 }
 
 // q is a procedure of the block of the process w.
-fn called_ok(t: &[u8], s: table::Sections, state: &[u8], w: usize, q: usize) -> bool
-    requires { ⌜ Of (now t) s ⌝ }
+fn called_ok(c: &code::Slots, state: &[u8], w: usize, q: usize) -> bool
     requires { ⌜ Lent 17664 (now state) ⌝ }
-    ensures { λ r. ⌜ r ≡ calledOk (tableOf (s .w) (now (t .entry))) (memoryOf (now (state .entry))) w q ⌝ }
+    ensures { λ r. ⌜ r ≡ calledOk (decoded (now (c .entry))) (memoryOf (now (state .entry))) w q ⌝ }
 {
-    if is_procedure(t, s, q) {
-        return is_of(state, table::block_owner(t, s, q), w);
+    if is_procedure(c, q) {
+        return is_of(state, code::block_owner(c, q), w);
     }
     false
 }
 
 // The frame of procedure q at f ends at the top, within the area. The words are added up only where the frame can fit.
-fn frame_fits(t: &[u8], s: table::Sections, sizes: &[u16], f: usize, top: usize, q: usize) -> bool
-    requires { ⌜ Of (now t) s ⌝ }
-    requires { ⌜ Ready (tableOf (s .w) (now t)) (now sizes) ⌝ }
+fn frame_fits(c: &code::Slots, sizes: &[u16], f: usize, top: usize, q: usize) -> bool
+    requires { ⌜ Ready (decoded (now c)) (now sizes) ⌝ }
     requires { ⌜ f < 65536 ⌝ }
-    ensures { λ r. ⌜ r ≡ frameFits (tableOf (s .w) (now (t .entry))) f top q ⌝ }
+    ensures { λ r. ⌜ r ≡ frameFits (decoded (now (c .entry))) f top q ⌝ }
 {
     if f + 4 <= 256 {
         if top <= 256 {
-            return f + 4 + frame_words(t, s, sizes, q) == top;
+            return f + 4 + frame_words(c, sizes, q) == top;
         }
         return false;
     }
     false
 }
 
-// A call of procedure q, with its frame at f, that stands at statement c and works on process w; its frame ends at the top.
+// A call of procedure q, with its frame at f, that stands at statement i and works on process w; its frame ends at the top.
 fn frame_ok(
-    t: &[u8],
-    s: table::Sections,
+    c: &code::Slots,
     sizes: &[u16],
     state: &[u8],
     f: usize,
     w: usize,
-    c: usize,
+    i: usize,
     top: usize,
     q: usize,
 ) -> bool
-    requires { ⌜ Of (now t) s ⌝ }
-    requires { ⌜ Ready (tableOf (s .w) (now t)) (now sizes) ⌝ }
+    requires { ⌜ Ready (decoded (now c)) (now sizes) ⌝ }
     requires { ⌜ Lent 17664 (now state) ⌝ }
     requires { ⌜ (f < 65536) × (q < 65536) ⌝ }
-    ensures { λ r. ⌜ r ≡ frameOk (tableOf (s .w) (now (t .entry))) (memoryOf (now (state .entry))) f w c top q ⌝ }
+    ensures { λ r. ⌜ r ≡ frameOk (decoded (now (c .entry))) (memoryOf (now (state .entry))) f w i top q ⌝ }
 {
-    if called_ok(t, s, state, w, q) {
-        if lies_in(t, s, q, c) {
-            return frame_fits(t, s, sizes, f, top, q);
+    if called_ok(c, state, w, q) {
+        if lies_in(c, q, i) {
+            return frame_fits(c, sizes, f, top, q);
         }
         return false;
     }
@@ -821,55 +725,51 @@ fn frame_ok(
 
 // The call with its frame at f, d calls below it: its frame, the statement that called, and its variables, which take longest.
 fn call_ok(
-    t: &[u8],
-    s: table::Sections,
+    c: &code::Slots,
     sizes: &[u16],
     state: &[u8],
     p: usize,
     d: usize,
     f: usize,
     w: usize,
-    c: usize,
+    i: usize,
     top: usize,
 ) -> bool
-    requires { ⌜ Of (now t) s ⌝ }
-    requires { ⌜ Ready (tableOf (s .w) (now t)) (now sizes) ⌝ }
+    requires { ⌜ Ready (decoded (now c)) (now sizes) ⌝ }
     requires { ⌜ Lent 17664 (now state) ⌝ }
     requires { ⌜ (1 ≤ p) × ((p ≤ 64) × (f < 65536)) ⌝ }
-    ensures { λ r. ⌜ r ≡ callOk (tableOf (s .w) (now (t .entry))) (memoryOf (now (state .entry))) p d f w c top ⌝ }
+    ensures { λ r. ⌜ r ≡ callOk (decoded (now (c .entry))) (memoryOf (now (state .entry))) p d f w i top ⌝ }
 {
     let q = area_word(state, p, f + 3);
-    if frame_ok(t, s, sizes, state, f, w, c, top, q) {
-        if calls_procedure(t, s, q, area_word(state, p, f + 1)) {
-            return frames_hold(t, s, sizes, state, p, d, f, q);
+    if frame_ok(c, sizes, state, f, w, i, top, q) {
+        if calls_procedure(c, q, area_word(state, p, f + 1)) {
+            return frames_hold(c, sizes, state, p, d, f, q);
         }
         return false;
     }
     false
 }
 
-// Below its calls process p stands at statement c of its own block, and works on itself.
+// Below its calls process p stands at statement i of its own block, and works on itself.
 fn base_ok(
-    t: &[u8],
-    s: table::Sections,
+    c: &code::Slots,
     sizes: &[u16],
     state: &[u8],
     p: usize,
     f: usize,
     w: usize,
-    c: usize,
+    i: usize,
     top: usize,
 ) -> bool
-    requires { ⌜ Of (now t) s ⌝ }
-    requires { ⌜ Ready (tableOf (s .w) (now t)) (now sizes) ⌝ }
+    requires { ⌜ Ready (decoded (now c)) (now sizes) ⌝ }
     requires { ⌜ Lent 17664 (now state) ⌝ }
     requires { ⌜ (1 ≤ p) × (p ≤ 64) ⌝ }
-    ensures { λ r. ⌜ r ≡ baseOk (tableOf (s .w) (now (t .entry))) (memoryOf (now (state .entry))) p f w c top ⌝ }
+    ensures { λ r. ⌜ r ≡ baseOk (decoded (now (c .entry))) (memoryOf (now (state .entry))) p f w i top ⌝ }
 {
     let b = record_word(state, p, 1);
     if stands_alone(p, f, w) {
-        if lies_in(t, s, b, c) {
-            return top == module_words(t, s, sizes, b);
+        if lies_in(c, b, i) {
+            return top == module_words(c, sizes, b);
         }
         return false;
     }
@@ -886,25 +786,24 @@ fn stands_alone(p: usize, f: usize, w: usize) -> bool
 }
 
 // The calls of process p that have not ended, the innermost first. A frame has at least 4 of the 256 words: there are no more than 64.
-fn chain_ok(t: &[u8], s: table::Sections, sizes: &[u16], state: &[u8], p: usize) -> bool
-    requires { ⌜ Of (now t) s ⌝ }
-    requires { ⌜ Ready (tableOf (s .w) (now t)) (now sizes) ⌝ }
+fn chain_ok(c: &code::Slots, sizes: &[u16], state: &[u8], p: usize) -> bool
+    requires { ⌜ Ready (decoded (now c)) (now sizes) ⌝ }
     requires { ⌜ Lent 17664 (now state) ⌝ }
     requires { ⌜ (1 ≤ p) × (p ≤ 64) ⌝ }
-    ensures { λ r. ⌜ r ≡ startedOk (tableOf (s .w) (now (t .entry))) (memoryOf (now (state .entry))) p ⌝ }
+    ensures { λ r. ⌜ r ≡ startedOk (decoded (now (c .entry))) (memoryOf (now (state .entry))) p ⌝ }
 {
     let mut n = record_word(state, p, 7);
     let mut f = record_word(state, p, 3);
     let mut w = record_word(state, p, 5);
-    let mut c = record_word(state, p, 2);
+    let mut i = record_word(state, p, 2);
     let mut top = record_word(state, p, 4);
     if 64 < n {
         return false;
     }
     while 0 < n {
-        if call_ok(t, s, sizes, state, p, n - 1, f, w, c, top) {
+        if call_ok(c, sizes, state, p, n - 1, f, w, i, top) {
             top = f;
-            c = area_word(state, p, f + 1);
+            i = area_word(state, p, f + 1);
             w = area_word(state, p, f + 2);
             f = area_word(state, p, f);
             n -= 1;
@@ -912,15 +811,14 @@ fn chain_ok(t: &[u8], s: table::Sections, sizes: &[u16], state: &[u8], p: usize)
             return false;
         }
     }
-    base_ok(t, s, sizes, state, p, f, w, c, top)
+    base_ok(c, sizes, state, p, f, w, i, top)
 }
 
 // Process 1 is started and runs block 0; the others are created, of a process module.
-fn module_ok(t: &[u8], s: table::Sections, state: &[u8], p: usize) -> bool
-    requires { ⌜ Of (now t) s ⌝ }
+fn module_ok(c: &code::Slots, state: &[u8], p: usize) -> bool
     requires { ⌜ Lent 17664 (now state) ⌝ }
     requires { ⌜ (1 ≤ p) × (p ≤ 64) ⌝ }
-    ensures { λ r. ⌜ r ≡ moduleOk (tableOf (s .w) (now (t .entry))) (memoryOf (now (state .entry))) p ⌝ }
+    ensures { λ r. ⌜ r ≡ moduleOk (decoded (now (c .entry))) (memoryOf (now (state .entry))) p ⌝ }
 {
     let status = record_word(state, p, 0);
     let b = record_word(state, p, 1);
@@ -931,36 +829,34 @@ fn module_ok(t: &[u8], s: table::Sections, state: &[u8], p: usize) -> bool
         return false;
     }
     if in_range(1, 3, status) {
-        return is_module(t, s, b);
+        return is_module(c, b);
     }
     false
 }
 
 // A started process has calls, and stands at a statement.
-fn running_ok(t: &[u8], s: table::Sections, sizes: &[u16], state: &[u8], p: usize) -> bool
-    requires { ⌜ Of (now t) s ⌝ }
-    requires { ⌜ Ready (tableOf (s .w) (now t)) (now sizes) ⌝ }
+fn running_ok(c: &code::Slots, sizes: &[u16], state: &[u8], p: usize) -> bool
+    requires { ⌜ Ready (decoded (now c)) (now sizes) ⌝ }
     requires { ⌜ Lent 17664 (now state) ⌝ }
     requires { ⌜ (1 ≤ p) × (p ≤ 64) ⌝ }
-    ensures { λ r. ⌜ r ≡ runningOk (tableOf (s .w) (now (t .entry))) (memoryOf (now (state .entry))) p ⌝ }
+    ensures { λ r. ⌜ r ≡ runningOk (decoded (now (c .entry))) (memoryOf (now (state .entry))) p ⌝ }
 {
     if record_word(state, p, 0) == 2 {
-        return chain_ok(t, s, sizes, state, p);
+        return chain_ok(c, sizes, state, p);
     }
     true
 }
 
-fn process_ok(t: &[u8], s: table::Sections, sizes: &[u16], state: &[u8], p: usize) -> bool
-    requires { ⌜ Of (now t) s ⌝ }
-    requires { ⌜ Ready (tableOf (s .w) (now t)) (now sizes) ⌝ }
+fn process_ok(c: &code::Slots, sizes: &[u16], state: &[u8], p: usize) -> bool
+    requires { ⌜ Ready (decoded (now c)) (now sizes) ⌝ }
     requires { ⌜ Lent 17664 (now state) ⌝ }
     requires { ⌜ (1 ≤ p) × (p ≤ 64) ⌝ }
-    ensures { λ r. ⌜ r ≡ processOk (tableOf (s .w) (now (t .entry))) (memoryOf (now (state .entry))) p ⌝ }
+    ensures { λ r. ⌜ r ≡ processOk (decoded (now (c .entry))) (memoryOf (now (state .entry))) p ⌝ }
 {
-    if module_ok(t, s, state, p) {
+    if module_ok(c, state, p) {
         if record_word(state, p, 6) <= created(state) {
-            if modules_hold(t, s, sizes, state, p, record_word(state, p, 1)) {
-                return running_ok(t, s, sizes, state, p);
+            if modules_hold(c, sizes, state, p, record_word(state, p, 1)) {
+                return running_ok(c, sizes, state, p);
             }
             return false;
         }
@@ -981,17 +877,16 @@ fn failure_ok(state: &[u8]) -> bool
 }
 
 // Each created process.
-fn processes_hold(t: &[u8], s: table::Sections, sizes: &[u16], state: &[u8]) -> bool
-    requires { ⌜ Of (now t) s ⌝ }
-    requires { ⌜ Ready (tableOf (s .w) (now t)) (now sizes) ⌝ }
+fn processes_hold(c: &code::Slots, sizes: &[u16], state: &[u8]) -> bool
+    requires { ⌜ Ready (decoded (now c)) (now sizes) ⌝ }
     requires { ⌜ Lent 17664 (now state) ⌝ }
     requires { ⌜ memoryOf (now state) createdAt ≤ 64 ⌝ }
-    ensures { λ r. ⌜ r ≡ processesHold (tableOf (s .w) (now (t .entry))) (memoryOf (now (state .entry))) ⌝ }
+    ensures { λ r. ⌜ r ≡ processesHold (decoded (now (c .entry))) (memoryOf (now (state .entry))) ⌝ }
 {
     let processes = created(state);
     let mut i = 0;
     while i < processes {
-        if process_ok(t, s, sizes, state, i + 1) {
+        if process_ok(c, sizes, state, i + 1) {
             i += 1;
         } else {
             return false;
@@ -1001,17 +896,16 @@ fn processes_hold(t: &[u8], s: table::Sections, sizes: &[u16], state: &[u8]) -> 
 }
 
 // THE STATE RULE: the lent state is one that a run of the table can be in, as far as its words show.
-pub fn rule_holds(t: &[u8], s: table::Sections, sizes: &[u16], state: &[u8]) -> bool
-    requires { ⌜ Of (now t) s ⌝ }
-    requires { ⌜ Ready (tableOf (s .w) (now t)) (now sizes) ⌝ }
+pub fn rule_holds(c: &code::Slots, sizes: &[u16], state: &[u8]) -> bool
+    requires { ⌜ Ready (decoded (now c)) (now sizes) ⌝ }
     requires { ⌜ Lent 17664 (now state) ⌝ }
-    ensures { λ r. ⌜ r ≡ rule (tableOf (s .w) (now (t .entry))) (memoryOf (now (state .entry))) ⌝ }
+    ensures { λ r. ⌜ r ≡ rule (decoded (now (c .entry))) (memoryOf (now (state .entry))) ⌝ }
 {
     let n = created(state);
     if 1 <= n {
         if n <= 64 {
             if failure_ok(state) {
-                return processes_hold(t, s, sizes, state);
+                return processes_hold(c, sizes, state);
             }
             return false;
         }

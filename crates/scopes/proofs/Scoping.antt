@@ -13,8 +13,9 @@ use Rattle.basics.proofs.Tests.{tests}
 use Rattle.basics.proofs.Passes.{passes}
 use Rattle.basics.proofs.Chains.{chain-none, chain-more, carry-fail, carry-all}
 use Rattle.table.specs.Table.{Table, tableOf}
+use Rattle.code.specs.Code.{decoded, Decodes}
 use Rattle.table.specs.Entries.{owner, firstVar, vars, nodeKind, nodeP, nodeQ, stmtKind, stmtA, stmtC, stmtD, stmtCount}
-use Rattle.table.specs.Reading.{Of, Field}
+use Rattle.table.specs.Reading.{Field}
 use Rattle.table.specs.Parts.{argumentPart, argumentIn}
 use Rattle.table.specs.declared.Sections.{Sections}
 use Rattle.table.proofs.Parts.{each-argument}
@@ -93,10 +94,10 @@ of-part T b w part k n r h e = rw (← h .is) e
 pub ruleset parts = (passes, of-part)
 
 pub arguments-each :
-    (t : List ℕ) (s : Sections) → Of t s → (b first count : ℕ) (part : List ℕ) (r : Bool) → part ≡ argumentPart (s .w) t first count
-    → r ≡ allBelow count (scopedIn (tableOf (s .w) t) b (s .w) part) → r ≡ argumentsScoped (tableOf (s .w) t) b first count
+    (t : List ℕ) (s : Sections) (c : List ℕ) → Decodes t s c → (b first count : ℕ) (part : List ℕ) (r : Bool) → part ≡ argumentPart (s .w) t first count
+    → r ≡ allBelow count (scopedIn (decoded c) b (s .w) part) → r ≡ argumentsScoped (decoded c) b first count
 unfolding argumentsScoped argumentScoped scopedIn
-arguments-each t s o b first count part r h e = e ∙ rw h (each-argument t s o first count (λ k n. nodeScoped (tableOf (s .w) t) b n))
+arguments-each t s c o b first count part r h e = e ∙ rw (h, o .is) (each-argument t s (o .table) first count (λ k n. nodeScoped (tableOf (s .w) t) b n))
 
 -- the pass over all statements
 module _ (T : Table) where

@@ -2,39 +2,35 @@
 ghost use mathlib.Core.Path.{_≡_};
 ghost use Prim.Native.Nat.{_+_, _≤_, _<_};
 ghost use Rattle.basics.specs.Choice.{allBelow};
-ghost use Rattle.table.specs.Table.{tableOf};
+ghost use Rattle.code.specs.Code.{decoded, Decodes};
 ghost use Rattle.table.specs.Entries.{stmtA, stmtB};
-ghost use Rattle.table.specs.Reading.{Of};
 ghost use Rattle.nesting.specs.Nest.{blockStep};
 ghost use Rattle.scopes.specs.Scopes.{among, visible, hasSecond, nodeScoped, argumentsScoped, namesA, namesB, hasArguments, fieldsScoped, staysIn, stmtScoped, scoped, scopedIn};
 
-fn is_among(t: &[u8], s: table::Sections, b: usize, x: usize) -> bool
-    requires { ⌜ Of (now t) s ⌝ }
-    ensures { λ r. ⌜ r ≡ among (tableOf (s .w) (now (t .entry))) b x ⌝ }
+fn is_among(c: &code::Slots, b: usize, x: usize) -> bool
+    ensures { λ r. ⌜ r ≡ among (decoded (now (c .entry))) b x ⌝ }
 {
-    let first = table::first_var(t, s, b);
+    let first = code::first_var(c, b);
     if first <= x {
-        return x < first + table::block_vars(t, s, b);
+        return x < first + code::block_vars(c, b);
     }
     false
 }
 
-fn is_visible(t: &[u8], s: table::Sections, b: usize, x: usize) -> bool
-    requires { ⌜ Of (now t) s ⌝ }
-    ensures { λ r. ⌜ r ≡ visible (tableOf (s .w) (now (t .entry))) b x ⌝ }
+fn is_visible(c: &code::Slots, b: usize, x: usize) -> bool
+    ensures { λ r. ⌜ r ≡ visible (decoded (now (c .entry))) b x ⌝ }
 {
-    if is_among(t, s, b, x) {
+    if is_among(c, b, x) {
         return true;
     }
-    let o = table::block_owner(t, s, b);
-    is_among(t, s, o, x)
+    let o = code::block_owner(c, b);
+    is_among(c, o, x)
 }
 
-fn has_second(t: &[u8], s: table::Sections, n: usize) -> bool
-    requires { ⌜ Of (now t) s ⌝ }
-    ensures { λ r. ⌜ r ≡ hasSecond (tableOf (s .w) (now (t .entry))) n ⌝ }
+fn has_second(c: &code::Slots, n: usize) -> bool
+    ensures { λ r. ⌜ r ≡ hasSecond (decoded (now (c .entry))) n ⌝ }
 {
-    let k = table::node_kind(t, s, n);
+    let k = code::node_kind(c, n);
     if k == 3 {
         return true;
     }
@@ -43,44 +39,41 @@ fn has_second(t: &[u8], s: table::Sections, n: usize) -> bool
 
 // Each whole variable in node n is visible in block b. Operands stand before their node, so the recursion ends; a node is used once, so a table
 // is gone through once.
-fn node_scoped(t: &[u8], s: table::Sections, b: usize, n: usize) -> bool
-    requires { ⌜ Of (now t) s ⌝ }
-    ensures { λ r. ⌜ r ≡ nodeScoped (tableOf (s .w) (now (t .entry))) b n ⌝ }
+fn node_scoped(c: &code::Slots, b: usize, n: usize) -> bool
+    ensures { λ r. ⌜ r ≡ nodeScoped (decoded (now (c .entry))) b n ⌝ }
 {
-    let k = table::node_kind(t, s, n);
+    let k = code::node_kind(c, n);
     if k == 0 {
         return true;
     }
-    let p = table::node_p(t, s, n);
+    let p = code::node_p(c, n);
     if k == 1 {
-        return is_visible(t, s, b, p);
+        return is_visible(c, b, p);
     }
     if n <= p {
         return false;
     }
-    if node_scoped(t, s, b, p) {
-        if has_second(t, s, n) {
-            let q = table::node_q(t, s, n);
+    if node_scoped(c, b, p) {
+        if has_second(c, n) {
+            let q = code::node_q(c, n);
             if n <= q {
                 return false;
             }
-            return node_scoped(t, s, b, q);
+            return node_scoped(c, b, q);
         }
         return true;
     }
     false
 }
 
-// The first `count` arguments that a part holds.
-fn part_scoped(t: &[u8], s: table::Sections, b: usize, part: &[u8], count: usize) -> bool
-    requires { ⌜ Of (now t) s ⌝ }
-    requires { ⌜ count < 65536 ⌝ }
-    ensures { λ r. ⌜ r ≡ allBelow count (scopedIn (tableOf (s .w) (now (t .entry))) b (s .w) (now (part .entry))) ⌝ }
+// The first `count` arguments that a part of a table with numbers of w bytes holds.
+fn part_scoped(c: &code::Slots, b: usize, part: &[u8], w: usize, count: usize) -> bool
+    requires { ⌜ (1 ≤ w) × (w ≤ 2) × (count < 65536) ⌝ }
+    ensures { λ r. ⌜ r ≡ allBelow count (scopedIn (decoded (now (c .entry))) b w (now (part .entry))) ⌝ }
 {
-    let w = s.w;
     let mut k = 0;
     while k < count {
-        if node_scoped(t, s, b, table::argument(part, w, k)) {
+        if node_scoped(c, b, table::argument(part, w, k)) {
             k += 1;
         } else {
             return false;
@@ -89,19 +82,25 @@ fn part_scoped(t: &[u8], s: table::Sections, b: usize, part: &[u8], count: usize
     true
 }
 
-fn arguments_scoped(t: &[u8], s: table::Sections, b: usize, first: usize, count: usize) -> bool
-    requires { ⌜ Of (now t) s ⌝ }
+fn arguments_scoped(
+    t: &[u8],
+    s: table::Sections,
+    c: &code::Slots,
+    b: usize,
+    first: usize,
+    count: usize,
+) -> bool
+    requires { ⌜ Decodes (now t) s (now c) ⌝ }
     requires { ⌜ count < 65536 ⌝ }
-    ensures { λ r. ⌜ r ≡ argumentsScoped (tableOf (s .w) (now (t .entry))) b first count ⌝ }
+    ensures { λ r. ⌜ r ≡ argumentsScoped (decoded (now (c .entry))) b first count ⌝ }
 {
-    part_scoped(t, s, b, table::call_arguments(t, s, first, count), count)
+    part_scoped(c, b, table::call_arguments(t, s, first, count), s.w, count)
 }
 
-fn names_a(t: &[u8], s: table::Sections, i: usize) -> bool
-    requires { ⌜ Of (now t) s ⌝ }
-    ensures { λ r. ⌜ r ≡ namesA (tableOf (s .w) (now (t .entry))) i ⌝ }
+fn names_a(c: &code::Slots, i: usize) -> bool
+    ensures { λ r. ⌜ r ≡ namesA (decoded (now (c .entry))) i ⌝ }
 {
-    let k = table::stmt_kind(t, s, i);
+    let k = code::stmt_kind(c, i);
     if k == 1 {
         return true;
     }
@@ -120,22 +119,20 @@ fn names_a(t: &[u8], s: table::Sections, i: usize) -> bool
     k == 12
 }
 
-fn names_b(t: &[u8], s: table::Sections, i: usize) -> bool
-    requires { ⌜ Of (now t) s ⌝ }
-    ensures { λ r. ⌜ r ≡ namesB (tableOf (s .w) (now (t .entry))) i ⌝ }
+fn names_b(c: &code::Slots, i: usize) -> bool
+    ensures { λ r. ⌜ r ≡ namesB (decoded (now (c .entry))) i ⌝ }
 {
-    let k = table::stmt_kind(t, s, i);
+    let k = code::stmt_kind(c, i);
     if k == 1 {
         return true;
     }
     k == 12
 }
 
-fn has_arguments(t: &[u8], s: table::Sections, i: usize) -> bool
-    requires { ⌜ Of (now t) s ⌝ }
-    ensures { λ r. ⌜ r ≡ hasArguments (tableOf (s .w) (now (t .entry))) i ⌝ }
+fn has_arguments(c: &code::Slots, i: usize) -> bool
+    ensures { λ r. ⌜ r ≡ hasArguments (decoded (now (c .entry))) i ⌝ }
 {
-    let k = table::stmt_kind(t, s, i);
+    let k = code::stmt_kind(c, i);
     if k == 2 {
         return true;
     }
@@ -146,28 +143,25 @@ fn has_arguments(t: &[u8], s: table::Sections, i: usize) -> bool
 }
 
 // The nodes that the fields of statement i name.
-fn a_scoped(t: &[u8], s: table::Sections, i: usize, b: usize) -> bool
-    requires { ⌜ Of (now t) s ⌝ }
-    ensures { λ r. ⌜ r ≡ nodeScoped (tableOf (s .w) (now (t .entry))) b (stmtA (tableOf (s .w) (now (t .entry))) i) ⌝ }
+fn a_scoped(c: &code::Slots, i: usize, b: usize) -> bool
+    ensures { λ r. ⌜ r ≡ nodeScoped (decoded (now (c .entry))) b (stmtA (decoded (now (c .entry))) i) ⌝ }
 {
-    node_scoped(t, s, b, table::stmt_a(t, s, i))
+    node_scoped(c, b, code::stmt_a(c, i))
 }
 
-fn b_scoped(t: &[u8], s: table::Sections, i: usize, b: usize) -> bool
-    requires { ⌜ Of (now t) s ⌝ }
-    ensures { λ r. ⌜ r ≡ nodeScoped (tableOf (s .w) (now (t .entry))) b (stmtB (tableOf (s .w) (now (t .entry))) i) ⌝ }
+fn b_scoped(c: &code::Slots, i: usize, b: usize) -> bool
+    ensures { λ r. ⌜ r ≡ nodeScoped (decoded (now (c .entry))) b (stmtB (decoded (now (c .entry))) i) ⌝ }
 {
-    node_scoped(t, s, b, table::stmt_b(t, s, i))
+    node_scoped(c, b, code::stmt_b(c, i))
 }
 
-fn fields_scoped(t: &[u8], s: table::Sections, i: usize, b: usize) -> bool
-    requires { ⌜ Of (now t) s ⌝ }
-    ensures { λ r. ⌜ r ≡ fieldsScoped (tableOf (s .w) (now (t .entry))) i b ⌝ }
+fn fields_scoped(c: &code::Slots, i: usize, b: usize) -> bool
+    ensures { λ r. ⌜ r ≡ fieldsScoped (decoded (now (c .entry))) i b ⌝ }
 {
-    if names_a(t, s, i) {
-        if a_scoped(t, s, i, b) {
-            if names_b(t, s, i) {
-                return b_scoped(t, s, i, b);
+    if names_a(c, i) {
+        if a_scoped(c, i, b) {
+            if names_b(c, i) {
+                return b_scoped(c, i, b);
             }
             return true;
         }
@@ -177,26 +171,25 @@ fn fields_scoped(t: &[u8], s: table::Sections, i: usize, b: usize) -> bool
 }
 
 // A local call from block b stays in its module.
-fn stays_in(t: &[u8], s: table::Sections, i: usize, b: usize) -> bool
-    requires { ⌜ Of (now t) s ⌝ }
-    ensures { λ r. ⌜ r ≡ staysIn (tableOf (s .w) (now (t .entry))) i b ⌝ }
+fn stays_in(c: &code::Slots, i: usize, b: usize) -> bool
+    ensures { λ r. ⌜ r ≡ staysIn (decoded (now (c .entry))) i b ⌝ }
 {
-    if table::stmt_kind(t, s, i) == 2 {
-        let to = table::block_owner(t, s, table::stmt_a(t, s, i));
-        let from = table::block_owner(t, s, b);
+    if code::stmt_kind(c, i) == 2 {
+        let to = code::block_owner(c, code::stmt_a(c, i));
+        let from = code::block_owner(c, b);
         return to == from;
     }
     true
 }
 
-fn stmt_scoped(t: &[u8], s: table::Sections, i: usize, b: usize) -> bool
-    requires { ⌜ Of (now t) s ⌝ }
-    ensures { λ r. ⌜ r ≡ stmtScoped (tableOf (s .w) (now (t .entry))) i b ⌝ }
+fn stmt_scoped(t: &[u8], s: table::Sections, c: &code::Slots, i: usize, b: usize) -> bool
+    requires { ⌜ Decodes (now t) s (now c) ⌝ }
+    ensures { λ r. ⌜ r ≡ stmtScoped (decoded (now (c .entry))) i b ⌝ }
 {
-    if fields_scoped(t, s, i, b) {
-        if stays_in(t, s, i, b) {
-            if has_arguments(t, s, i) {
-                return arguments_scoped(t, s, b, table::stmt_c(t, s, i), table::stmt_d(t, s, i));
+    if fields_scoped(c, i, b) {
+        if stays_in(c, i, b) {
+            if has_arguments(c, i) {
+                return arguments_scoped(t, s, c, b, code::stmt_c(c, i), code::stmt_d(c, i));
             }
             return true;
         }
@@ -206,28 +199,27 @@ fn stmt_scoped(t: &[u8], s: table::Sections, i: usize, b: usize) -> bool
 }
 
 // The block of the statement after i, where b is that of i.
-fn block_step(t: &[u8], s: table::Sections, i: usize, b: usize) -> usize
-    requires { ⌜ Of (now t) s ⌝ }
+fn block_step(c: &code::Slots, i: usize, b: usize) -> usize
     requires { ⌜ b < 65536 ⌝ }
-    ensures { λ r. ⌜ (r ≡ blockStep (tableOf (s .w) (now (t .entry))) i b) × (r ≤ b + 1) ⌝ }
+    ensures { λ r. ⌜ (r ≡ blockStep (decoded (now (c .entry))) i b) × (r ≤ b + 1) ⌝ }
 {
-    if table::stmt_kind(t, s, i) == 13 {
+    if code::stmt_kind(c, i) == 13 {
         return b + 1;
     }
     b
 }
 
 // Whether a table keeps the rule of refusal 8.
-pub fn all_scoped(t: &[u8], s: table::Sections) -> bool
-    requires { ⌜ Of (now t) s ⌝ }
-    ensures { λ r. ⌜ r ≡ scoped (tableOf (s .w) (now (t .entry))) ⌝ }
+pub fn all_scoped(t: &[u8], s: table::Sections, c: &code::Slots) -> bool
+    requires { ⌜ Decodes (now t) s (now c) ⌝ }
+    ensures { λ r. ⌜ r ≡ scoped (decoded (now (c .entry))) ⌝ }
 {
-    let count = table::statements(t, s);
+    let count = code::statements(c);
     let mut b = 0;
     let mut i = 0;
     while i < count {
-        if stmt_scoped(t, s, i, b) {
-            b = block_step(t, s, i, b);
+        if stmt_scoped(t, s, c, i, b) {
+            b = block_step(c, i, b);
             i += 1;
         } else {
             return false;

@@ -14,7 +14,7 @@ use Rattle.basics.proofs.Holding.{holds-none, holds-more, holds-part}
 use Rattle.table.specs.Table.{Table, tableOf, cellAt, countAt}
 use Rattle.table.specs.Entries.{declared, typeCount, typeKind, typeP, typeQ, typeLow, typeHigh, fieldType}
 use Rattle.types.specs.Match.{offset, span, elements}
-use Rattle.sizes.specs.Sizes.{sumBelow, fieldsWords, typeWords, wordsOf, partWords, offsetIn, kept, Known, Sizes}
+use Rattle.sizes.specs.Sizes.{sumBelow, fieldsWords, typeWords, wordsOf, partWords, offsetIn, kept, Known, Room, Sizes}
 use Rattle.sizes.proofs.Sums.{sum-more, sum-up, cap-add, cap-mul}
 
 -- the words of a type, by its kind
@@ -120,6 +120,19 @@ module _ (T : Table) (n : ℕ) where
 pub part-long : (n : ℕ) (l : List ℕ) → n ≤ length l → n ≡ length (take n l)
 part-long n l h = sym (length-take-le n l h)
 
+-- numbers that no type has, and the standard types
+pub kind-none : (w : ℕ) (t : List ℕ) (τ : ℕ) → 3 + typeCount (tableOf w t) ≤ τ → typeKind (tableOf w t) τ ≡ 0
+unfolding tableOf cellAt declared
+kind-none w t τ h = let g : countAt w t 0 ≤ τ - 3 = omega arith in rw (le-ltb τ 3 (omega arith), le-ltb (τ - 3) (countAt w t 0) g)
+
+pub words-far : (T : Table) (l : List ℕ) → Sizes T l → (τ : ℕ) → 3 + typeCount T ≤ τ → wordsOf T τ ≡ 1
+words-far T l h τ g = let e = h .beyond τ g in words-simple T τ (λ q. omega arith) (λ q. omega arith)
+
+pub words-standard : (T : Table) (τ : ℕ) → τ < 3 → wordsOf T τ ≡ 1
+unfolding declared
+words-standard T τ h =
+    let e : typeKind T τ ≡ 0 = rw (lt-ltb τ 3 h) in words-simple T τ (λ q. omega arith) (λ q. omega arith)
+
 -- all types
 module _ (T : Table) (l : List ℕ) where
   pub sizes-none : Holds (kept T) 0 l
@@ -133,8 +146,8 @@ module _ (T : Table) (l : List ℕ) where
   sizes-more n w v h k e f = holds-more (kept T) l n v h k (e ∙ f)
 
   module _ (c : ℕ) (e : c ≡ typeCount T) where
-    pub sizes-all : (n : ℕ) → Holds (kept T) n l → n ≤ 3 + c → 3 + c ≤ n → Sizes T l
-    sizes-all n h a b = let q : n ≡ 3 + typeCount T = omega arith in record { holds = rw q at h }
+    pub sizes-all : (l₀ : List ℕ) (n : ℕ) → Room T l₀ → Holds (kept T) n l → n ≤ 3 + c → 3 + c ≤ n → Sizes T l
+    sizes-all l₀ n g h a b = let q : n ≡ 3 + typeCount T = omega arith in record { holds = rw q at h; beyond = g .beyond }
 
     module _ (h : Sizes T l) where
       pub sizes-long : 3 + c ≤ length l
@@ -147,19 +160,5 @@ module _ (T : Table) (l : List ℕ) where
       unfolding kept
       size-at n r k f = f ∙ h .holds .is n (rw e at k)
 
--- numbers that no type has, and the standard types
-module _ (w : ℕ) (t : List ℕ) (τ : ℕ) where
-  kind-none : 3 + typeCount (tableOf w t) ≤ τ → typeKind (tableOf w t) τ ≡ 0
-  unfolding tableOf cellAt declared
-  kind-none h = let g : countAt w t 0 ≤ τ - 3 = omega arith in rw (le-ltb τ 3 (omega arith), le-ltb (τ - 3) (countAt w t 0) g)
-
-  pub words-far : 3 + typeCount (tableOf w t) ≤ τ → wordsOf (tableOf w t) τ ≡ 1
-  words-far h = let e = kind-none h in words-simple (tableOf w t) τ (λ q. omega arith) (λ q. omega arith)
-
-  pub size-none : (c : ℕ) → c ≡ typeCount (tableOf w t) → 3 + c ≤ τ → 1 ≡ min (wordsOf (tableOf w t) τ) 201
-  size-none c e h = let q = words-far (rw e at h) in omega arith
-
-pub words-standard : (T : Table) (τ : ℕ) → τ < 3 → wordsOf T τ ≡ 1
-unfolding declared
-words-standard T τ h =
-    let e : typeKind T τ ≡ 0 = rw (lt-ltb τ 3 h) in words-simple T τ (λ q. omega arith) (λ q. omega arith)
+      pub size-none : (n : ℕ) → 3 + c ≤ n → 1 ≡ min (wordsOf T n) 201
+      size-none n k = let q = words-far T l h n (rw e at k) in omega arith

@@ -9,10 +9,10 @@ use borrow.Author.Tests.{le-leb, lt-leb, leb-true, ltb-true, ltb-false}
 use Rattle.basics.specs.Choice.{cases, allBelow, Passed}
 use Rattle.basics.proofs.Passes.{passed-fail, passed-all}
 use Rattle.basics.proofs.Bools.{all-at, no-true}
-use Rattle.table.specs.Table.{Table, tableOf}
+use Rattle.table.specs.Table.{Table}
 use Rattle.table.specs.Entries.{typeCount, typeLow, typeHigh, varType, firstVar, vars}
 use Rattle.types.specs.Match.{offset, span, elements}
-use Rattle.sizes.specs.Sizes.{sumBelow, wordsOf, inIndex, boundsOk, evenString, typeOk, typeSized, typesSized, varOffset, moduleWords}
+use Rattle.sizes.specs.Sizes.{sumBelow, wordsOf, inIndex, boundsOk, evenString, typeOk, typeSized, typesSized, varOffset, moduleWords, Sizes}
 use Rattle.sizes.proofs.Sums.{sum-more, sum-up, cap-add, module-small}
 use Rattle.sizes.proofs.Counting.{words-far, words-standard}
 
@@ -92,20 +92,20 @@ var-offset-in T b i l = sum-up (λ n. wordsOf T (varType T (firstVar T b + n))) 
 pub var-in : (T : Table) (b i : ℕ) → i < vars T b → varOffset T b i + wordsOf T (varType T (firstVar T b + i)) ≤ moduleWords T b
 var-in T b i l = let e = var-more T b i in let u = var-offset-in T b (i + 1) (omega arith) in omega arith
 
-module _ (w : ℕ) (t : List ℕ) (h : typesSized (tableOf w t) ≡ true) where
-  pub any-small : (τ : ℕ) → wordsOf (tableOf w t) τ ≤ 200
+module _ (T : Table) (l : List ℕ) (z : Sizes T l) (h : typesSized T ≡ true) where
+  pub any-small : (τ : ℕ) → wordsOf T τ ≤ 200
   any-small τ =
-      cases (ltb τ (3 + typeCount (tableOf w t)))
-      (λ e. words-small (tableOf w t) h τ (ltb-true τ (3 + typeCount (tableOf w t)) e))
-      (λ e. let q = words-far w t τ (ltb-false τ (3 + typeCount (tableOf w t)) e) in omega arith)
+      cases (ltb τ (3 + typeCount T))
+      (λ e. words-small T h τ (ltb-true τ (3 + typeCount T) e))
+      (λ e. let q = words-far T l z τ (ltb-false τ (3 + typeCount T) e) in omega arith)
 
-  pub v-more : (b p i sum x y r : ℕ) → p ≡ firstVar (tableOf w t) b → sum ≡ min (varOffset (tableOf w t) b i) 257
-      → x ≡ varType (tableOf w t) (p + i) → y ≡ min (wordsOf (tableOf w t) x) 201 → r ≡ min (sum + y) 257
-      → r ≡ min (varOffset (tableOf w t) b (i + 1)) 257
+  pub v-more : (b p i sum x y r : ℕ) → p ≡ firstVar T b → sum ≡ min (varOffset T b i) 257
+      → x ≡ varType T (p + i) → y ≡ min (wordsOf T x) 201 → r ≡ min (sum + y) 257
+      → r ≡ min (varOffset T b (i + 1)) 257
   v-more b p i sum x y r hp hs hx hy e =
-      let l = any-small x in
-      rw (var-more (tableOf w t) b i, ← hp, ← hx)
-      (cap-add 257 (varOffset (tableOf w t) b i) sum hs (wordsOf (tableOf w t) x) y r (omega arith) e)
+      let u = any-small x in
+      rw (var-more T b i, ← hp, ← hx)
+      (cap-add 257 (varOffset T b i) sum hs (wordsOf T x) y r (omega arith) e)
 
 module _ (T : Table) (b : ℕ) where
   pub v-none : 0 ≡ min (varOffset T b 0) 257

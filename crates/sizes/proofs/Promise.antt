@@ -9,7 +9,7 @@ use native.Mathlib.Omega.{arith}
 use borrow.Author.Tests.{le-leb, leb-true, eqb-true, ltb-false}
 use Rattle.basics.specs.Choice.{pick, cases}
 use Rattle.basics.proofs.Bools.{all-at, no-true}
-use Rattle.table.specs.Table.{Table, tableOf}
+use Rattle.table.specs.Table.{Table}
 use Rattle.table.specs.Entries.{declared, typeCount, blockCount, typeKind, typeP, typeQ, typeLow, typeHigh, blockKind, vars}
 use Rattle.types.specs.Match.{offset, span, elements, isString}
 use Rattle.sizes.specs.Sizes.{wordsOf, offsetIn, inIndex, boundsOk, evenString, typesSized, varOffset, moduleWords, blockSized, blocksSized, sized, kept, Sizes}
@@ -99,6 +99,6 @@ module _ (T : Table) (h : sized T ≡ true) where
   unfolding kept
   sizes-exact m s τ l = let e = s .holds .is τ l in let u = words-most τ l in omega arith
 
--- and so does what is read from it, for every number
-pub size-exact : (w : ℕ) (t : List ℕ) → sized (tableOf w t) ≡ true → (τ r : ℕ) → r ≡ min (wordsOf (tableOf w t) τ) 201 → r ≡ wordsOf (tableOf w t) τ
-size-exact w t h τ r e = let u = any-small w t (types-pass (tableOf w t) h) τ in omega arith
+  -- and so does what is read from it, for every number
+  pub size-exact : (m : List ℕ) → Sizes T m → (τ r : ℕ) → r ≡ min (wordsOf T τ) 201 → r ≡ wordsOf T τ
+  size-exact m s τ r e = let u = any-small T m s types-pass τ in omega arith

@@ -1,5 +1,6 @@
 -- The words of types and of modules, and refusal 7 (01, The table, Verdicts; report 5.5, 7). Assumes nothing.
 use Prim.Native.Nat.{ℕ, zero, suc, _+_, _*_, _%_, _≤_, min}
+use mathlib.Core.Path.{_≡_}
 use mathlib.Core.Bool.{Bool, true, false}
 use mathlib.Core.List.{List}
 use lib.ListN.{length}
@@ -94,9 +95,12 @@ kept T τ = min (wordsOf T τ) 201
 pub record Known (T : Table) (l : List ℕ) : Type 0 where
   pub holds : Holds (kept T) (length l) l
 
--- an array that has room for the words of all types, the standard ones too; one that holds them
+-- an array that has room for the words of all types, the standard ones too; one that holds them. A number beyond is of no type:
+-- the slots of a decoded table do not say so of themselves, the bytes do
 pub record Room (T : Table) (l : List ℕ) : Type 0 where
   pub room : 3 + typeCount T ≤ length l
+  pub beyond : (τ : ℕ) → 3 + typeCount T ≤ τ → typeKind T τ ≡ 0
 
 pub record Sizes (T : Table) (l : List ℕ) : Type 0 where
   pub holds : Holds (kept T) (3 + typeCount T) l
+  pub beyond : (τ : ℕ) → 3 + typeCount T ≤ τ → typeKind T τ ≡ 0

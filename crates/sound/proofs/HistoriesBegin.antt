@@ -7,7 +7,7 @@ use native.Mathlib.Omega.{arith}
 use lib.Dec.{eqb, ltb}
 use Rattle.basics.specs.Choice.{cases}
 use Rattle.words.specs.Memory.{Bytes}
-use Rattle.table.specs.Bytes.{num, begins, rowSize, fieldAt, fieldWidth}
+use Rattle.table.specs.Bytes.{num, fields, begins, rowSize, fieldAt, fieldWidth}
 use Rattle.table.specs.Table.{Table, countAt, cellAt, tableOf}
 use Rattle.table.specs.Entries.{firstStmt}
 use Rattle.sizes.specs.Sizes.{moduleWords}
@@ -29,8 +29,14 @@ num-word t p w b = cases (eqb w 2) (λ e. rw e (omega (arith, b .small p, b .sma
 pub word-table : (w : ℕ) (t : List ℕ) → Bytes t → WordTable (tableOf w t)
 unfolding tableOf countAt cellAt
 word-table w t b = record {
-  counts = λ k. num-word t (begins w t k) w b;
-  cells = λ k i f. cases (ltb i (countAt w t k)) (λ e. rw e (num-word t (begins w t k + w + i * rowSize w k + fieldAt w k f) (fieldWidth w k f) b)) (λ e. rw e (omega arith));
+  counts = λ k. cases (ltb k 7) (λ e. rw e (num-word t (begins w t k) w b)) (λ e. rw e (omega arith));
+  cells = λ k i f.
+      cases (ltb f (fields k))
+      (λ q.
+      cases (ltb i (countAt w t k))
+      (λ e. rw (q, e) (num-word t (begins w t k + w + i * rowSize w k + fieldAt w k f) (fieldWidth w k f) b))
+      (λ e. rw (q, e) (omega arith)))
+      (λ q. rw q (omega arith));
 }
 
 update-word : (m : Memory) (i v : ℕ) → Small m → v < 65536 → Small (update m i v)

@@ -5,32 +5,31 @@ use mathlib.Core.Bool.{true}
 use mathlib.Core.List.{List}
 use native.Mathlib.Omega.{arith}
 use lib.Dec.{eqb, ltb}
-use lib.ListN.{length, getD, set, replicate, length-set, List·getD-eq-default}
+use lib.ListN.{length, getD, set, replicate, length-set, length-replicate, List·getD-eq-default}
 use lib.Seq.{getD-set-same, getD-set-other}
 use borrow.Author.Tests.{eq-eqb, ne-eqb, eqb-true, eqb-false, ltb-true, ltb-false}
 use Rattle.basics.specs.Choice.{cases}
-use Rattle.basics.proofs.Bools.{zero-test}
-use Rattle.table.specs.Bytes.{whole}
 use Rattle.table.specs.Table.{Table, tableOf}
-use Rattle.table.specs.Reading.{Of, Answers}
-use Rattle.table.specs.declared.Read.{Read}
 use Rattle.table.specs.Entries.{firstStmt, vars}
 use Rattle.words.specs.Memory.{Bytes}
+use Rattle.code.specs.Code.{decoded}
+use Rattle.code.proofs.Blanks.{new-standard}
 use Rattle.sizes.specs.Sizes.{typesSized, varOffset, moduleWords, Room}
+use Rattle.sizes.proofs.Counting.{kind-none}
 use Rattle.sizes.proofs.Promise.{types-pass, module-most, var-exact}
 use Rattle.numbers.proofs.BlockPromise.{program-there, program-kind}
 use Rattle.verdict.specs.Verdict.{verdict}
 use Rattle.verdict.specs.Accepted.{Accepted}
+use Rattle.verdict.specs.Checked.{Checked}
 use Rattle.verdict.proofs.Promise.{promise}
-use Rattle.verdict.proofs.Rooming.{rooms-small}
-use Rattle.machine.specs.Memory.{Memory, update, zeros, memoryOf, bytesOf}
+use Rattle.machine.specs.Memory.{update, zeros, memoryOf, bytesOf}
 use Rattle.machine.specs.Lent.{Lent, Changed}
 use Rattle.machine.specs.Layout.{statusAt, statementAt, frameAt, topAt, worksAt, holderAt, depthAt, createdAt}
 use Rattle.machine.specs.Calls.{standing}
 use Rattle.machine.specs.Run.{begin}
 use Rattle.machine.specs.Public.{begun, beginCall, beginRefusal}
 use Rattle.machine.proofs.Memories.{bytes-memory}
-use Rattle.states.specs.Parts.{Cleared, firstMade}
+use Rattle.states.specs.Parts.{Cleared, firstMade, Small}
 
 -- ---- clearing
 
@@ -111,26 +110,14 @@ begin-bytes T s₁ s₂ s₃ c t hc ht a b d bytes =
 pub lent-bytes : (s : List ℕ) → length s ≡ 35328 → Lent 17664 s
 lent-bytes s e = record { long = e }
 
-pub begin-room : (t : List ℕ) → ((i : ℕ) → getD t i 0 < 256) → (w : ℕ) → w ≡ 1 → Room (tableOf w t) (replicate 258 0)
-begin-room t b w e = rooms-small t b w e .forSizes
+pub begin-room : (T : Table) → Small T → Room T (replicate 258 0)
+begin-room T h = let k = h .types in record { room = rw (length-replicate {A = ℕ} 258 0) (omega arith); beyond = h .beyond }
 
-pub begin-small : (t s : List ℕ) (w : ℕ) → w ≡ 1 → s ≡ bytesOf 17664 (begin (tableOf w t)) → s ≡ bytesOf 17664 (begin (tableOf 1 t))
-begin-small t s w e h = rw e at h
-
--- the sections of a table whose verdict is 0 are whole
-module _ (t : List ℕ) (r : Read) (a : Answers t 1 r) (v : ℕ) (e : v ≡ verdict 1 t) (z : v ≡ 0) where
-  read-found : r .found ≡ true
-  unfolding verdict
-  read-found = a .found ∙ zero-test (whole 1 t) _ 2 (λ q. omega arith) (sym e ∙ z) .0
-
-  pub read-of : Of t (r .sections)
-  read-of = a .sections read-found
-
-  pub read-width : r .sections .w ≡ 1
-  read-width = a .width read-found
-
-  pub read-accepted : Accepted (tableOf (r .sections .w) t)
-  read-accepted = rw read-width (promise 1 t (sym e ∙ z))
+-- the table that a check with verdict 0 leaves
+pub check-small : (t c : List ℕ) (v : ℕ) → ((i : ℕ) → getD t i 0 < 256) → Checked t v c → v ≡ 0 → Small (decoded c)
+check-small t c v bytes h z =
+    let k = new-standard t bytes in
+    rw (h .table z) (record { accepted = promise 1 t (sym (h .is) ∙ z); types = omega arith; beyond = kind-none 1 t })
 
 module _ (t s : List ℕ) where
   pub begun-short : (length s ≡ 35328 → ⊥) → begun 1 s ≡ beginCall (verdict 1) t s
@@ -142,6 +129,6 @@ module _ (t s : List ℕ) where
     unfolding beginCall beginRefusal
     begun-refused n = rw (eq-eqb (length s) 35328 l, ← e, ne-eqb v 0 n)
 
-    pub begun-done : (s₁ : List ℕ) → v ≡ 0 → s₁ ≡ bytesOf 17664 (begin (tableOf 1 t)) → begun 0 s₁ ≡ beginCall (verdict 1) t s
+    pub begun-done : (c s₁ : List ℕ) → v ≡ 0 → decoded c ≡ tableOf 1 t → s₁ ≡ bytesOf 17664 (begin (decoded c)) → begun 0 s₁ ≡ beginCall (verdict 1) t s
     unfolding beginCall beginRefusal
-    begun-done s₁ z h = rw (eq-eqb (length s) 35328 l, ← e, eq-eqb v 0 z, h)
+    begun-done c s₁ z d h = let g = rw d at h in rw (eq-eqb (length s) 35328 l, ← e, eq-eqb v 0 z, g)

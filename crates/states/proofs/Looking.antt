@@ -5,14 +5,13 @@ use mathlib.Core.Bool.{Bool, true, false}
 use mathlib.Core.List.{List}
 use native.Mathlib.Omega.{arith}
 use lib.Dec.{eqb, leb, ltb}
-use lib.ListN.{length, getD}
+use lib.ListN.{length}
 use borrow.Author.Tests.{eq-eqb, ne-eqb, eqb-true, eqb-false, le-leb, lt-leb, leb-true, lt-ltb, le-ltb, ltb-true, ltb-false}
 use Rattle.basics.specs.Choice.{pick, cases, both}
 use Rattle.basics.proofs.Bools.{no-true, both-l, both-r, all-at}
-use Rattle.table.specs.Bytes.{begins}
-use Rattle.table.specs.Table.{Table, tableOf, countAt}
+use Rattle.table.specs.Table.{Table, tableOf}
 use Rattle.table.specs.Entries.{varCount, blockCount, varMode, varType, blockKind, firstVar, params, vars}
-use Rattle.sizes.specs.Sizes.{wordsOf, varOffset}
+use Rattle.sizes.specs.Sizes.{wordsOf, varOffset, Sizes}
 use Rattle.sizes.proofs.Sums.{sum-same}
 use Rattle.sizes.proofs.Judging.{var-in}
 use Rattle.sizes.proofs.Promise.{module-most, var-exact, size-exact}
@@ -116,17 +115,6 @@ module _ (T : Table) (b v : ℕ) (h : belongs T b v ≡ true) where
 
 -- ---- where it begins
 
-count-fits : (w : ℕ) (t : List ℕ) (k : ℕ) → ((i : ℕ) → getD t i 0 < 256) → tableOf w t .count k < 65536
-unfolding tableOf countAt
-count-fits w t k b =
-    let p = begins w t k in
-    cases (eqb w 2)
-    (λ e. rw e (omega (arith, b p, b (p + 1))))
-    (λ e. rw e (omega (arith, b p)))
-
-pub index-fits : (w : ℕ) (t : List ℕ) (b v a : ℕ) → belongs (tableOf w t) b v ≡ true → ((i : ℕ) → getD t i 0 < 256) → v - a < 65536
-index-fits w t b v a h bytes = omega (arith, count-fits w t 2 bytes, belongs-there (tableOf w t) b v h)
-
 module _ (T : Table) (ok : Accepted T) (b : ℕ) (l : b < blockCount T) (k : blockKind T b ≤ 1) where
   -- a program or module has no var parameter
   no-var : (i : ℕ) → i < vars T b → varMode T (firstVar T b + i) ≡ 2 → ⊥
@@ -206,21 +194,21 @@ shown-record T m p h c e z =
     let y = created-most T m h in
     (x .0, (omega (arith, x .1), omega arith))
 
-module _ (w : ℕ) (t : List ℕ) (ok : Accepted (tableOf w t)) (m : Memory) (p v k : ℕ) (c : Bool) (ec : c ≡ shown m p) where
-  pub visible-hidden : c ≡ false → false ≡ visible (tableOf w t) m p v k
-  visible-hidden z = rw (visible-is (tableOf w t) m p v k, ← ec, z)
+module _ (T : Table) (m : Memory) (p v k : ℕ) (c : Bool) (ec : c ≡ shown m p) where
+  pub visible-hidden : c ≡ false → false ≡ visible T m p v k
+  visible-hidden z = rw (visible-is T m p v k, ← ec, z)
 
-  module _ (z : c ≡ true) (a b : ℕ) (ea : a ≡ m (moduleAt p)) (eb : b ≡ a) (d : Bool) (ed : d ≡ belongs (tableOf w t) b v) where
+  module _ (z : c ≡ true) (a b : ℕ) (ea : a ≡ m (moduleAt p)) (eb : b ≡ a) (d : Bool) (ed : d ≡ belongs T b v) where
     module-is : m (moduleAt p) ≡ b
     module-is = sym ea ∙ sym eb
 
-    pub visible-other : d ≡ false → false ≡ visible (tableOf w t) m p v k
-    visible-other y = rw (visible-is (tableOf w t) m p v k, ← ec, z, module-is, ← ed, y)
+    pub visible-other : d ≡ false → false ≡ visible T m p v k
+    visible-other y = rw (visible-is T m p v k, ← ec, z, module-is, ← ed, y)
 
-    pub visible-place : d ≡ true → (x r : ℕ) → x ≡ varType (tableOf w t) v → r ≡ min (wordsOf (tableOf w t) x) 201 → ltb k r ≡ visible (tableOf w t) m p v k
-    visible-place y x r ex er =
-        let q : r ≡ wordsOf (tableOf w t) (varType (tableOf w t) v) = size-exact w t (ok .sizes) (varType (tableOf w t) v) r (rw ex at er) in
-        rw (visible-is (tableOf w t) m p v k, ← ec, z, module-is, ← ed, y, ← q)
+    pub visible-place : Accepted T → (u : List ℕ) → Sizes T u → d ≡ true → (x r : ℕ) → x ≡ varType T v → r ≡ min (wordsOf T x) 201 → ltb k r ≡ visible T m p v k
+    visible-place ok u s y x r ex er =
+        let q : r ≡ wordsOf T (varType T v) = size-exact T (ok .sizes) u s (varType T v) r (rw ex at er) in
+        rw (visible-is T m p v k, ← ec, z, module-is, ← ed, y, ← q)
 
 -- ---- the word
 

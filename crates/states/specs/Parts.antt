@@ -1,5 +1,5 @@
 -- Parts of the definitions of `machine`, as the code makes or tests them one at a time. Assumes nothing.
-use Prim.Native.Nat.{ℕ, _≤_, _<_}
+use Prim.Native.Nat.{ℕ, _+_, _≤_, _<_}
 use mathlib.Core.Path.{_≡_}
 use mathlib.Core.Bool.{Bool, false}
 use mathlib.Core.List.{List}
@@ -7,6 +7,8 @@ use lib.Dec.{leb}
 use lib.ListN.{length, getD}
 use Rattle.basics.specs.Choice.{pick}
 use Rattle.table.specs.Table.{Table}
+use Rattle.table.specs.Entries.{typeCount, typeKind}
+use Rattle.verdict.specs.Accepted.{Accepted}
 use Rattle.machine.specs.Memory.{Memory, update}
 use Rattle.machine.specs.Layout.{statusAt, holderAt, createdAt}
 use Rattle.machine.specs.Rule.{rule}
@@ -34,3 +36,9 @@ shown m p =
 -- a look at a state, where the table is accepted: 10 where the state breaks its rule
 unfoldable pub lookJudged : Table → Memory → ℕ → ℕ → ℕ → ℕ
 lookJudged T m p v k = pick (rule T m) (look T m p v k) 10
+
+-- an accepted table of the small edition: its types fit the array of their words, and a number beyond is of no type
+pub record Small (T : Table) : Type 0 where
+  pub accepted : Accepted T
+  pub types : typeCount T < 256
+  pub beyond : (τ : ℕ) → 3 + typeCount T ≤ τ → typeKind T τ ≡ 0

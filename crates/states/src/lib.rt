@@ -2,9 +2,8 @@
 ghost use mathlib.Core.Path.{_≡_};
 ghost use mathlib.Core.Bool.{true};
 ghost use Prim.Native.Nat.{_≤_, _<_, _+_};
-ghost use Rattle.table.specs.Table.{tableOf};
-ghost use Rattle.table.specs.Reading.{Of};
 ghost use Rattle.table.specs.Entries.{blockCount, blockKind};
+ghost use Rattle.code.specs.Code.{decoded};
 ghost use Rattle.sizes.specs.Sizes.{Sizes, moduleWords};
 ghost use Rattle.verdict.specs.Verdict.{verdict};
 ghost use Rattle.verdict.specs.Accepted.{Accepted};
@@ -16,7 +15,7 @@ ghost use Rattle.machine.specs.Variables.{offsetOf, belongs};
 ghost use Rattle.machine.specs.Run as runs;
 ghost use Rattle.machine.specs.Rule.{rule};
 ghost use Rattle.machine.specs.Public.{visible, look, begun, beginCall};
-ghost use Rattle.states.specs.Parts.{firstMade, shown, lookJudged};
+ghost use Rattle.states.specs.Parts.{firstMade, shown, lookJudged, Small};
 
 fn wide(x: u16) -> usize
     ensures { λ r. ⌜ r ≡ x ⌝ }
@@ -67,25 +66,23 @@ fn stand_first(state: &mut [u8], statement: u16, top: u16)
 }
 
 // The words of the program's variables.
-fn program_words(t: &[u8], s: table::Sections, sizes: &[u16]) -> usize
-    requires { ⌜ Of (now t) s ⌝ }
-    requires { ⌜ Sizes (tableOf (s .w) (now t)) (now sizes) ⌝ }
-    requires { ⌜ Accepted (tableOf (s .w) (now t)) ⌝ }
-    ensures { λ r. ⌜ (r ≡ moduleWords (tableOf (s .w) (now (t .entry))) 0) × (r < 65536) ⌝ }
+fn program_words(c: &code::Slots, sizes: &[u16]) -> usize
+    requires { ⌜ Sizes (decoded (now c)) (now sizes) ⌝ }
+    requires { ⌜ Accepted (decoded (now c)) ⌝ }
+    ensures { λ r. ⌜ (r ≡ moduleWords (decoded (now (c .entry))) 0) × (r < 65536) ⌝ }
 {
-    sizes::var_offset(t, s, sizes, 0, table::block_vars(t, s, 0))
+    sizes::var_offset(c, sizes, 0, code::block_vars(c, 0))
 }
 
 // Makes the lent bytes the state in which a run begins, whatever stood there.
-pub fn begin_state(t: &[u8], s: table::Sections, sizes: &[u16], state: &mut [u8])
-    requires { ⌜ Of (now t) s ⌝ }
-    requires { ⌜ Sizes (tableOf (s .w) (now t)) (now sizes) ⌝ }
-    requires { ⌜ Accepted (tableOf (s .w) (now t)) ⌝ }
+pub fn begin_state(c: &code::Slots, sizes: &[u16], state: &mut [u8])
+    requires { ⌜ Sizes (decoded (now c)) (now sizes) ⌝ }
+    requires { ⌜ Accepted (decoded (now c)) ⌝ }
     requires { ⌜ Lent 17664 (now state) ⌝ }
-    ensures { λ _. ⌜ now (state .exit) ≡ bytesOf 17664 (runs.begin (tableOf (s .w) (now (t .entry)))) ⌝ }
+    ensures { λ _. ⌜ now (state .exit) ≡ bytesOf 17664 (runs.begin (decoded (now (c .entry)))) ⌝ }
 {
-    let statement = narrow(table::first_stmt(t, s, 0));
-    let top = narrow(program_words(t, s, sizes));
+    let statement = narrow(code::first_stmt(c, 0));
+    let top = narrow(program_words(c, sizes));
     clear_all(state);
     make_first(state);
     stand_first(state, statement, top);
@@ -110,15 +107,14 @@ fn is_shown(state: &[u8], p: usize) -> bool
     false
 }
 
-// v is a variable of block b.
-fn belongs_to(t: &[u8], s: table::Sections, b: usize, v: usize) -> bool
-    requires { ⌜ Of (now t) s ⌝ }
-    ensures { λ r. ⌜ r ≡ belongs (tableOf (s .w) (now (t .entry))) b v ⌝ }
+// v is a variable of block b; how many variables there are is a word.
+fn belongs_to(c: &code::Slots, b: usize, v: usize) -> bool
+    ensures { λ r. ⌜ (r ≡ belongs (decoded (now (c .entry))) b v) × (r ≡ true → v < 65536) ⌝ }
 {
-    if v < table::variables(t, s) {
-        let first = table::first_var(t, s, b);
+    if v < code::variables(c) {
+        let first = code::first_var(c, b);
         if first <= v {
-            return v < first + table::block_vars(t, s, b);
+            return v < first + code::block_vars(c, b);
         }
         return false;
     }
@@ -126,26 +122,17 @@ fn belongs_to(t: &[u8], s: table::Sections, b: usize, v: usize) -> bool
 }
 
 // Process p, variable v and place k name a word of a process's module variables.
-fn is_visible(
-    t: &[u8],
-    s: table::Sections,
-    sizes: &[u16],
-    state: &[u8],
-    p: usize,
-    v: usize,
-    k: usize,
-) -> bool
-    requires { ⌜ Of (now t) s ⌝ }
-    requires { ⌜ Sizes (tableOf (s .w) (now t)) (now sizes) ⌝ }
-    requires { ⌜ Accepted (tableOf (s .w) (now t)) ⌝ }
+fn is_visible(c: &code::Slots, sizes: &[u16], state: &[u8], p: usize, v: usize, k: usize) -> bool
+    requires { ⌜ Sizes (decoded (now c)) (now sizes) ⌝ }
+    requires { ⌜ Accepted (decoded (now c)) ⌝ }
     requires { ⌜ Lent 17664 (now state) ⌝ }
-    requires { ⌜ rule (tableOf (s .w) (now t)) (memoryOf (now state)) ≡ true ⌝ }
-    ensures { λ r. ⌜ r ≡ visible (tableOf (s .w) (now (t .entry))) (memoryOf (now (state .entry))) p v k ⌝ }
+    requires { ⌜ rule (decoded (now c)) (memoryOf (now state)) ≡ true ⌝ }
+    ensures { λ r. ⌜ (r ≡ visible (decoded (now (c .entry))) (memoryOf (now (state .entry))) p v k) × (r ≡ true → v < 65536) ⌝ }
 {
     if is_shown(state, p) {
         let b = wide(machine::record_word(state, p, 1));
-        if belongs_to(t, s, b, v) {
-            return k < sizes::size_of(t, s, sizes, table::var_type(t, s, v));
+        if belongs_to(c, b, v) {
+            return k < sizes::size_of(c, sizes, code::var_type(c, v));
         }
         return false;
     }
@@ -153,71 +140,60 @@ fn is_visible(
 }
 
 // Where the variable v of the module or program b begins.
-fn variable_offset(t: &[u8], s: table::Sections, sizes: &[u16], b: usize, v: usize) -> usize
-    requires { ⌜ Of (now t) s ⌝ }
-    requires { ⌜ Sizes (tableOf (s .w) (now t)) (now sizes) ⌝ }
-    requires { ⌜ Accepted (tableOf (s .w) (now t)) ⌝ }
-    requires { ⌜ (b < blockCount (tableOf (s .w) (now t))) × (blockKind (tableOf (s .w) (now t)) b ≤ 1) ⌝ }
-    requires { ⌜ belongs (tableOf (s .w) (now t)) b v ≡ true ⌝ }
-    ensures { λ r. ⌜ r ≡ offsetOf (tableOf (s .w) (now (t .entry))) b v ⌝ }
+fn variable_offset(c: &code::Slots, sizes: &[u16], b: usize, v: usize) -> usize
+    requires { ⌜ Sizes (decoded (now c)) (now sizes) ⌝ }
+    requires { ⌜ Accepted (decoded (now c)) ⌝ }
+    requires { ⌜ (b < blockCount (decoded (now c))) × (blockKind (decoded (now c)) b ≤ 1) ⌝ }
+    requires { ⌜ belongs (decoded (now c)) b v ≡ true ⌝ }
+    requires { ⌜ v < 65536 ⌝ }
+    ensures { λ r. ⌜ r ≡ offsetOf (decoded (now (c .entry))) b v ⌝ }
 {
-    let first = table::first_var(t, s, b);
-    sizes::var_offset(t, s, sizes, b, v - first)
+    let first = code::first_var(c, b);
+    sizes::var_offset(c, sizes, b, v - first)
 }
 
 // The word that process p, variable v and place k name.
-fn visible_word(
-    t: &[u8],
-    s: table::Sections,
-    sizes: &[u16],
-    state: &[u8],
-    p: usize,
-    v: usize,
-    k: usize,
-) -> u16
-    requires { ⌜ Of (now t) s ⌝ }
-    requires { ⌜ Sizes (tableOf (s .w) (now t)) (now sizes) ⌝ }
-    requires { ⌜ Accepted (tableOf (s .w) (now t)) ⌝ }
+fn visible_word(c: &code::Slots, sizes: &[u16], state: &[u8], p: usize, v: usize, k: usize) -> u16
+    requires { ⌜ Sizes (decoded (now c)) (now sizes) ⌝ }
+    requires { ⌜ Accepted (decoded (now c)) ⌝ }
     requires { ⌜ Lent 17664 (now state) ⌝ }
-    requires { ⌜ rule (tableOf (s .w) (now t)) (memoryOf (now state)) ≡ true ⌝ }
-    requires { ⌜ visible (tableOf (s .w) (now t)) (memoryOf (now state)) p v k ≡ true ⌝ }
-    ensures { λ r. ⌜ r ≡ memoryOf (now (state .entry)) (location p (offsetOf (tableOf (s .w) (now (t .entry))) (memoryOf (now (state .entry)) (moduleAt p)) v + k)) ⌝ }
+    requires { ⌜ rule (decoded (now c)) (memoryOf (now state)) ≡ true ⌝ }
+    requires { ⌜ visible (decoded (now c)) (memoryOf (now state)) p v k ≡ true ⌝ }
+    requires { ⌜ v < 65536 ⌝ }
+    ensures { λ r. ⌜ r ≡ memoryOf (now (state .entry)) (location p (offsetOf (decoded (now (c .entry))) (memoryOf (now (state .entry)) (moduleAt p)) v + k)) ⌝ }
 {
     let b = wide(machine::record_word(state, p, 1));
-    let at = variable_offset(t, s, sizes, b, v);
+    let at = variable_offset(c, sizes, b, v);
     machine::area_word(state, p, at + k)
 }
 
 // 65,536 and the word that process, variable and place name; 11 where they name none.
 pub fn look_word(
-    t: &[u8],
-    s: table::Sections,
+    c: &code::Slots,
     sizes: &[u16],
     state: &[u8],
     process: u32,
     variable: u32,
     place: u32,
 ) -> u32
-    requires { ⌜ Of (now t) s ⌝ }
-    requires { ⌜ Sizes (tableOf (s .w) (now t)) (now sizes) ⌝ }
-    requires { ⌜ Accepted (tableOf (s .w) (now t)) ⌝ }
+    requires { ⌜ Sizes (decoded (now c)) (now sizes) ⌝ }
+    requires { ⌜ Accepted (decoded (now c)) ⌝ }
     requires { ⌜ Lent 17664 (now state) ⌝ }
-    requires { ⌜ rule (tableOf (s .w) (now t)) (memoryOf (now state)) ≡ true ⌝ }
-    ensures { λ r. ⌜ r ≡ look (tableOf (s .w) (now (t .entry))) (memoryOf (now (state .entry))) process variable place ⌝ }
+    requires { ⌜ rule (decoded (now c)) (memoryOf (now state)) ≡ true ⌝ }
+    ensures { λ r. ⌜ r ≡ look (decoded (now (c .entry))) (memoryOf (now (state .entry))) process variable place ⌝ }
 {
     let p = process as usize;
     let v = variable as usize;
     let k = place as usize;
-    if is_visible(t, s, sizes, state, p, v, k) {
-        return 65536 + visible_word(t, s, sizes, state, p, v, k) as u32;
+    if is_visible(c, sizes, state, p, v, k) {
+        return 65536 + visible_word(c, sizes, state, p, v, k) as u32;
     }
     11
 }
 
 // The same of any state, where it is known whether it meets its rule: 10 where it does not.
 pub fn look_judged(
-    t: &[u8],
-    s: table::Sections,
+    c: &code::Slots,
     sizes: &[u16],
     state: &[u8],
     ruled: bool,
@@ -225,30 +201,27 @@ pub fn look_judged(
     variable: u32,
     place: u32,
 ) -> u32
-    requires { ⌜ Of (now t) s ⌝ }
-    requires { ⌜ Sizes (tableOf (s .w) (now t)) (now sizes) ⌝ }
-    requires { ⌜ Accepted (tableOf (s .w) (now t)) ⌝ }
+    requires { ⌜ Sizes (decoded (now c)) (now sizes) ⌝ }
+    requires { ⌜ Accepted (decoded (now c)) ⌝ }
     requires { ⌜ Lent 17664 (now state) ⌝ }
-    requires { ⌜ ruled ≡ rule (tableOf (s .w) (now t)) (memoryOf (now state)) ⌝ }
-    ensures { λ r. ⌜ r ≡ lookJudged (tableOf (s .w) (now (t .entry))) (memoryOf (now (state .entry))) process variable place ⌝ }
+    requires { ⌜ ruled ≡ rule (decoded (now c)) (memoryOf (now state)) ⌝ }
+    ensures { λ r. ⌜ r ≡ lookJudged (decoded (now (c .entry))) (memoryOf (now (state .entry))) process variable place ⌝ }
 {
     if ruled {
-        return look_word(t, s, sizes, state, process, variable, place);
+        return look_word(c, sizes, state, process, variable, place);
     }
     10
 }
 
 // Begins a run of an accepted table: the array of the words of types is that of the small edition.
-fn begin_accepted(t: &[u8], s: table::Sections, state: &mut [u8])
-    requires { ⌜ Of (now t) s ⌝ }
-    requires { ⌜ s .w ≡ 1 ⌝ }
-    requires { ⌜ Accepted (tableOf (s .w) (now t)) ⌝ }
+fn begin_accepted(c: &code::Slots, state: &mut [u8])
+    requires { ⌜ Small (decoded (now c)) ⌝ }
     requires { ⌜ Lent 17664 (now state) ⌝ }
-    ensures { λ _. ⌜ now (state .exit) ≡ bytesOf 17664 (runs.begin (tableOf 1 (now (t .entry)))) ⌝ }
+    ensures { λ _. ⌜ now (state .exit) ≡ bytesOf 17664 (runs.begin (decoded (now (c .entry)))) ⌝ }
 {
     let mut sizes = [0u16; 258];
-    sizes::find_sizes(t, s, &mut sizes[..]);
-    begin_state(t, s, &sizes[..], state);
+    sizes::find_sizes(c, &mut sizes[..]);
+    begin_state(c, &sizes[..], state);
 }
 
 // Makes the lent state that in which a run of the table begins, or refuses.
@@ -256,10 +229,10 @@ pub fn begin(table: &[u8], state: &mut [u8]) -> u32
     ensures { λ r. ⌜ begun r (now (state .exit)) ≡ beginCall (verdict 1) (now (table .entry)) (now (state .entry)) ⌝ }
 {
     if state.len() == 35328 {
-        let v = verdict::check(table);
+        let mut c = [0u16; 8256];
+        let v = verdict::check_into(table, &mut c);
         if v == 0 {
-            let r = table::read_sections(table, 1);
-            begin_accepted(table, r.sections, state);
+            begin_accepted(&c, state);
             return 0;
         }
         return v;

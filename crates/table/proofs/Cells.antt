@@ -1,92 +1,62 @@
 -- Rows and fields. Assumes nothing.
-use Prim.Native.Nat.{ℕ, zero, suc, _+_, _-_, _*_, _≤_, _<_, _^_}
-use mathlib.Core.Path.{_≡_, refl, sym, ap, _∙_}
+use Prim.Native.Nat.{ℕ, suc, _+_, _-_, _*_, _≤_, _<_}
+use mathlib.Core.Path.{_≡_, refl, sym}
 use mathlib.Core.List.{List}
 use lib.ListN.{length, getD}
 use lib.Dec.{ltb}
-use borrow.Author.Tests.{lt-ltb, le-ltb}
+use borrow.Author.Tests.{lt-ltb, le-ltb, ltb-true, ltb-false}
 use native.Mathlib.Nat.{suc-mul, mul-le-mul-right}
 use native.Mathlib.Omega.{arith}
-use mir.Val.{Fits}
-use mir.Syntax.{w64}
-use Rattle.basics.specs.Choice.{pick}
+use Rattle.basics.specs.Choice.{cases}
 use Rattle.table.specs.Bytes.{num, shorts, fields, rowSize, fieldAt, fieldWidth, begins}
 use Rattle.table.specs.Table.{Table, countAt, cellAt, tableOf}
 use Rattle.table.specs.Entries.{declared}
-use Rattle.table.specs.Reading.{Of, Field, RowAt}
+use Rattle.table.specs.Reading.{Of, Field}
 use Rattle.table.specs.declared.Sections.{Sections}
 use Rattle.table.proofs.Shapes.{short-at, short-width, short-in, word-at, word-width, word-in}
-
--- row i of section k, whose rows have z bytes
-module _ (t : List ℕ) (s : Sections) (o : Of t s) (k i z : ℕ) (hk : k < 7) (hz : z ≡ rowSize (s .w) k) (l : i < getD (s .counts) k 0) where
-  row-room : getD (s .starts) k 0 + i * z + z ≤ length t
-  row-room =
-      let h : getD (s .starts) k 0 + getD (s .counts) k 0 * z ≤ length t = rw hz (o .section k hk .room) in
-      let m : suc i * z ≤ getD (s .counts) k 0 * z = mul-le-mul-right z l in
-      let e : suc i * z ≡ i * z + z = suc-mul i z in
-      omega arith
-
-  pub row-at : RowAt t (getD (s .starts) k 0) i (rowSize (s .w) k) (getD (s .starts) k 0 + i * z)
-  row-at = rw (← hz) (record { is = refl; room = row-room })
-
-  pub row-mul : length t < 2 ^ 64 → Fits w64 (i * z)
-  row-mul f = let m = row-room in record { fits = omega arith }
-
-  pub row-add : length t < 2 ^ 64 → Fits w64 (getD (s .starts) k 0 + i * z)
-  row-add f = let m = row-room in record { fits = omega arith }
 
 -- the count of section k
 pub count-is : (t : List ℕ) (s : Sections) (o : Of t s) (k : ℕ) → k < 7 → Field (tableOf (s .w) t .count k) (getD (s .counts) k 0)
 unfolding tableOf
 count-is t s o k h = record { is = o .section k h .count; small = o .section k h .small }
 
--- field f of row i of section k
-module _ (t : List ℕ) (s : Sections) (o : Of t s) (k i f : ℕ) (hk : k < 7) where
-  pub cell-none : getD (s .counts) k 0 ≤ i → Field (tableOf (s .w) t .cell k i f) 0
-  unfolding tableOf cellAt
-  cell-none h = record { is = rw (← o .section k hk .count, le-ltb i (getD (s .counts) k 0) h); small = omega arith }
+-- field f of section k, of a row that the section has
+field-in : (w k f : ℕ) → f < fields k → fieldAt w k f + fieldWidth w k f ≤ rowSize w k
+field-in w k f hf =
+    cases (ltb f (shorts k))
+    (λ e. let h = ltb-true f (shorts k) e in rw (short-at w k f (shorts k) refl h, short-width w k f (shorts k) refl h) (short-in w k f (shorts k) refl h))
+    (λ e. let h = ltb-false f (shorts k) e in rw (word-at w k f (shorts k) refl h, word-width w k f (shorts k) refl h) (word-in w k f (shorts k) refl h hf))
 
-  module _ (l : i < getD (s .counts) k 0) (row n : ℕ) (hr : RowAt t (getD (s .starts) k 0) i (rowSize (s .w) k) row) (hn : n ≡ shorts k) where
-    -- where row i begins, by the definition
-    begun : begins (s .w) t k + s .w + i * rowSize (s .w) k ≡ row
-    begun = rw (← o .section k hk .start) (sym (hr .is))
+pub field-some : (w k f : ℕ) → 1 ≤ w → 1 ≤ fieldWidth w k f
+unfolding fieldWidth
+field-some w k f h = cases (ltb f (shorts k)) (λ e. rw e h) (λ e. rw e (omega arith))
 
-    pub cell-short : (r : ℕ) → f < n → Field (num t (row + f * s .w) (s .w)) r → Field (tableOf (s .w) t .cell k i f) r
+module _ (t : List ℕ) (s : Sections) (o : Of t s) (k n z : ℕ) (hk : k < 7) (hn : Field (tableOf (s .w) t .count k) n) (hz : z ≡ rowSize (s .w) k) (i : ℕ) (h : i < n) where
+  l : i < getD (s .counts) k 0
+  unfolding tableOf
+  l = omega (arith, hn .is, o .section k hk .count)
+
+  pub row-room : getD (s .starts) k 0 + (i + 1) * z ≤ length t
+  row-room =
+      let r : getD (s .starts) k 0 + getD (s .counts) k 0 * z ≤ length t = rw hz (o .section k hk .room) in
+      let q : suc i ≡ i + 1 = omega arith in
+      let m : (i + 1) * z ≤ getD (s .counts) k 0 * z = rw (← q) (mul-le-mul-right z l) in
+      omega arith
+
+  -- field f, as it is reckoned
+  module _ (f a d : ℕ) (hf : f < fields k) (ha : a ≡ fieldAt (s .w) k f) (hd : d ≡ fieldWidth (s .w) k f) where
+    pub cell-room : getD (s .starts) k 0 + i * z + a + d ≤ length t
+    cell-room =
+        let m = field-in (s .w) k f hf in
+        let q : suc i ≡ i + 1 = omega arith in
+        let e : (i + 1) * z ≡ i * z + z = rw (← q) (suc-mul i z) in
+        omega (arith, row-room)
+
+    pub cell-here : num t (getD (s .starts) k 0 + i * z + a) d ≡ tableOf (s .w) t .cell k i f
     unfolding tableOf cellAt
-    cell-short r h x = rw (← o .section k hk .count, lt-ltb i (getD (s .counts) k 0) l, begun, short-at (s .w) k f n hn h, short-width (s .w) k f n hn h) x
-
-    pub short-room : f < n → row + f * s .w + s .w ≤ length t
-    short-room h = let m = short-in (s .w) k f n hn h in let q = hr .room in omega arith
-
-    pub cell-word : (r : ℕ) → n ≤ f → Field (num t (row + n * s .w + (f - n) * 2) 2) r → Field (tableOf (s .w) t .cell k i f) r
-    unfolding tableOf cellAt
-    cell-word r h x =
-        let e : row + (n * s .w + (f - n) * 2) ≡ row + n * s .w + (f - n) * 2 = omega arith in
-        rw (← o .section k hk .count, lt-ltb i (getD (s .counts) k 0) l, begun, word-at (s .w) k f n hn h, word-width (s .w) k f n hn h, e) x
-
-    pub word-room : n ≤ f → f < fields k → row + n * s .w + (f - n) * 2 + 2 ≤ length t
-    word-room h g = let m = word-in (s .w) k f n hn h g in let q = hr .room in omega arith
-
-    -- no sum on the way wraps
-    module _ (fits : length t < 2 ^ 64) where
-      pub short-mul : f < n → Fits w64 (f * s .w)
-      short-mul h = let m = short-room h in record { fits = omega arith }
-
-      pub short-add : f < n → Fits w64 (row + f * s .w)
-      short-add h = let m = short-room h in record { fits = omega arith }
-
-      module _ (h : n ≤ f) (g : f < fields k) where
-        pub word-mul : Fits w64 (n * s .w)
-        word-mul = let m = word-room h g in record { fits = omega arith }
-
-        pub word-add : Fits w64 (row + n * s .w)
-        word-add = let m = word-room h g in record { fits = omega arith }
-
-        pub word-more : Fits w64 ((f - n) * 2)
-        word-more = let m = word-room h g in record { fits = omega arith }
-
-        pub word-end : Fits w64 (row + n * s .w + (f - n) * 2)
-        word-end = let m = word-room h g in record { fits = omega arith }
+    cell-here =
+        let e : begins (s .w) t k + s .w ≡ getD (s .starts) k 0 = sym (o .section k hk .start) in
+        rw (lt-ltb f (fields k) hf, ← o .section k hk .count, lt-ltb i (getD (s .counts) k 0) l, e, ← hz, ← ha, ← hd)
 
 -- a declared type's field
 module _ (T : Table) (x f : ℕ) where

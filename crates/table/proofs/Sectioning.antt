@@ -6,7 +6,7 @@ use mathlib.Core.Bool.{Bool, true, false}
 use lib.ListN.{length, getD, take, drop, length-drop, set, length-set}
 use lib.Seq.{getD-drop, getD-set-same, getD-set-other}
 use lib.Dec.{leb, eqb}
-use borrow.Author.Tests.{le-leb, lt-leb, leb-true, leb-false, eqb-true, eqb-false}
+use borrow.Author.Tests.{lt-ltb, le-leb, lt-leb, leb-true, leb-false, eqb-true, eqb-false}
 use borrow.Rule.Slice.PartAt.{part-to-end}
 use native.Mathlib.Nat.{add-zero}
 use native.Mathlib.Omega.{arith}
@@ -110,7 +110,7 @@ module _ (t : List ℕ) (w : ℕ) where
           let y = fits-room t p w k (x .0) in
           let z : n * rowSize w k ≡ num t p w * rowSize w k = rw (x .1) in
           record {
-            count = rw (← o .chain .is) (x .1);
+            count = rw (lt-ltb k 7 l, ← o .chain .is) (x .1);
             start = rw (← o .chain .is);
             room = omega arith;
             small = rw (x .1) (num-small t p w b);

@@ -79,3 +79,21 @@ module _ (w k f n : ℕ) (hn : n ≡ shorts k) where
     pub word-in : f < fields k → n * w + (f - n) * 2 + 2 ≤ rowSize w k
     unfolding rowSize
     word-in l = let m : f < n + words k = rw (hn, ← fields-is k) l in rw (← hn) (omega arith)
+
+-- where field f begins, as it is reckoned
+module _ (w k f n : ℕ) (hn : n ≡ shorts k) (hs : n ≤ 6) (hw : w ≤ 2) where
+  pub at-short : f < n → (f * w ≡ fieldAt w k f) × (f * w ≤ 16)
+  at-short h = (sym (short-at w k f n hn h), omega (arith, product f w (omega arith) hw))
+
+  module _ (h : n ≤ f) (l : f < fields k) where
+    pub words-left : f - n ≤ 2
+    words-left = omega (arith, fields-is k, words-small k)
+
+    pub at-word : (n * w + (f - n) * 2 ≡ fieldAt w k f) × (n * w + (f - n) * 2 ≤ 16)
+    at-word = (sym (word-at w k f n hn h), omega (arith, product n w hs hw, words-left))
+
+pub width-short : (w k f n : ℕ) → n ≡ shorts k → f < n → w ≡ fieldWidth w k f
+width-short w k f n hn h = sym (short-width w k f n hn h)
+
+pub width-word : (w k f n : ℕ) → n ≡ shorts k → n ≤ f → 2 ≡ fieldWidth w k f
+width-word w k f n hn h = sym (word-width w k f n hn h)

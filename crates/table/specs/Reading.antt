@@ -49,8 +49,3 @@ pub record Answers (t : List ℕ) (w : ℕ) (r : Read) : Type 0 where
 pub record Field (v r : ℕ) : Type 0 where
   pub is : r ≡ v
   pub small : r < 65536
-
--- r is where row i begins, of rows of z bytes from a on
-pub record RowAt (t : List ℕ) (a i z r : ℕ) : Type 0 where
-  pub is : r ≡ a + i * z
-  pub room : r + z ≤ length t

@@ -5,7 +5,6 @@ use mathlib.Core.List.{List}
 use native.Mathlib.Omega.{arith}
 use borrow.Author.Tests.{eq-eqb, ne-eqb}
 use Rattle.table.specs.Entries.{typeP, stmtKind, stmtA}
-use Rattle.table.specs.declared.Sections.{Sections}
 use Rattle.types.specs.Types.{typeOf}
 use Rattle.numbers.proofs.OperandPromise.{create-variable}
 use Rattle.words.specs.Outcomes.{failureNumber}
@@ -18,13 +17,15 @@ use Rattle.machine.specs.Entries.{stmtAt}
 use Rattle.machine.specs.Processes.{created}
 use Rattle.machine.specs.Statements.{goOn, goTo, doCreate, perform}
 use Rattle.machine.specs.Step.{settled}
+use Rattle.code.specs.Code.{slotIn, decoded}
 use Rattle.operands.specs.declared.Context.{Context}
 use Rattle.operands.specs.declared.Place.{Place}
 use Rattle.operands.specs.declared.Place.the-variants as place
 use Rattle.operands.specs.Answers.{selected}
 use Rattle.operands.specs.Ready.{contextIn}
+use Rattle.operands.proofs.Lending.{lends-type}
 use Rattle.operands.proofs.Typed.{typed-variable}
-use Rattle.operands.proofs.Selecting.{tab, out, Sel, fits-low}
+use Rattle.operands.proofs.Selecting.{out, Sel, fits-low}
 use Rattle.effects.specs.Effects.{carried, Stepped, Standing}
 use Rattle.effects.proofs.Carrying.{performs-create}
 use Rattle.transfers.specs.Creations.{creates, Creating}
@@ -52,68 +53,71 @@ module _ (s d : List ℕ) (x : Context) (i μ n : ℕ) (l : Lent 4096 d) (hn : n
 
 -- ---- the laws of `create`
 
-module _ (t : List ℕ) (s : Sections) (y z o f m p : List ℕ) (x : Context) (h : Standing t s y z o f m p x) (hk : stmtKind (tab t s) (x .statement) ≡ 4) where
-  does : perform (tab t s) (memoryOf m) (memoryOf p) (contextIn x) (stmtAt (tab t s) (x .statement))
-      ≡ doCreate (tab t s) (memoryOf m) (memoryOf p) (contextIn x) (stmtA (tab t s) (x .statement))
+module _ (t m p : List ℕ) (x : Context) (h : Standing t m p x) (hk : stmtKind (decoded t) (x .statement) ≡ 4) where
+  does : perform (decoded t) (memoryOf m) (memoryOf p) (contextIn x) (stmtAt (decoded t) (x .statement))
+      ≡ doCreate (decoded t) (memoryOf m) (memoryOf p) (contextIn x) (stmtA (decoded t) (x .statement))
   unfolding contextIn
-  does = performs-create (tab t s) (memoryOf m) (memoryOf p) (contextIn x) (h .unstuck) hk
+  does = performs-create (decoded t) (memoryOf m) (memoryOf p) (contextIn x) (h .unstuck) hk
 
-  is-selected : Selected (tab t s) (typeOf (tab t s) (stmtA (tab t s) (x .statement))) (out t s m p x (stmtA (tab t s) (x .statement)))
+  is-selected : Selected (decoded t) (typeOf (decoded t) (stmtA (decoded t) (x .statement))) (out t m p x (stmtA (decoded t) (x .statement)))
   unfolding doCreate
   is-selected =
-      process-selected (tab t s) (typeOf (tab t s) (stmtA (tab t s) (x .statement))) _ _
-      (typed-variable (tab t s) (memoryOf m) (memoryOf p) (contextIn x) (h .ready .prepared .ranged) (stmtA (tab t s) (x .statement))
-      (create-variable (tab t s) (h .ready .prepared .ranged) (x .statement) (stands-there t s y z o f m p x h) hk))
+      process-selected (decoded t) (typeOf (decoded t) (stmtA (decoded t) (x .statement))) _ _
+      (typed-variable (decoded t) (memoryOf m) (memoryOf p) (contextIn x) (h .ready .ranged) (stmtA (decoded t) (x .statement))
+      (create-variable (decoded t) (h .ready .ranged) (x .statement) (stands-there t m p x h) hk))
       (apart _ _ does (h .unstuck))
 
-  module _ (a : ℕ) (ha : a ≡ stmtA (tab t s) (x .statement)) where
-    pub create-selectable : Sel t s m p x a
+  module _ (a : ℕ) (ha : a ≡ stmtA (decoded t) (x .statement)) where
+    pub create-selectable : Sel t m p x a
     create-selectable =
         rw ha
         (record {
-          variable = create-variable (tab t s) (h .ready .prepared .ranged) (x .statement) (stands-there t s y z o f m p x h) hk;
+          variable = create-variable (decoded t) (h .ready .ranged) (x .statement) (stands-there t m p x h) hk;
           unstuck = selected-unstuck is-selected;
         })
 
-    module _ (l : Place) (hl : selected l (typeOf (tab t s) a) ≡ out t s m p x a) where
+    module _ (l : Place) (hl : selected l (typeOf (decoded t) a) ≡ out t m p x a) where
       pub create-stops : (e : Failure) (r : ℕ) (s1 : List ℕ) → l ≡ place.Fail e → r ≡ failureNumber e
           → Changed 17664 s1 (update (memoryOf m) failureAt (failureNumber e))
-          → Stepped r s1 p (carried (tab t s) (memoryOf m) (memoryOf p) (contextIn x))
+          → Stepped r s1 p (carried (decoded t) (memoryOf m) (memoryOf p) (contextIn x))
       unfolding doCreate
       create-stops e r s1 g k c =
-          let q : out t s m p x a ≡ fail (failureNumber e) = sym hl ∙ rw g in
+          let q : out t m p x a ≡ fail (failureNumber e) = sym hl ∙ rw g in
           let d = rw ha at q in
-          stands-fail t s y z o f m p x h (failureNumber e) r s1
-          (does ∙ rw d (process-failed (tab t s) (typeOf (tab t s) (stmtA (tab t s) (x .statement))) _ (failureNumber e))) k c
+          stands-fail t m p x h (failureNumber e) r s1
+          (does ∙ rw d (process-failed (decoded t) (typeOf (decoded t) (stmtA (decoded t) (x .statement))) _ (failureNumber e))) k c
 
       module _ (i : ℕ) (g : l ≡ place.At i) where
-        is-place : out t s m p x (stmtA (tab t s) (x .statement)) ≡ ok (place i (typeOf (tab t s) (stmtA (tab t s) (x .statement))))
-        is-place = let q : out t s m p x a ≡ ok (place i (typeOf (tab t s) a)) = sym hl ∙ rw g in rw ha at q
+        is-place : out t m p x (stmtA (decoded t) (x .statement)) ≡ ok (place i (typeOf (decoded t) (stmtA (decoded t) (x .statement))))
+        is-place = let q : out t m p x a ≡ ok (place i (typeOf (decoded t) a)) = sym hl ∙ rw g in rw ha at q
 
-        here : Selected (tab t s) (typeOf (tab t s) (stmtA (tab t s) (x .statement))) (ok (place i (typeOf (tab t s) (stmtA (tab t s) (x .statement)))))
-        here = subst (Selected (tab t s) (typeOf (tab t s) (stmtA (tab t s) (x .statement)))) is-place is-selected
+        here : Selected (decoded t) (typeOf (decoded t) (stmtA (decoded t) (x .statement))) (ok (place i (typeOf (decoded t) (stmtA (decoded t) (x .statement)))))
+        here = subst (Selected (decoded t) (typeOf (decoded t) (stmtA (decoded t) (x .statement)))) is-place is-selected
 
-        pub create-creating : (v : ℕ) → memoryOf m createdAt ≤ 64 → v < 65536 → Creating (memoryOf m) x i v
-        create-creating v c k =
-            let b = fits-low (tab t s) i (typeOf (tab t s) (stmtA (tab t s) (x .statement))) (selected-fits here) in
+        pub create-creating : (v : ℕ) → v < 65536 → Creating (memoryOf m) x i v
+        create-creating v k =
+            let b = fits-low (decoded t) i (typeOf (decoded t) (stmtA (decoded t) (x .statement))) (selected-fits here) in
             record {
               processLow = h .ready .context .processLow;
               processHigh = h .ready .context .processHigh;
-              statement = stands-below t s y z o f m p x h;
-              count = c;
+              statement = stands-below t m p x h;
+              count = h .created;
               place = omega arith;
               block = k;
             }
 
-        module _ (τ v : ℕ) (hτ : τ ≡ typeOf (tab t s) a) (hv : v ≡ typeP (tab t s) τ) where
-          comes : perform (tab t s) (memoryOf m) (memoryOf p) (contextIn x) (stmtAt (tab t s) (x .statement)) ≡ creates (memoryOf m) (memoryOf p) x i v
+        module _ (τ v : ℕ) (hτ : τ ≡ slotIn t a 23) (hv : v ≡ typeP (decoded t) τ) where
+          of-type : τ ≡ typeOf (decoded t) a
+          of-type = lends-type t m p x (h .ready) a τ (create-selectable .variable .below) hτ
+
+          comes : perform (decoded t) (memoryOf m) (memoryOf p) (contextIn x) (stmtAt (decoded t) (x .statement)) ≡ creates (memoryOf m) (memoryOf p) x i v
           unfolding doCreate creates goOn goTo contextIn
           comes =
               does ∙ rw is-place
-              (process-at (tab t s) (typeOf (tab t s) (stmtA (tab t s) (x .statement))) _ i (selected-kind here) ∙ rw (hv, hτ, ha))
+              (process-at (decoded t) (typeOf (decoded t) (stmtA (decoded t) (x .statement))) _ i (selected-kind here) ∙ rw (hv, of-type, ha))
 
           pub create-goes : (r : ℕ) (s1 : List ℕ) → Stepped r s1 p (settled (memoryOf m) (memoryOf p) (creates (memoryOf m) (memoryOf p) x i v))
-              → Stepped r s1 p (carried (tab t s) (memoryOf m) (memoryOf p) (contextIn x))
+              → Stepped r s1 p (carried (decoded t) (memoryOf m) (memoryOf p) (contextIn x))
           unfolding carried contextIn
           create-goes r s1 d = rw (← comes) at d
 

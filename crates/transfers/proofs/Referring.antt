@@ -8,9 +8,8 @@ use native.Mathlib.Omega.{arith}
 use borrow.Author.Tests.{eqb-true, eqb-false, leb-true, eq-eqb, ne-eqb}
 use Rattle.basics.specs.Choice.{cases, both}
 use Rattle.basics.proofs.Bools.{both-l, both-r}
-use Rattle.table.specs.Table.{Table, tableOf}
+use Rattle.table.specs.Table.{Table}
 use Rattle.table.specs.Entries.{nodeCount, typeKind, typeP}
-use Rattle.table.specs.declared.Sections.{Sections}
 use Rattle.types.specs.Types.{typeOf}
 use Rattle.numbers.specs.Sorts.{Variable}
 use Rattle.numbers.specs.Ranges.{inRange}
@@ -24,6 +23,7 @@ use Rattle.machine.specs.Entries.{processType, typeAt}
 use Rattle.machine.specs.Variables.{fits}
 use Rattle.machine.specs.Operands.{operand}
 use Rattle.machine.specs.Processes.{onModule, onProcess, refers, onReference}
+use Rattle.code.specs.Code.{decoded}
 use Rattle.operands.specs.declared.Context.{Context}
 use Rattle.operands.specs.declared.Place.{Place}
 use Rattle.operands.specs.declared.Place.the-variants as place
@@ -122,41 +122,41 @@ at-reference T m a τ e g =
     (λ z. d ∙ rw z)
     (λ z. d ∙ rw z (need-done (refers m (typeP T τ) (m a)) (ok (m a)) (λ k. g (d ∙ rw z k))))
 
-module _ (t : List ℕ) (s : Sections) (y z o f m p : List ℕ) (x : Context) (h : Ready t s y z o f m p x) (n : ℕ)
-    (c : Referring (tableOf (s .w) t) (memoryOf m) (memoryOf p) (contextIn x) n) where
-  is-typed : OfType (tableOf (s .w) t) (typeOf (tableOf (s .w) t) n) (operand (tableOf (s .w) t) (memoryOf m) (memoryOf p) (contextIn x) n)
-  is-typed = typed-variable (tableOf (s .w) t) (memoryOf m) (memoryOf p) (contextIn x) (h .prepared .ranged) n (c .variable)
+module _ (t m p : List ℕ) (x : Context) (h : Ready t m p x) (n : ℕ)
+    (c : Referring (decoded t) (memoryOf m) (memoryOf p) (contextIn x) n) where
+  is-typed : OfType (decoded t) (typeOf (decoded t) n) (operand (decoded t) (memoryOf m) (memoryOf p) (contextIn x) n)
+  is-typed = typed-variable (decoded t) (memoryOf m) (memoryOf p) (contextIn x) (h .ranged) n (c .variable)
 
-  is-selected : Selected (tableOf (s .w) t) (typeOf (tableOf (s .w) t) n) (operand (tableOf (s .w) t) (memoryOf m) (memoryOf p) (contextIn x) n)
+  is-selected : Selected (decoded t) (typeOf (decoded t) n) (operand (decoded t) (memoryOf m) (memoryOf p) (contextIn x) n)
   unfolding referenceOf
-  is-selected = process-selected (tableOf (s .w) t) (typeOf (tableOf (s .w) t) n) _ _ is-typed (c .unstuck)
+  is-selected = process-selected (decoded t) (typeOf (decoded t) n) _ _ is-typed (c .unstuck)
 
-  pub reference-selectable : Selectable (tableOf (s .w) t) (memoryOf m) (memoryOf p) (contextIn x) n
+  pub reference-selectable : Selectable (decoded t) (memoryOf m) (memoryOf p) (contextIn x) n
   reference-selectable = record { variable = c .variable; unstuck = selected-unstuck is-selected }
 
-  module _ (l : Place) (hl : selected l (typeOf (tableOf (s .w) t) n) ≡ operand (tableOf (s .w) t) (memoryOf m) (memoryOf p) (contextIn x) n) where
+  module _ (l : Place) (hl : selected l (typeOf (decoded t) n) ≡ operand (decoded t) (memoryOf m) (memoryOf p) (contextIn x) n) where
     pub reference-fails : (e : Failure) → l ≡ place.Fail e
-        → fail (failureNumber e) ≡ referenceOf (tableOf (s .w) t) (memoryOf m) (operand (tableOf (s .w) t) (memoryOf m) (memoryOf p) (contextIn x) n)
+        → fail (failureNumber e) ≡ referenceOf (decoded t) (memoryOf m) (operand (decoded t) (memoryOf m) (memoryOf p) (contextIn x) n)
     unfolding referenceOf
     reference-fails e g =
-        rw (← hl, g) (sym (process-failed (tableOf (s .w) t) (typeOf (tableOf (s .w) t) n) _ (failureNumber e)))
+        rw (← hl, g) (sym (process-failed (decoded t) (typeOf (decoded t) n) _ (failureNumber e)))
 
     module _ (a : ℕ) (g : l ≡ place.At a) where
-      is-place : operand (tableOf (s .w) t) (memoryOf m) (memoryOf p) (contextIn x) n ≡ ok (place a (typeOf (tableOf (s .w) t) n))
+      is-place : operand (decoded t) (memoryOf m) (memoryOf p) (contextIn x) n ≡ ok (place a (typeOf (decoded t) n))
       is-place = sym hl ∙ rw g
 
-      here : Selected (tableOf (s .w) t) (typeOf (tableOf (s .w) t) n) (ok (place a (typeOf (tableOf (s .w) t) n)))
-      here = subst (Selected (tableOf (s .w) t) (typeOf (tableOf (s .w) t) n)) is-place is-selected
+      here : Selected (decoded t) (typeOf (decoded t) n) (ok (place a (typeOf (decoded t) n)))
+      here = subst (Selected (decoded t) (typeOf (decoded t) n)) is-place is-selected
 
       pub reference-low : a < 16384
-      reference-low = fits-low (tableOf (s .w) t) a (typeOf (tableOf (s .w) t) n) (selected-fits here)
+      reference-low = fits-low (decoded t) a (typeOf (decoded t) n) (selected-fits here)
 
       pub reference-returns : (w : ℕ) (r : Reference) → w ≡ memoryOf m a → referred r ≡ wordRefers w
-          → referred r ≡ referenceOf (tableOf (s .w) t) (memoryOf m) (operand (tableOf (s .w) t) (memoryOf m) (memoryOf p) (contextIn x) n)
+          → referred r ≡ referenceOf (decoded t) (memoryOf m) (operand (decoded t) (memoryOf m) (memoryOf p) (contextIn x) n)
       reference-returns w r e d =
           rw is-place
           (d ∙ (ap wordRefers e
-          ∙ sym (at-reference (tableOf (s .w) t) (memoryOf m) a (typeOf (tableOf (s .w) t) n) (selected-kind here) (λ k. c .unstuck (rw is-place k)))))
+          ∙ sym (at-reference (decoded t) (memoryOf m) a (typeOf (decoded t) n) (selected-kind here) (λ k. c .unstuck (rw is-place k)))))
 
 pub ruleset references = (refer-empty, refer-to, reference-selectable, reference-fails, reference-low, reference-returns)
 

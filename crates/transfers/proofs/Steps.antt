@@ -4,17 +4,15 @@ use mathlib.Core.Path.{_≡_, refl}
 use mathlib.Core.List.{List}
 use lib.ListN.{length}
 use native.Mathlib.Omega.{arith}
-use Rattle.table.specs.Table.{Table, tableOf}
+use Rattle.table.specs.Table.{Table}
 use Rattle.table.specs.Entries.{stmtCount}
-use Rattle.table.specs.declared.Sections.{Sections}
-use Rattle.table.proofs.Cells.{count-is}
 use Rattle.machine.specs.Memory.{Memory, memoryOf, update}
 use Rattle.machine.specs.Layout.{failureAt, statementAt}
 use Rattle.machine.specs.Lent.{Lent, Changed}
 use Rattle.machine.specs.Outcomes.{ok, fail}
 use Rattle.machine.specs.Entries.{stmtAt}
-use Rattle.machine.specs.Context as machine
 use Rattle.machine.specs.Statements.{effect, goTo, goOn, perform}
+use Rattle.code.specs.Code.{decoded}
 use Rattle.operands.specs.declared.Context.{Context}
 use Rattle.operands.specs.Ready.{contextIn, Ready}
 use Rattle.effects.specs.Effects.{carried, Stepped, Standing}
@@ -31,40 +29,37 @@ pub goes-on : (T : Table) (m page s : Memory) (x : Context)
 unfolding goOn goTo contextIn
 goes-on T m page s x = refl
 
-module _ (t : List ℕ) (s : Sections) (y z o f m p : List ℕ) (x : Context) (h : Standing t s y z o f m p x) where
-  pub stands-ready : Ready t s y z o f m p x
+module _ (t m p : List ℕ) (x : Context) (h : Standing t m p x) where
+  pub stands-ready : Ready t m p x
   stands-ready = h .ready
 
   pub stands-lent : Lent 17664 m
   stands-lent = lent-state m (h .ready .state)
 
-  pub stands-there : x .statement < stmtCount (tableOf (s .w) t)
+  pub stands-there : x .statement < stmtCount (decoded t)
   unfolding contextIn
-  stands-there = statement-there (tableOf (s .w) t) (memoryOf m) (memoryOf p) (contextIn x) (h .unstuck)
+  stands-there = statement-there (decoded t) (memoryOf m) (memoryOf p) (contextIn x) (h .unstuck)
 
+  -- the count of the statements is a word
   pub stands-below : x .statement < 65535
-  stands-below =
-      let l = stands-there in
-      let c = count-is t s (h .ready .table) 6 (omega arith) in
-      let e = c .is in
-      let k = c .small in omega arith
+  stands-below = let l = stands-there in let k = h .statements in omega arith
 
   pub stands-bounds : (1 ≤ x .process) × ((x .process ≤ 64) × (x .statement < 65535))
   stands-bounds = (h .ready .context .processLow, (h .ready .context .processHigh, stands-below))
 
   -- the statement has failed
   pub stands-fail : (n r : ℕ) (s1 : List ℕ)
-      → perform (tableOf (s .w) t) (memoryOf m) (memoryOf p) (contextIn x) (stmtAt (tableOf (s .w) t) (x .statement)) ≡ fail n
+      → perform (decoded t) (memoryOf m) (memoryOf p) (contextIn x) (stmtAt (decoded t) (x .statement)) ≡ fail n
       → r ≡ n → Changed 17664 s1 (update (memoryOf m) failureAt n)
-      → Stepped r s1 p (carried (tableOf (s .w) t) (memoryOf m) (memoryOf p) (contextIn x))
+      → Stepped r s1 p (carried (decoded t) (memoryOf m) (memoryOf p) (contextIn x))
   unfolding contextIn
-  stands-fail n r s1 e k c = stepped-fail (tableOf (s .w) t) m p s1 p (contextIn x) n r e k c (h .ready .page)
+  stands-fail n r s1 e k c = stepped-fail (decoded t) m p s1 p (contextIn x) n r e k c (h .ready .page)
 
   -- it has left the page what it was
   pub stands-done : (a : ℕ) (s1 : List ℕ) (m1 : Memory)
-      → perform (tableOf (s .w) t) (memoryOf m) (memoryOf p) (contextIn x) (stmtAt (tableOf (s .w) t) (x .statement)) ≡ ok (effect a m1 (memoryOf p))
+      → perform (decoded t) (memoryOf m) (memoryOf p) (contextIn x) (stmtAt (decoded t) (x .statement)) ≡ ok (effect a m1 (memoryOf p))
       → Changed 17664 s1 m1
-      → Stepped a s1 p (carried (tableOf (s .w) t) (memoryOf m) (memoryOf p) (contextIn x))
+      → Stepped a s1 p (carried (decoded t) (memoryOf m) (memoryOf p) (contextIn x))
   unfolding contextIn
   stands-done a s1 m1 e c =
-      stepped (tableOf (s .w) t) m p s1 p (contextIn x) a m1 (memoryOf p) e c (record { long = h .ready .page; is = refl })
+      stepped (decoded t) m p s1 p (contextIn x) a m1 (memoryOf p) e c (record { long = h .ready .page; is = refl })

@@ -9,7 +9,6 @@ use native.Mathlib.Omega.{arith}
 use Rattle.basics.specs.Choice.{cases}
 use Rattle.table.specs.Table.{Table}
 use Rattle.table.specs.Entries.{stmtKind, stmtA, stmtB}
-use Rattle.table.specs.declared.Sections.{Sections}
 use Rattle.types.specs.Types.{typeOf}
 use Rattle.numbers.proofs.OperandPromise.{write-address, write-value}
 use Rattle.words.specs.Memory.{putAtByte, putWord}
@@ -31,18 +30,19 @@ use Rattle.machine.specs.Operands.{operand, deviceWord}
 use Rattle.machine.specs.Statements.{doWrite, perform}
 use Rattle.machine.specs.Step.{settled}
 use Rattle.machine.proofs.Memories.{memory-put}
+use Rattle.code.specs.Code.{decoded}
 use Rattle.operands.specs.declared.Context.{Context}
 use Rattle.operands.specs.Answers.{firstWord}
 use Rattle.operands.specs.Ready.{contextIn, Ready}
 use Rattle.operands.proofs.Typed.{OfType, typed-expression}
 use Rattle.operands.proofs.Yielding.{failed}
-use Rattle.operands.proofs.Selecting.{tab, out}
+use Rattle.operands.proofs.Selecting.{out}
 use Rattle.operands.proofs.Evaluating.{Ev}
 use Rattle.effects.specs.Effects.{carried, Stepped, Standing}
 use Rattle.effects.proofs.Carrying.{performs-write}
 use Rattle.transfers.specs.Devices.{writes, Writing}
 use Rattle.transfers.proofs.Following.{apart, no-word, need-done, value-failed, value-goes, value-unstuck, value-gave}
-use Rattle.transfers.proofs.Steps.{stands-there, stands-bounds, stands-lent, stands-fail}
+use Rattle.transfers.proofs.Steps.{stands-there, stands-below, stands-bounds, stands-lent, stands-fail}
 
 -- ---- the laws of `write_word`
 
@@ -107,89 +107,89 @@ word-goes T τ o f w g t e =
     let d = value-goes o (λ σ ws. need (eqb σ 0) (f (wordOf ws))) τ (j .words) (j .is) in
     d ∙ (need-done _ _ (apart _ _ d g) ∙ ap f (j .first))
 
-module _ (t : List ℕ) (s : Sections) (y z o f m p : List ℕ) (x : Context) (h : Standing t s y z o f m p x) (hk : stmtKind (tab t s) (x .statement) ≡ 12) where
-  does : perform (tab t s) (memoryOf m) (memoryOf p) (contextIn x) (stmtAt (tab t s) (x .statement))
-      ≡ onWord (out t s m p x (stmtA (tab t s) (x .statement))) 0 (λ i. onWord (out t s m p x (stmtB (tab t s) (x .statement))) 0 (λ v. writes (memoryOf m) (memoryOf p) x i v))
+module _ (t m p : List ℕ) (x : Context) (h : Standing t m p x) (hk : stmtKind (decoded t) (x .statement) ≡ 12) where
+  does : perform (decoded t) (memoryOf m) (memoryOf p) (contextIn x) (stmtAt (decoded t) (x .statement))
+      ≡ onWord (out t m p x (stmtA (decoded t) (x .statement))) 0 (λ i. onWord (out t m p x (stmtB (decoded t) (x .statement))) 0 (λ v. writes (memoryOf m) (memoryOf p) x i v))
   unfolding contextIn doWrite writes
-  does = performs-write (tab t s) (memoryOf m) (memoryOf p) (contextIn x) (h .unstuck) hk
+  does = performs-write (decoded t) (memoryOf m) (memoryOf p) (contextIn x) (h .unstuck) hk
 
-  address-there : Ev t s m p x (stmtA (tab t s) (x .statement))
+  address-there : Ev t m p x (stmtA (decoded t) (x .statement))
   unfolding onWord
   address-there =
       record {
-        expression = write-address (tab t s) (h .ready .prepared .ranged) (x .statement) (stands-there t s y z o f m p x h) hk;
+        expression = write-address (decoded t) (h .ready .ranged) (x .statement) (stands-there t m p x h) hk;
         unstuck = value-unstuck _ _ (apart _ _ does (h .unstuck));
       }
 
-  module _ (a : ℕ) (ha : a ≡ stmtA (tab t s) (x .statement)) where
-    pub address-evaluable : Ev t s m p x a
+  module _ (a : ℕ) (ha : a ≡ stmtA (decoded t) (x .statement)) where
+    pub address-evaluable : Ev t m p x a
     address-evaluable = rw ha address-there
 
-    module _ (v : Value) (hv : outcomeOf v ≡ firstWord (out t s m p x a)) where
+    module _ (v : Value) (hv : outcomeOf v ≡ firstWord (out t m p x a)) where
       pub address-fails : (e : Failure) (r : ℕ) (s1 : List ℕ) → v ≡ Fail e → r ≡ failureNumber e
           → Changed 17664 s1 (update (memoryOf m) failureAt (failureNumber e))
-          → Stepped r s1 p (carried (tab t s) (memoryOf m) (memoryOf p) (contextIn x))
+          → Stepped r s1 p (carried (decoded t) (memoryOf m) (memoryOf p) (contextIn x))
       unfolding onWord
       address-fails e r s1 g k c =
           let q = failed _ _ (rw (g, ha) at hv) in
-          stands-fail t s y z o f m p x h (failureNumber e) r s1 (does ∙ value-failed _ _ (failureNumber e) q) k c
+          stands-fail t m p x h (failureNumber e) r s1 (does ∙ value-failed _ _ (failureNumber e) q) k c
 
-      pub address-writing : (i : ℕ) → v ≡ Word i → Writing t s y z o f m p x i
-      address-writing i g = record { standing = h; kind = hk; address = rw (g, ha) at hv }
+      pub address-writing : (i : ℕ) → v ≡ Word i → Writing t m p x i
+      address-writing i g = record { standing = h; kind = hk; below = stands-below t m p x h; address = rw (g, ha) at hv }
 
 -- ---- the laws of `write_value`
 
-module _ (t : List ℕ) (s : Sections) (y z o f m p : List ℕ) (x : Context) (i : ℕ) (c : Writing t s y z o f m p x i) where
-  pub writing-ready : Ready t s y z o f m p x
+module _ (t m p : List ℕ) (x : Context) (i : ℕ) (c : Writing t m p x i) where
+  pub writing-ready : Ready t m p x
   writing-ready = c .standing .ready
 
   pub writing-lent : Lent 17664 m
-  writing-lent = stands-lent t s y z o f m p x (c .standing)
+  writing-lent = stands-lent t m p x (c .standing)
 
   pub writing-page : length p ≡ 8192
   writing-page = c .standing .ready .page
 
   pub writing-bounds : (1 ≤ x .process) × ((x .process ≤ 64) × (x .statement < 65535))
-  writing-bounds = stands-bounds t s y z o f m p x (c .standing)
+  writing-bounds = stands-bounds t m p x (c .standing)
 
-  then : perform (tab t s) (memoryOf m) (memoryOf p) (contextIn x) (stmtAt (tab t s) (x .statement))
-      ≡ onWord (out t s m p x (stmtB (tab t s) (x .statement))) 0 (λ v. writes (memoryOf m) (memoryOf p) x i v)
+  then : perform (decoded t) (memoryOf m) (memoryOf p) (contextIn x) (stmtAt (decoded t) (x .statement))
+      ≡ onWord (out t m p x (stmtB (decoded t) (x .statement))) 0 (λ v. writes (memoryOf m) (memoryOf p) x i v)
   then =
-      let d = does t s y z o f m p x (c .standing) (c .kind) in
+      let d = does t m p x (c .standing) (c .kind) in
       d
-      ∙ word-goes (tab t s) (typeOf (tab t s) (stmtA (tab t s) (x .statement))) _ _ i (apart _ _ d (c .standing .unstuck))
-      (typed-expression (tab t s) (memoryOf m) (memoryOf p) (contextIn x) (c .standing .ready .prepared .ranged) (stmtA (tab t s) (x .statement))
-      (address-there t s y z o f m p x (c .standing) (c .kind) .expression))
+      ∙ word-goes (decoded t) (typeOf (decoded t) (stmtA (decoded t) (x .statement))) _ _ i (apart _ _ d (c .standing .unstuck))
+      (typed-expression (decoded t) (memoryOf m) (memoryOf p) (contextIn x) (c .standing .ready .ranged) (stmtA (decoded t) (x .statement))
+      (address-there t m p x (c .standing) (c .kind) .expression))
       (c .address)
 
-  value-there : Ev t s m p x (stmtB (tab t s) (x .statement))
+  value-there : Ev t m p x (stmtB (decoded t) (x .statement))
   unfolding onWord
   value-there =
       record {
-        expression = write-value (tab t s) (c .standing .ready .prepared .ranged) (x .statement) (stands-there t s y z o f m p x (c .standing)) (c .kind);
+        expression = write-value (decoded t) (c .standing .ready .ranged) (x .statement) (stands-there t m p x (c .standing)) (c .kind);
         unstuck = value-unstuck _ _ (apart _ _ then (c .standing .unstuck));
       }
 
-  module _ (b : ℕ) (hb : b ≡ stmtB (tab t s) (x .statement)) where
-    pub writing-evaluable : Ev t s m p x b
+  module _ (b : ℕ) (hb : b ≡ stmtB (decoded t) (x .statement)) where
+    pub writing-evaluable : Ev t m p x b
     writing-evaluable = rw hb value-there
 
-    module _ (v : Value) (hv : outcomeOf v ≡ firstWord (out t s m p x b)) where
+    module _ (v : Value) (hv : outcomeOf v ≡ firstWord (out t m p x b)) where
       pub writing-fails : (e : Failure) (r : ℕ) (s1 : List ℕ) → v ≡ Fail e → r ≡ failureNumber e
           → Changed 17664 s1 (update (memoryOf m) failureAt (failureNumber e))
-          → Stepped r s1 p (carried (tab t s) (memoryOf m) (memoryOf p) (contextIn x))
+          → Stepped r s1 p (carried (decoded t) (memoryOf m) (memoryOf p) (contextIn x))
       unfolding onWord
       writing-fails e r s1 g k d =
           let q = failed _ _ (rw (g, hb) at hv) in
-          stands-fail t s y z o f m p x (c .standing) (failureNumber e) r s1 (then ∙ value-failed _ _ (failureNumber e) q) k d
+          stands-fail t m p x (c .standing) (failureNumber e) r s1 (then ∙ value-failed _ _ (failureNumber e) q) k d
 
       pub writing-returns : (w r : ℕ) (s1 d1 : List ℕ) → v ≡ Word w
           → Stepped r s1 d1 (settled (memoryOf m) (memoryOf p) (writes (memoryOf m) (memoryOf p) x i w))
-          → Stepped r s1 d1 (carried (tab t s) (memoryOf m) (memoryOf p) (contextIn x))
+          → Stepped r s1 d1 (carried (decoded t) (memoryOf m) (memoryOf p) (contextIn x))
       unfolding carried contextIn
       writing-returns w r s1 d1 g d =
-          let e = then ∙ word-goes (tab t s) (typeOf (tab t s) (stmtB (tab t s) (x .statement))) _ _ w (apart _ _ then (c .standing .unstuck))
-          (typed-expression (tab t s) (memoryOf m) (memoryOf p) (contextIn x) (c .standing .ready .prepared .ranged) (stmtB (tab t s) (x .statement)) (value-there .expression))
+          let e = then ∙ word-goes (decoded t) (typeOf (decoded t) (stmtB (decoded t) (x .statement))) _ _ w (apart _ _ then (c .standing .unstuck))
+          (typed-expression (decoded t) (memoryOf m) (memoryOf p) (contextIn x) (c .standing .ready .ranged) (stmtB (decoded t) (x .statement)) (value-there .expression))
           (rw (g, hb) at hv) in
           rw (← e) at d
 

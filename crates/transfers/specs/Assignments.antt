@@ -2,25 +2,25 @@
 use Prim.Native.Nat.{ℕ, _+_, _≤_, _<_}
 use mathlib.Core.Path.{_≡_}
 use mathlib.Core.List.{List}
-use Rattle.table.specs.Table.{tableOf}
 use Rattle.table.specs.Entries.{stmtKind, stmtA}
-use Rattle.table.specs.declared.Sections.{Sections}
 use Rattle.types.specs.Types.{typeOf}
 use Rattle.machine.specs.Memory.{Memory, memoryOf, update, store, wordsAt}
 use Rattle.machine.specs.Layout.{statementAt}
 use Rattle.machine.specs.Outcomes.{ok, place}
 use Rattle.machine.specs.Operands.{operand}
+use Rattle.code.specs.Code.{decoded}
 use Rattle.operands.specs.declared.Context.{Context}
 use Rattle.operands.specs.Ready.{contextIn}
 use Rattle.effects.specs.Effects.{Standing}
 
--- the statement is an assignment to a variable that stands at i
-pub record Assigning (t : List ℕ) (s : Sections) (y z o f m p : List ℕ) (x : Context) (i : ℕ) : Type 0 where
-  pub standing : Standing t s y z o f m p x
-  pub kind : stmtKind (tableOf (s .w) t) (x .statement) ≡ 1
+-- the statement is an assignment to a variable that stands at i; another statement can follow
+pub record Assigning (t m p : List ℕ) (x : Context) (i : ℕ) : Type 0 where
+  pub standing : Standing t m p x
+  pub kind : stmtKind (decoded t) (x .statement) ≡ 1
+  pub below : x .statement < 65535
   pub target :
-      operand (tableOf (s .w) t) (memoryOf m) (memoryOf p) (contextIn x) (stmtA (tableOf (s .w) t) (x .statement))
-      ≡ ok (place i (typeOf (tableOf (s .w) t) (stmtA (tableOf (s .w) t) (x .statement))))
+      operand (decoded t) (memoryOf m) (memoryOf p) (contextIn x) (stmtA (decoded t) (x .statement))
+      ≡ ok (place i (typeOf (decoded t) (stmtA (decoded t) (x .statement))))
 
 -- n words are copied from one location to another; then the process goes on
 pub record Copying (x : Context) (from to n : ℕ) : Type 0 where

@@ -3,16 +3,16 @@ use operands::Context;
 use operands::Place;
 use operands::eval::eval;
 use operands::eval::select;
-use operands::places::words_of;
+use operands::places::node_words;
 use words::values::Value;
 ghost use mathlib.Core.Path.{_≡_};
 ghost use Prim.Native.Nat.{_+_, _<_};
-ghost use Rattle.table.specs.Table.{tableOf};
 ghost use Rattle.table.specs.Entries.{stmtKind, stmtB};
 ghost use Rattle.types.specs.Types.{typeOf};
 ghost use Rattle.sizes.specs.Sizes.{wordsOf};
 ghost use Rattle.machine.specs.Memory.{memoryOf};
 ghost use Rattle.machine.specs.Lent.{Lent, Changed};
+ghost use Rattle.code.specs.Code.{decoded};
 ghost use Rattle.operands.specs.Ready.{contextIn};
 ghost use Rattle.effects.specs.Effects.{carried, Stepped, Standing};
 ghost use Rattle.transfers.specs.Assignments.{Assigning, Copying, copied};
@@ -36,29 +36,18 @@ fn copy(state: &mut [u8], x: Context, from: usize, to: usize, n: usize)
 }
 
 // A value of several words is that of a variable (8.7).
-fn assign_words(
-    t: &[u8],
-    s: table::Sections,
-    types: &[u16],
-    sizes: &[u16],
-    offsets: &[u16],
-    places: &[u16],
-    state: &mut [u8],
-    page: &[u8],
-    x: Context,
-    i: usize,
-) -> u8
-    requires { ⌜ Assigning (now t) s (now types) (now sizes) (now offsets) (now places) (now state) (now page) x i ⌝ }
-    requires { ⌜ 1 < wordsOf (tableOf (s .w) (now t)) (typeOf (tableOf (s .w) (now t)) (stmtB (tableOf (s .w) (now t)) (x .statement))) ⌝ }
-    ensures { λ r. ⌜ Stepped r (now (state .exit)) (now (page .entry)) (carried (tableOf (s .w) (now (t .entry))) (memoryOf (now (state .entry))) (memoryOf (now (page .entry))) (contextIn x)) ⌝ }
+fn assign_words(c: &code::Slots, state: &mut [u8], page: &[u8], x: Context, i: usize) -> u8
+    requires { ⌜ Assigning (now c) (now state) (now page) x i ⌝ }
+    requires { ⌜ 1 < wordsOf (decoded (now c)) (typeOf (decoded (now c)) (stmtB (decoded (now c)) (x .statement))) ⌝ }
+    ensures { λ r. ⌜ Stepped r (now (state .exit)) (now (page .entry)) (carried (decoded (now (c .entry))) (memoryOf (now (state .entry))) (memoryOf (now (page .entry))) (contextIn x)) ⌝ }
 {
-    let b = table::stmt_b(t, s, x.statement);
-    let v = table::node_p(t, s, b);
-    let l = select(t, s, types, sizes, offsets, places, state, page, x, v);
+    let b = code::stmt_b(c, x.statement);
+    let v = code::node_p(c, b);
+    let l = select(c, state, page, x, v);
     match l {
         Place::Fail(f) => effects::fail(state, f),
         Place::At(j) => {
-            let n = words_of(t, s, sizes, types::type_of(t, s, types, b));
+            let n = node_words(c, b);
             copy(state, x, j, i, n);
             0
         }
@@ -66,26 +55,15 @@ fn assign_words(
 }
 
 // The value, to location i.
-fn assign_at(
-    t: &[u8],
-    s: table::Sections,
-    types: &[u16],
-    sizes: &[u16],
-    offsets: &[u16],
-    places: &[u16],
-    state: &mut [u8],
-    page: &[u8],
-    x: Context,
-    i: usize,
-) -> u8
-    requires { ⌜ Assigning (now t) s (now types) (now sizes) (now offsets) (now places) (now state) (now page) x i ⌝ }
-    ensures { λ r. ⌜ Stepped r (now (state .exit)) (now (page .entry)) (carried (tableOf (s .w) (now (t .entry))) (memoryOf (now (state .entry))) (memoryOf (now (page .entry))) (contextIn x)) ⌝ }
+fn assign_at(c: &code::Slots, state: &mut [u8], page: &[u8], x: Context, i: usize) -> u8
+    requires { ⌜ Assigning (now c) (now state) (now page) x i ⌝ }
+    ensures { λ r. ⌜ Stepped r (now (state .exit)) (now (page .entry)) (carried (decoded (now (c .entry))) (memoryOf (now (state .entry))) (memoryOf (now (page .entry))) (contextIn x)) ⌝ }
 {
-    let b = table::stmt_b(t, s, x.statement);
-    if 1 < words_of(t, s, sizes, types::type_of(t, s, types, b)) {
-        return assign_words(t, s, types, sizes, offsets, places, state, page, x, i);
+    let b = code::stmt_b(c, x.statement);
+    if 1 < node_words(c, b) {
+        return assign_words(c, state, page, x, i);
     }
-    let v = eval(t, s, types, sizes, offsets, places, state, page, x, b);
+    let v = eval(c, state, page, x, b);
     match v {
         Value::Fail(f) => effects::fail(state, f),
         Value::Word(w) => {
@@ -97,25 +75,15 @@ fn assign_at(
 }
 
 // 11.2.
-pub fn assign(
-    t: &[u8],
-    s: table::Sections,
-    types: &[u16],
-    sizes: &[u16],
-    offsets: &[u16],
-    places: &[u16],
-    state: &mut [u8],
-    page: &[u8],
-    x: Context,
-) -> u8
-    requires { ⌜ Standing (now t) s (now types) (now sizes) (now offsets) (now places) (now state) (now page) x ⌝ }
-    requires { ⌜ stmtKind (tableOf (s .w) (now t)) (x .statement) ≡ 1 ⌝ }
-    ensures { λ r. ⌜ Stepped r (now (state .exit)) (now (page .entry)) (carried (tableOf (s .w) (now (t .entry))) (memoryOf (now (state .entry))) (memoryOf (now (page .entry))) (contextIn x)) ⌝ }
+pub fn assign(c: &code::Slots, state: &mut [u8], page: &[u8], x: Context) -> u8
+    requires { ⌜ Standing (now c) (now state) (now page) x ⌝ }
+    requires { ⌜ stmtKind (decoded (now c)) (x .statement) ≡ 1 ⌝ }
+    ensures { λ r. ⌜ Stepped r (now (state .exit)) (now (page .entry)) (carried (decoded (now (c .entry))) (memoryOf (now (state .entry))) (memoryOf (now (page .entry))) (contextIn x)) ⌝ }
 {
-    let a = table::stmt_a(t, s, x.statement);
-    let l = select(t, s, types, sizes, offsets, places, state, page, x, a);
+    let a = code::stmt_a(c, x.statement);
+    let l = select(c, state, page, x, a);
     match l {
         Place::Fail(f) => effects::fail(state, f),
-        Place::At(i) => assign_at(t, s, types, sizes, offsets, places, state, page, x, i),
+        Place::At(i) => assign_at(c, state, page, x, i),
     }
 }

@@ -4,13 +4,11 @@ use operands::Place;
 use operands::eval::select;
 use words::values::Failure;
 ghost use mathlib.Core.Path.{_≡_};
-ghost use Prim.Native.Nat.{_+_, _≤_};
-ghost use Rattle.table.specs.Table.{tableOf};
 ghost use Rattle.table.specs.Entries.{stmtKind};
 ghost use Rattle.machine.specs.Memory.{memoryOf};
-ghost use Rattle.machine.specs.Layout.{createdAt};
 ghost use Rattle.machine.specs.Lent.{Lent};
 ghost use Rattle.machine.specs.Step.{settled};
+ghost use Rattle.code.specs.Code.{decoded};
 ghost use Rattle.operands.specs.Ready.{contextIn};
 ghost use Rattle.effects.specs.Effects.{carried, Stepped, Standing};
 ghost use Rattle.transfers.specs.Creations.{Creating, creates};
@@ -38,29 +36,18 @@ fn create_next(state: &mut [u8], page: &[u8], x: Context, i: usize, block: usize
     0
 }
 
-// 11.4. The state has no more than 64 processes (01, A state).
-pub fn create(
-    t: &[u8],
-    s: table::Sections,
-    types: &[u16],
-    sizes: &[u16],
-    offsets: &[u16],
-    places: &[u16],
-    state: &mut [u8],
-    page: &[u8],
-    x: Context,
-) -> u8
-    requires { ⌜ Standing (now t) s (now types) (now sizes) (now offsets) (now places) (now state) (now page) x ⌝ }
-    requires { ⌜ stmtKind (tableOf (s .w) (now t)) (x .statement) ≡ 4 ⌝ }
-    requires { ⌜ memoryOf (now state) createdAt ≤ 64 ⌝ }
-    ensures { λ r. ⌜ Stepped r (now (state .exit)) (now (page .entry)) (carried (tableOf (s .w) (now (t .entry))) (memoryOf (now (state .entry))) (memoryOf (now (page .entry))) (contextIn x)) ⌝ }
+// 11.4.
+pub fn create(c: &code::Slots, state: &mut [u8], page: &[u8], x: Context) -> u8
+    requires { ⌜ Standing (now c) (now state) (now page) x ⌝ }
+    requires { ⌜ stmtKind (decoded (now c)) (x .statement) ≡ 4 ⌝ }
+    ensures { λ r. ⌜ Stepped r (now (state .exit)) (now (page .entry)) (carried (decoded (now (c .entry))) (memoryOf (now (state .entry))) (memoryOf (now (page .entry))) (contextIn x)) ⌝ }
 {
-    let a = table::stmt_a(t, s, x.statement);
-    let l = select(t, s, types, sizes, offsets, places, state, page, x, a);
+    let a = code::stmt_a(c, x.statement);
+    let l = select(c, state, page, x, a);
     match l {
         Place::Fail(f) => effects::fail(state, f),
         Place::At(i) => {
-            let block = table::type_p(t, s, types::type_of(t, s, types, a));
+            let block = code::type_p(c, code::type_of(c, a));
             create_next(state, page, x, i, block)
         }
     }

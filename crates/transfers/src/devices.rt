@@ -5,11 +5,11 @@ use words::values::Value;
 ghost use mathlib.Core.Path.{_≡_};
 ghost use Prim.Native.Nat.{_≤_, _<_};
 ghost use lib.ListN.{length};
-ghost use Rattle.table.specs.Table.{tableOf};
 ghost use Rattle.table.specs.Entries.{stmtKind};
 ghost use Rattle.machine.specs.Memory.{memoryOf};
 ghost use Rattle.machine.specs.Lent.{Lent};
 ghost use Rattle.machine.specs.Step.{settled};
+ghost use Rattle.code.specs.Code.{decoded};
 ghost use Rattle.operands.specs.Ready.{contextIn};
 ghost use Rattle.effects.specs.Effects.{carried, Stepped, Standing};
 ghost use Rattle.transfers.specs.Devices.{Writing, writes};
@@ -32,23 +32,12 @@ fn write_word(state: &mut [u8], page: &mut [u8], x: Context, address: u16, v: u1
 }
 
 // The value, then the store, where the address is known.
-fn write_value(
-    t: &[u8],
-    s: table::Sections,
-    types: &[u16],
-    sizes: &[u16],
-    offsets: &[u16],
-    places: &[u16],
-    state: &mut [u8],
-    page: &mut [u8],
-    x: Context,
-    address: u16,
-) -> u8
-    requires { ⌜ Writing (now t) s (now types) (now sizes) (now offsets) (now places) (now state) (now page) x address ⌝ }
-    ensures { λ r. ⌜ Stepped r (now (state .exit)) (now (page .exit)) (carried (tableOf (s .w) (now (t .entry))) (memoryOf (now (state .entry))) (memoryOf (now (page .entry))) (contextIn x)) ⌝ }
+fn write_value(c: &code::Slots, state: &mut [u8], page: &mut [u8], x: Context, address: u16) -> u8
+    requires { ⌜ Writing (now c) (now state) (now page) x address ⌝ }
+    ensures { λ r. ⌜ Stepped r (now (state .exit)) (now (page .exit)) (carried (decoded (now (c .entry))) (memoryOf (now (state .entry))) (memoryOf (now (page .entry))) (contextIn x)) ⌝ }
 {
-    let b = table::stmt_b(t, s, x.statement);
-    let v = eval(t, s, types, sizes, offsets, places, state, page, x, b);
+    let b = code::stmt_b(c, x.statement);
+    let v = eval(c, state, page, x, b);
     match v {
         Value::Fail(f) => effects::fail(state, f),
         Value::Word(w) => write_word(state, page, x, address, w),
@@ -56,25 +45,15 @@ fn write_value(
 }
 
 // 12.3.
-pub fn write(
-    t: &[u8],
-    s: table::Sections,
-    types: &[u16],
-    sizes: &[u16],
-    offsets: &[u16],
-    places: &[u16],
-    state: &mut [u8],
-    page: &mut [u8],
-    x: Context,
-) -> u8
-    requires { ⌜ Standing (now t) s (now types) (now sizes) (now offsets) (now places) (now state) (now page) x ⌝ }
-    requires { ⌜ stmtKind (tableOf (s .w) (now t)) (x .statement) ≡ 12 ⌝ }
-    ensures { λ r. ⌜ Stepped r (now (state .exit)) (now (page .exit)) (carried (tableOf (s .w) (now (t .entry))) (memoryOf (now (state .entry))) (memoryOf (now (page .entry))) (contextIn x)) ⌝ }
+pub fn write(c: &code::Slots, state: &mut [u8], page: &mut [u8], x: Context) -> u8
+    requires { ⌜ Standing (now c) (now state) (now page) x ⌝ }
+    requires { ⌜ stmtKind (decoded (now c)) (x .statement) ≡ 12 ⌝ }
+    ensures { λ r. ⌜ Stepped r (now (state .exit)) (now (page .exit)) (carried (decoded (now (c .entry))) (memoryOf (now (state .entry))) (memoryOf (now (page .entry))) (contextIn x)) ⌝ }
 {
-    let a = table::stmt_a(t, s, x.statement);
-    let v = eval(t, s, types, sizes, offsets, places, state, page, x, a);
+    let a = code::stmt_a(c, x.statement);
+    let v = eval(c, state, page, x, a);
     match v {
         Value::Fail(f) => effects::fail(state, f),
-        Value::Word(w) => write_value(t, s, types, sizes, offsets, places, state, page, x, w),
+        Value::Word(w) => write_value(c, state, page, x, w),
     }
 }

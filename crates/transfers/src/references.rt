@@ -4,9 +4,9 @@ use operands::Context;
 use operands::Place;
 use words::values::Failure;
 ghost use mathlib.Core.Path.{_≡_};
-ghost use Rattle.table.specs.Table.{tableOf};
 ghost use Rattle.machine.specs.Memory.{memoryOf};
 ghost use Rattle.machine.specs.Operands.{operand};
+ghost use Rattle.code.specs.Code.{decoded};
 ghost use Rattle.operands.specs.Ready.{contextIn, Ready};
 ghost use Rattle.transfers.specs.References.{referenceOf, wordRefers, referred, Referring};
 
@@ -21,23 +21,12 @@ fn refer(w: u16) -> Reference
 }
 
 // The process that the variable of node n refers to.
-pub fn reference(
-    t: &[u8],
-    s: table::Sections,
-    types: &[u16],
-    sizes: &[u16],
-    offsets: &[u16],
-    places: &[u16],
-    state: &[u8],
-    page: &[u8],
-    x: Context,
-    n: usize,
-) -> Reference
-    requires { ⌜ Ready (now t) s (now types) (now sizes) (now offsets) (now places) (now state) (now page) x ⌝ }
-    requires { ⌜ Referring (tableOf (s .w) (now t)) (memoryOf (now state)) (memoryOf (now page)) (contextIn x) n ⌝ }
-    ensures { λ r. ⌜ referred r ≡ referenceOf (tableOf (s .w) (now (t .entry))) (memoryOf (now (state .entry))) (operand (tableOf (s .w) (now (t .entry))) (memoryOf (now (state .entry))) (memoryOf (now (page .entry))) (contextIn x) n) ⌝ }
+pub fn reference(c: &code::Slots, state: &[u8], page: &[u8], x: Context, n: usize) -> Reference
+    requires { ⌜ Ready (now c) (now state) (now page) x ⌝ }
+    requires { ⌜ Referring (decoded (now c)) (memoryOf (now state)) (memoryOf (now page)) (contextIn x) n ⌝ }
+    ensures { λ r. ⌜ referred r ≡ referenceOf (decoded (now (c .entry))) (memoryOf (now (state .entry))) (operand (decoded (now (c .entry))) (memoryOf (now (state .entry))) (memoryOf (now (page .entry))) (contextIn x) n) ⌝ }
 {
-    let l = operands::eval::select(t, s, types, sizes, offsets, places, state, page, x, n);
+    let l = operands::eval::select(c, state, page, x, n);
     match l {
         Place::Fail(f) => Reference::Fail(f),
         Place::At(a) => refer(operands::places::word_at(state, a)),

@@ -4,8 +4,8 @@ ghost use Prim.Native.Nat.{ℕ, _+_, _-_, _≤_, _<_};
 ghost use lib.ListN.{length, getD};
 ghost use Rattle.basics.specs.Course.{upto};
 ghost use Rattle.basics.specs.Holds.{Holds};
-ghost use Rattle.table.specs.Table.{tableOf};
-ghost use Rattle.table.specs.Reading.{Of, Field};
+ghost use Rattle.code.specs.Code.{decoded};
+ghost use Rattle.table.specs.Reading.{Field};
 ghost use Rattle.types.specs.Types.{fieldOf, elementOf, unaryType, binaryType, operandType, nodeType, typeOf, noType, Room, Types};
 ghost use Rattle.types.specs.Match.{offset, span, elements, isString, matches};
 
@@ -23,13 +23,12 @@ fn narrow(x: usize) -> u16
 }
 
 // The type of field i of the type x.
-fn field_of(t: &[u8], s: table::Sections, x: usize, i: usize) -> usize
-    requires { ⌜ Of (now t) s ⌝ }
-    ensures { λ r. ⌜ Field (fieldOf (tableOf (s .w) (now (t .entry))) x i) r ⌝ }
+fn field_of(c: &code::Slots, x: usize, i: usize) -> usize
+    ensures { λ r. ⌜ Field (fieldOf (decoded (now (c .entry))) x i) r ⌝ }
 {
-    if table::type_kind(t, s, x) == 1 {
-        if i < table::type_q(t, s, x) {
-            return table::field_type(t, s, table::type_p(t, s, x) + i);
+    if code::type_kind(c, x) == 1 {
+        if i < code::type_q(c, x) {
+            return code::field_type(c, code::type_p(c, x) + i);
         }
         return 65535;
     }
@@ -37,12 +36,11 @@ fn field_of(t: &[u8], s: table::Sections, x: usize, i: usize) -> usize
 }
 
 // The type of the elements of the type x.
-fn element_of(t: &[u8], s: table::Sections, x: usize) -> usize
-    requires { ⌜ Of (now t) s ⌝ }
-    ensures { λ r. ⌜ Field (elementOf (tableOf (s .w) (now (t .entry))) x) r ⌝ }
+fn element_of(c: &code::Slots, x: usize) -> usize
+    ensures { λ r. ⌜ Field (elementOf (decoded (now (c .entry))) x) r ⌝ }
 {
-    if table::type_kind(t, s, x) == 2 {
-        return table::type_q(t, s, x);
+    if code::type_kind(c, x) == 2 {
+        return code::type_q(c, x);
     }
     65535
 }
@@ -71,34 +69,33 @@ fn binary_type(o: usize, x: usize) -> usize
 }
 
 // The type of a node of kinds 2 to 6 whose first operand has type x.
-fn operand_type(t: &[u8], s: table::Sections, n: usize, x: usize) -> usize
-    requires { ⌜ Of (now t) s ⌝ }
+fn operand_type(c: &code::Slots, n: usize, x: usize) -> usize
     requires { ⌜ x < 65536 ⌝ }
-    ensures { λ r. ⌜ Field (operandType (tableOf (s .w) (now (t .entry))) n x) r ⌝ }
+    ensures { λ r. ⌜ Field (operandType (decoded (now (c .entry))) n x) r ⌝ }
 {
-    let k = table::node_kind(t, s, n);
+    let k = code::node_kind(c, n);
     if k == 2 {
-        return field_of(t, s, x, table::node_q(t, s, n));
+        return field_of(c, x, code::node_q(c, n));
     }
     if k == 3 {
-        return element_of(t, s, x);
+        return element_of(c, x);
     }
     if k == 4 {
         return x;
     }
     if k == 5 {
-        return unary_type(table::node_q(t, s, n), x);
+        return unary_type(code::node_q(c, n), x);
     }
     if k == 6 {
-        return binary_type(table::node_v(t, s, n), x);
+        return binary_type(code::node_v(c, n), x);
     }
     65535
 }
 
 // The type of node p where it stands before node n.
-fn before(t: &[u8], s: table::Sections, types: &[u16], n: usize, p: usize) -> usize
-    requires { ⌜ Holds (typeOf (tableOf (s .w) (now t))) n (now types) ⌝ }
-    ensures { λ r. ⌜ Field (upto noType (nodeType (tableOf (s .w) (now (t .entry)))) n p) r ⌝ }
+fn before(c: &code::Slots, types: &[u16], n: usize, p: usize) -> usize
+    requires { ⌜ Holds (typeOf (decoded (now c))) n (now types) ⌝ }
+    ensures { λ r. ⌜ Field (upto noType (nodeType (decoded (now (c .entry)))) n p) r ⌝ }
 {
     if p < n {
         return wide(types[p]);
@@ -107,49 +104,46 @@ fn before(t: &[u8], s: table::Sections, types: &[u16], n: usize, p: usize) -> us
 }
 
 // The type of node n, below the count, where those of the nodes before it are known.
-fn node_type(t: &[u8], s: table::Sections, types: &[u16], n: usize) -> usize
-    requires { ⌜ Of (now t) s ⌝ }
-    requires { ⌜ Holds (typeOf (tableOf (s .w) (now t))) n (now types) ⌝ }
-    ensures { λ r. ⌜ Field (typeOf (tableOf (s .w) (now (t .entry))) n) r ⌝ }
+fn node_type(c: &code::Slots, types: &[u16], n: usize) -> usize
+    requires { ⌜ Holds (typeOf (decoded (now c))) n (now types) ⌝ }
+    ensures { λ r. ⌜ Field (typeOf (decoded (now (c .entry))) n) r ⌝ }
 {
-    if table::nodes(t, s) <= n {
+    if code::nodes(c) <= n {
         return 65535;
     }
-    let k = table::node_kind(t, s, n);
-    let p = table::node_p(t, s, n);
+    let k = code::node_kind(c, n);
+    let p = code::node_p(c, n);
     if k == 0 {
         return p;
     }
     if k == 1 {
-        return table::var_type(t, s, p);
+        return code::var_type(c, p);
     }
     if k == 7 {
-        return table::node_q(t, s, n);
+        return code::node_q(c, n);
     }
-    operand_type(t, s, n, before(t, s, types, n, p))
+    operand_type(c, n, before(c, types, n, p))
 }
 
 // Finds the types of all nodes.
-pub fn find_types(t: &[u8], s: table::Sections, types: &mut [u16])
-    requires { ⌜ Of (now t) s ⌝ }
-    requires { ⌜ Room (tableOf (s .w) (now t)) (now types) ⌝ }
-    ensures { λ _. ⌜ Types (tableOf (s .w) (now (t .entry))) (now (types .exit)) ⌝ }
+pub fn find_types(c: &code::Slots, types: &mut [u16])
+    requires { ⌜ Room (decoded (now c)) (now types) ⌝ }
+    ensures { λ _. ⌜ Types (decoded (now (c .entry))) (now (types .exit)) ⌝ }
 {
-    let count = table::nodes(t, s);
+    let count = code::nodes(c);
     let mut n = 0;
     while n < count {
-        types[n] = narrow(node_type(t, s, types, n));
+        types[n] = narrow(node_type(c, types, n));
         n += 1;
     }
 }
 
 // The type of node n.
-pub fn type_of(t: &[u8], s: table::Sections, types: &[u16], n: usize) -> usize
-    requires { ⌜ Of (now t) s ⌝ }
-    requires { ⌜ Types (tableOf (s .w) (now t)) (now types) ⌝ }
-    ensures { λ r. ⌜ Field (typeOf (tableOf (s .w) (now (t .entry))) n) r ⌝ }
+pub fn type_of(c: &code::Slots, types: &[u16], n: usize) -> usize
+    requires { ⌜ Types (decoded (now c)) (now types) ⌝ }
+    ensures { λ r. ⌜ Field (typeOf (decoded (now (c .entry))) n) r ⌝ }
 {
-    if n < table::nodes(t, s) {
+    if n < code::nodes(c) {
         return wide(types[n]);
     }
     65535
@@ -179,34 +173,31 @@ fn span_of(low: usize, high: usize) -> usize
 }
 
 // How many elements an array type has.
-pub fn elements_of(t: &[u8], s: table::Sections, x: usize) -> usize
-    requires { ⌜ Of (now t) s ⌝ }
-    ensures { λ r. ⌜ (r ≡ elements (tableOf (s .w) (now (t .entry))) x) × (r ≤ 65536) ⌝ }
+pub fn elements_of(c: &code::Slots, x: usize) -> usize
+    ensures { λ r. ⌜ (r ≡ elements (decoded (now (c .entry))) x) × (r ≤ 65536) ⌝ }
 {
-    span_of(table::type_low(t, s, x), table::type_high(t, s, x))
+    span_of(code::type_low(c, x), code::type_high(c, x))
 }
 
-pub fn is_string(t: &[u8], s: table::Sections, x: usize) -> bool
-    requires { ⌜ Of (now t) s ⌝ }
-    ensures { λ r. ⌜ r ≡ isString (tableOf (s .w) (now (t .entry))) x ⌝ }
+pub fn is_string(c: &code::Slots, x: usize) -> bool
+    ensures { λ r. ⌜ r ≡ isString (decoded (now (c .entry))) x ⌝ }
 {
-    if table::type_kind(t, s, x) == 2 {
-        return table::type_q(t, s, x) == 2;
+    if code::type_kind(c, x) == 2 {
+        return code::type_q(c, x) == 2;
     }
     false
 }
 
 // The types x and y match.
-pub fn matching(t: &[u8], s: table::Sections, x: usize, y: usize) -> bool
-    requires { ⌜ Of (now t) s ⌝ }
-    ensures { λ r. ⌜ r ≡ matches (tableOf (s .w) (now (t .entry))) x y ⌝ }
+pub fn matching(c: &code::Slots, x: usize, y: usize) -> bool
+    ensures { λ r. ⌜ r ≡ matches (decoded (now (c .entry))) x y ⌝ }
 {
     if x == y {
         return true;
     }
-    if is_string(t, s, x) {
-        if is_string(t, s, y) {
-            return elements_of(t, s, x) == elements_of(t, s, y);
+    if is_string(c, x) {
+        if is_string(c, y) {
+            return elements_of(c, x) == elements_of(c, y);
         }
         return false;
     }

@@ -7,8 +7,9 @@ use borrow.Author.Tests.{eq-eqb, ne-eqb}
 use Rattle.basics.specs.Choice.{allBelow, Passed}
 use Rattle.basics.proofs.Passes.{passed-none, passed-more, passed-fail, passed-all}
 use Rattle.table.specs.Table.{Table, tableOf}
+use Rattle.code.specs.Code.{decoded, Decodes}
 use Rattle.table.specs.Entries.{firstVar, params}
-use Rattle.table.specs.Reading.{Of, Field}
+use Rattle.table.specs.Reading.{Field}
 use Rattle.table.specs.Parts.{argumentPart, argumentIn}
 use Rattle.table.specs.declared.Sections.{Sections}
 use Rattle.table.proofs.Parts.{each-argument}
@@ -31,18 +32,18 @@ pub ruleset counts = (passed-none, passed-more, count-fail, count-all)
 pub ruleset parameters = (passed-none, passed-more, passed-fail, passed-all, of-parameter)
 
 -- the arguments of a call
-module _ (t : List ℕ) (s : Sections) (o : Of t s) (b first count p : ℕ) (hp : p ≡ params (tableOf (s .w) t) b) where
-  pub arguments-other : (count ≡ p → ⊥) → false ≡ argumentsTyped (tableOf (s .w) t) b first count
-  unfolding argumentsTyped
-  arguments-other n = rw (← hp, ne-eqb count p n)
+pub arguments-other : (T : Table) (b first count p : ℕ) → p ≡ params T b → (count ≡ p → ⊥) → false ≡ argumentsTyped T b first count
+unfolding argumentsTyped
+arguments-other T b first count p hp n = rw (← hp, ne-eqb count p n)
 
-  pub arguments-each :
-      (x : ℕ) (part : List ℕ) (r : Bool) → count ≡ p → part ≡ argumentPart (s .w) t first count → x ≡ firstVar (tableOf (s .w) t) b
-      → r ≡ allBelow count (parameterIn (tableOf (s .w) t) (s .w) part x) → r ≡ argumentsTyped (tableOf (s .w) t) b first count
-  unfolding argumentsTyped parameterIn parameterTyped
-  arguments-each x part r e hpart hx h =
-      rw (← hp, eq-eqb count p e, ← hx)
-      (h ∙ rw hpart (each-argument t s o first count (λ k n. argumentTyped (tableOf (s .w) t) (x + k) n)))
+pub arguments-each :
+    (t : List ℕ) (s : Sections) (c : List ℕ) → Decodes t s c → (b first count p x : ℕ) (part : List ℕ) (r : Bool) → p ≡ params (decoded c) b
+    → count ≡ p → part ≡ argumentPart (s .w) t first count → x ≡ firstVar (decoded c) b
+    → r ≡ allBelow count (parameterIn (decoded c) (s .w) part x) → r ≡ argumentsTyped (decoded c) b first count
+unfolding argumentsTyped parameterIn parameterTyped
+arguments-each t s c o b first count p x part r hp e hpart hx h =
+    rw (← hp, eq-eqb count p e, ← hx)
+    (h ∙ rw (hpart, o .is) (each-argument t s (o .table) first count (λ k n. argumentTyped (tableOf (s .w) t) (x + k) n)))
 
 pub of-params : (T : Table) (b x c : ℕ) (r : Bool) → x ≡ firstVar T b → c ≡ params T b → r ≡ allBelow c (paramSimple T x) → r ≡ allBelow (params T b) (paramSimple T (firstVar T b))
 of-params T b x c r h g e = rw (← h, ← g) e

@@ -1,29 +1,27 @@
 // Refusal 9: the types of operands, guards, indexes, arguments and parameters.
 ghost use mathlib.Core.Path.{_≡_};
-ghost use Prim.Native.Nat.{_+_, _<_};
+ghost use Prim.Native.Nat.{_+_, _≤_, _<_};
 ghost use Rattle.basics.specs.Choice.{allBelow};
-ghost use Rattle.table.specs.Table.{tableOf};
+ghost use Rattle.code.specs.Code.{decoded, Decodes};
 ghost use Rattle.table.specs.Entries.{nodeP, nodeQ, stmtA, stmtB, nodeCount, stmtCount, blockCount};
-ghost use Rattle.table.specs.Reading.{Of, Field};
+ghost use Rattle.table.specs.Reading.{Field};
 ghost use Rattle.types.specs.Types.{typeOf, Types};
 ghost use Rattle.typing.specs.Typing.{isVariable, isExpression, constantTyped, elementTyped, unaryTyped, alikeTyped, binaryTyped, nodeTyped, argumentTyped, argumentsTyped, processCallTyped, startTyped, callTyped, writeTyped, stmtTyped, simple, paramSimple, paramsSimple, typed, parameterIn};
 
-fn is_variable(t: &[u8], s: table::Sections, n: usize) -> bool
-    requires { ⌜ Of (now t) s ⌝ }
-    ensures { λ r. ⌜ r ≡ isVariable (tableOf (s .w) (now (t .entry))) n ⌝ }
+fn is_variable(c: &code::Slots, n: usize) -> bool
+    ensures { λ r. ⌜ r ≡ isVariable (decoded (now (c .entry))) n ⌝ }
 {
-    let k = table::node_kind(t, s, n);
+    let k = code::node_kind(c, n);
     if 1 <= k {
         return k <= 3;
     }
     false
 }
 
-fn is_expression(t: &[u8], s: table::Sections, n: usize) -> bool
-    requires { ⌜ Of (now t) s ⌝ }
-    ensures { λ r. ⌜ r ≡ isExpression (tableOf (s .w) (now (t .entry))) n ⌝ }
+fn is_expression(c: &code::Slots, n: usize) -> bool
+    ensures { λ r. ⌜ r ≡ isExpression (decoded (now (c .entry))) n ⌝ }
 {
-    let k = table::node_kind(t, s, n);
+    let k = code::node_kind(c, n);
     if k == 0 {
         return true;
     }
@@ -46,12 +44,11 @@ fn constant_typed(x: usize, v: usize) -> bool
     true
 }
 
-fn element_typed(t: &[u8], s: table::Sections, x: usize, y: usize) -> bool
-    requires { ⌜ Of (now t) s ⌝ }
-    ensures { λ r. ⌜ r ≡ elementTyped (tableOf (s .w) (now (t .entry))) x y ⌝ }
+fn element_typed(c: &code::Slots, x: usize, y: usize) -> bool
+    ensures { λ r. ⌜ r ≡ elementTyped (decoded (now (c .entry))) x y ⌝ }
 {
-    if table::type_kind(t, s, x) == 2 {
-        return y == table::type_p(t, s, x);
+    if code::type_kind(c, x) == 2 {
+        return y == code::type_p(c, x);
     }
     false
 }
@@ -77,12 +74,11 @@ fn alike_typed(o: usize, x: usize) -> bool
     x <= 1
 }
 
-fn binary_typed(t: &[u8], s: table::Sections, o: usize, x: usize, y: usize) -> bool
-    requires { ⌜ Of (now t) s ⌝ }
-    ensures { λ r. ⌜ r ≡ binaryTyped (tableOf (s .w) (now (t .entry))) o x y ⌝ }
+fn binary_typed(c: &code::Slots, o: usize, x: usize, y: usize) -> bool
+    ensures { λ r. ⌜ r ≡ binaryTyped (decoded (now (c .entry))) o x y ⌝ }
 {
     if o <= 2 {
-        return types::matching(t, s, x, y);
+        return types::matching(c, x, y);
     }
     if x == y {
         return alike_typed(o, x);
@@ -91,87 +87,74 @@ fn binary_typed(t: &[u8], s: table::Sections, o: usize, x: usize, y: usize) -> b
 }
 
 // The types of the operands of node n.
-fn type_p(t: &[u8], s: table::Sections, types: &[u16], n: usize) -> usize
-    requires { ⌜ Of (now t) s ⌝ }
-    requires { ⌜ Types (tableOf (s .w) (now t)) (now types) ⌝ }
-    ensures { λ r. ⌜ Field (typeOf (tableOf (s .w) (now (t .entry))) (nodeP (tableOf (s .w) (now (t .entry))) n)) r ⌝ }
+fn type_p(c: &code::Slots, types: &[u16], n: usize) -> usize
+    requires { ⌜ Types (decoded (now c)) (now types) ⌝ }
+    ensures { λ r. ⌜ Field (typeOf (decoded (now (c .entry))) (nodeP (decoded (now (c .entry))) n)) r ⌝ }
 {
-    types::type_of(t, s, types, table::node_p(t, s, n))
+    types::type_of(c, types, code::node_p(c, n))
 }
 
-fn type_q(t: &[u8], s: table::Sections, types: &[u16], n: usize) -> usize
-    requires { ⌜ Of (now t) s ⌝ }
-    requires { ⌜ Types (tableOf (s .w) (now t)) (now types) ⌝ }
-    ensures { λ r. ⌜ Field (typeOf (tableOf (s .w) (now (t .entry))) (nodeQ (tableOf (s .w) (now (t .entry))) n)) r ⌝ }
+fn type_q(c: &code::Slots, types: &[u16], n: usize) -> usize
+    requires { ⌜ Types (decoded (now c)) (now types) ⌝ }
+    ensures { λ r. ⌜ Field (typeOf (decoded (now (c .entry))) (nodeQ (decoded (now (c .entry))) n)) r ⌝ }
 {
-    types::type_of(t, s, types, table::node_q(t, s, n))
+    types::type_of(c, types, code::node_q(c, n))
 }
 
-fn node_typed(t: &[u8], s: table::Sections, types: &[u16], n: usize) -> bool
-    requires { ⌜ Of (now t) s ⌝ }
-    requires { ⌜ Types (tableOf (s .w) (now t)) (now types) ⌝ }
-    ensures { λ r. ⌜ r ≡ nodeTyped (tableOf (s .w) (now (t .entry))) n ⌝ }
+fn node_typed(c: &code::Slots, types: &[u16], n: usize) -> bool
+    requires { ⌜ Types (decoded (now c)) (now types) ⌝ }
+    ensures { λ r. ⌜ r ≡ nodeTyped (decoded (now (c .entry))) n ⌝ }
 {
-    let k = table::node_kind(t, s, n);
+    let k = code::node_kind(c, n);
     if k == 0 {
-        return constant_typed(table::node_p(t, s, n), table::node_v(t, s, n));
+        return constant_typed(code::node_p(c, n), code::node_v(c, n));
     }
     if k == 2 {
-        return table::type_kind(t, s, type_p(t, s, types, n)) == 1;
+        return code::type_kind(c, type_p(c, types, n)) == 1;
     }
     if k == 3 {
-        return element_typed(t, s, type_p(t, s, types, n), type_q(t, s, types, n));
+        return element_typed(c, type_p(c, types, n), type_q(c, types, n));
     }
     if k == 5 {
-        return unary_typed(table::node_q(t, s, n), type_p(t, s, types, n));
+        return unary_typed(code::node_q(c, n), type_p(c, types, n));
     }
     if k == 6 {
-        let o = table::node_v(t, s, n);
-        return binary_typed(t, s, o, type_p(t, s, types, n), type_q(t, s, types, n));
+        let o = code::node_v(c, n);
+        return binary_typed(c, o, type_p(c, types, n), type_q(c, types, n));
     }
     if k == 7 {
-        return type_p(t, s, types, n) <= 2;
+        return type_p(c, types, n) <= 2;
     }
     true
 }
 
-fn argument_typed(t: &[u8], s: table::Sections, types: &[u16], x: usize, n: usize) -> bool
-    requires { ⌜ Of (now t) s ⌝ }
-    requires { ⌜ Types (tableOf (s .w) (now t)) (now types) ⌝ }
-    ensures { λ r. ⌜ r ≡ argumentTyped (tableOf (s .w) (now (t .entry))) x n ⌝ }
+fn argument_typed(c: &code::Slots, types: &[u16], x: usize, n: usize) -> bool
+    requires { ⌜ Types (decoded (now c)) (now types) ⌝ }
+    ensures { λ r. ⌜ r ≡ argumentTyped (decoded (now (c .entry))) x n ⌝ }
 {
-    let a = types::type_of(t, s, types, n);
-    let p = table::var_type(t, s, x);
-    if table::var_mode(t, s, x) == 2 {
-        if is_variable(t, s, n) {
+    let a = types::type_of(c, types, n);
+    let p = code::var_type(c, x);
+    if code::var_mode(c, x) == 2 {
+        if is_variable(c, n) {
             return a == p;
         }
         return false;
     }
-    if is_expression(t, s, n) {
-        return types::matching(t, s, a, p);
+    if is_expression(c, n) {
+        return types::matching(c, a, p);
     }
     false
 }
 
-// Each of the arguments that a part holds is one for its parameter, of those from x on.
-fn part_typed(
-    t: &[u8],
-    s: table::Sections,
-    types: &[u16],
-    part: &[u8],
-    x: usize,
-    count: usize,
-) -> bool
-    requires { ⌜ Of (now t) s ⌝ }
-    requires { ⌜ Types (tableOf (s .w) (now t)) (now types) ⌝ }
-    requires { ⌜ (x < 65536) × (count < 65536) ⌝ }
-    ensures { λ r. ⌜ r ≡ allBelow count (parameterIn (tableOf (s .w) (now (t .entry))) (s .w) (now (part .entry)) x) ⌝ }
+// Each of the arguments that a part holds, in numbers of w bytes, is one for its parameter, of those from x on.
+fn part_typed(c: &code::Slots, types: &[u16], part: &[u8], w: usize, x: usize, count: usize) -> bool
+    requires { ⌜ Types (decoded (now c)) (now types) ⌝ }
+    requires { ⌜ (1 ≤ w) × (w ≤ 2) × (x < 65536) × (count < 65536) ⌝ }
+    ensures { λ r. ⌜ r ≡ allBelow count (parameterIn (decoded (now (c .entry))) w (now (part .entry)) x) ⌝ }
 {
-    let w = s.w;
     let mut k = 0;
     while k < count {
-        if argument_typed(t, s, types, x + k, table::argument(part, w, k)) {
+        if argument_typed(c, types, x + k, table::argument(part, w, k)) {
             k += 1;
         } else {
             return false;
@@ -184,18 +167,19 @@ fn part_typed(
 fn arguments_typed(
     t: &[u8],
     s: table::Sections,
+    c: &code::Slots,
     types: &[u16],
     b: usize,
     first: usize,
     count: usize,
 ) -> bool
-    requires { ⌜ Of (now t) s ⌝ }
-    requires { ⌜ Types (tableOf (s .w) (now t)) (now types) ⌝ }
-    ensures { λ r. ⌜ r ≡ argumentsTyped (tableOf (s .w) (now (t .entry))) b first count ⌝ }
+    requires { ⌜ Decodes (now t) s (now c) ⌝ }
+    requires { ⌜ Types (decoded (now c)) (now types) ⌝ }
+    ensures { λ r. ⌜ r ≡ argumentsTyped (decoded (now (c .entry))) b first count ⌝ }
 {
-    if count == table::block_params(t, s, b) {
+    if count == code::block_params(c, b) {
         let part = table::call_arguments(t, s, first, count);
-        return part_typed(t, s, types, part, table::first_var(t, s, b), count);
+        return part_typed(c, types, part, s.w, code::first_var(c, b), count);
     }
     false
 }
@@ -203,19 +187,20 @@ fn arguments_typed(
 fn process_call_typed(
     t: &[u8],
     s: table::Sections,
+    c: &code::Slots,
     types: &[u16],
     x: usize,
     b: usize,
     first: usize,
     count: usize,
 ) -> bool
-    requires { ⌜ Of (now t) s ⌝ }
-    requires { ⌜ Types (tableOf (s .w) (now t)) (now types) ⌝ }
-    ensures { λ r. ⌜ r ≡ processCallTyped (tableOf (s .w) (now (t .entry))) x b first count ⌝ }
+    requires { ⌜ Decodes (now t) s (now c) ⌝ }
+    requires { ⌜ Types (decoded (now c)) (now types) ⌝ }
+    ensures { λ r. ⌜ r ≡ processCallTyped (decoded (now (c .entry))) x b first count ⌝ }
 {
-    if table::type_kind(t, s, x) == 3 {
-        if table::block_owner(t, s, b) == table::type_p(t, s, x) {
-            return arguments_typed(t, s, types, b, first, count);
+    if code::type_kind(c, x) == 3 {
+        if code::block_owner(c, b) == code::type_p(c, x) {
+            return arguments_typed(t, s, c, types, b, first, count);
         }
         return false;
     }
@@ -225,58 +210,57 @@ fn process_call_typed(
 fn start_typed(
     t: &[u8],
     s: table::Sections,
+    c: &code::Slots,
     types: &[u16],
     x: usize,
     first: usize,
     count: usize,
 ) -> bool
-    requires { ⌜ Of (now t) s ⌝ }
-    requires { ⌜ Types (tableOf (s .w) (now t)) (now types) ⌝ }
-    ensures { λ r. ⌜ r ≡ startTyped (tableOf (s .w) (now (t .entry))) x first count ⌝ }
+    requires { ⌜ Decodes (now t) s (now c) ⌝ }
+    requires { ⌜ Types (decoded (now c)) (now types) ⌝ }
+    ensures { λ r. ⌜ r ≡ startTyped (decoded (now (c .entry))) x first count ⌝ }
 {
-    if table::type_kind(t, s, x) == 3 {
-        return arguments_typed(t, s, types, table::type_p(t, s, x), first, count);
+    if code::type_kind(c, x) == 3 {
+        return arguments_typed(t, s, c, types, code::type_p(c, x), first, count);
     }
     false
 }
 
 // The types of the nodes of statement i.
-fn type_a(t: &[u8], s: table::Sections, types: &[u16], i: usize) -> usize
-    requires { ⌜ Of (now t) s ⌝ }
-    requires { ⌜ Types (tableOf (s .w) (now t)) (now types) ⌝ }
-    ensures { λ r. ⌜ Field (typeOf (tableOf (s .w) (now (t .entry))) (stmtA (tableOf (s .w) (now (t .entry))) i)) r ⌝ }
+fn type_a(c: &code::Slots, types: &[u16], i: usize) -> usize
+    requires { ⌜ Types (decoded (now c)) (now types) ⌝ }
+    ensures { λ r. ⌜ Field (typeOf (decoded (now (c .entry))) (stmtA (decoded (now (c .entry))) i)) r ⌝ }
 {
-    types::type_of(t, s, types, table::stmt_a(t, s, i))
+    types::type_of(c, types, code::stmt_a(c, i))
 }
 
-fn type_b(t: &[u8], s: table::Sections, types: &[u16], i: usize) -> usize
-    requires { ⌜ Of (now t) s ⌝ }
-    requires { ⌜ Types (tableOf (s .w) (now t)) (now types) ⌝ }
-    ensures { λ r. ⌜ Field (typeOf (tableOf (s .w) (now (t .entry))) (stmtB (tableOf (s .w) (now (t .entry))) i)) r ⌝ }
+fn type_b(c: &code::Slots, types: &[u16], i: usize) -> usize
+    requires { ⌜ Types (decoded (now c)) (now types) ⌝ }
+    ensures { λ r. ⌜ Field (typeOf (decoded (now (c .entry))) (stmtB (decoded (now (c .entry))) i)) r ⌝ }
 {
-    types::type_of(t, s, types, table::stmt_b(t, s, i))
+    types::type_of(c, types, code::stmt_b(c, i))
 }
 
-fn call_typed(t: &[u8], s: table::Sections, types: &[u16], i: usize) -> bool
-    requires { ⌜ Of (now t) s ⌝ }
-    requires { ⌜ Types (tableOf (s .w) (now t)) (now types) ⌝ }
-    ensures { λ r. ⌜ r ≡ callTyped (tableOf (s .w) (now (t .entry))) i ⌝ }
+fn call_typed(t: &[u8], s: table::Sections, c: &code::Slots, types: &[u16], i: usize) -> bool
+    requires { ⌜ Decodes (now t) s (now c) ⌝ }
+    requires { ⌜ Types (decoded (now c)) (now types) ⌝ }
+    ensures { λ r. ⌜ r ≡ callTyped (decoded (now (c .entry))) i ⌝ }
 {
-    let k = table::stmt_kind(t, s, i);
-    let c = table::stmt_c(t, s, i);
-    let d = table::stmt_d(t, s, i);
+    let k = code::stmt_kind(c, i);
+    let first = code::stmt_c(c, i);
+    let count = code::stmt_d(c, i);
     if k == 2 {
-        return arguments_typed(t, s, types, table::stmt_a(t, s, i), c, d);
+        return arguments_typed(t, s, c, types, code::stmt_a(c, i), first, count);
     }
     if k == 3 {
-        let x = type_a(t, s, types, i);
-        return process_call_typed(t, s, types, x, table::stmt_b(t, s, i), c, d);
+        let x = type_a(c, types, i);
+        return process_call_typed(t, s, c, types, x, code::stmt_b(c, i), first, count);
     }
     if k == 4 {
-        return table::type_kind(t, s, type_a(t, s, types, i)) == 3;
+        return code::type_kind(c, type_a(c, types, i)) == 3;
     }
     if k == 5 {
-        return start_typed(t, s, types, type_a(t, s, types, i), c, d);
+        return start_typed(t, s, c, types, type_a(c, types, i), first, count);
     }
     true
 }
@@ -290,53 +274,50 @@ fn write_typed(x: usize, y: usize) -> bool
     false
 }
 
-fn stmt_typed(t: &[u8], s: table::Sections, types: &[u16], i: usize) -> bool
-    requires { ⌜ Of (now t) s ⌝ }
-    requires { ⌜ Types (tableOf (s .w) (now t)) (now types) ⌝ }
-    ensures { λ r. ⌜ r ≡ stmtTyped (tableOf (s .w) (now (t .entry))) i ⌝ }
+fn stmt_typed(t: &[u8], s: table::Sections, c: &code::Slots, types: &[u16], i: usize) -> bool
+    requires { ⌜ Decodes (now t) s (now c) ⌝ }
+    requires { ⌜ Types (decoded (now c)) (now types) ⌝ }
+    ensures { λ r. ⌜ r ≡ stmtTyped (decoded (now (c .entry))) i ⌝ }
 {
-    let k = table::stmt_kind(t, s, i);
+    let k = code::stmt_kind(c, i);
     if k == 1 {
-        return types::matching(t, s, type_a(t, s, types, i), type_b(t, s, types, i));
+        return types::matching(c, type_a(c, types, i), type_b(c, types, i));
     }
     if k == 10 {
-        return type_a(t, s, types, i) == 1;
+        return type_a(c, types, i) == 1;
     }
     if k == 12 {
-        return write_typed(type_a(t, s, types, i), type_b(t, s, types, i));
+        return write_typed(type_a(c, types, i), type_b(c, types, i));
     }
-    call_typed(t, s, types, i)
+    call_typed(t, s, c, types, i)
 }
 
-fn is_simple(t: &[u8], s: table::Sections, x: usize) -> bool
-    requires { ⌜ Of (now t) s ⌝ }
-    ensures { λ r. ⌜ r ≡ simple (tableOf (s .w) (now (t .entry))) x ⌝ }
+fn is_simple(c: &code::Slots, x: usize) -> bool
+    ensures { λ r. ⌜ r ≡ simple (decoded (now (c .entry))) x ⌝ }
 {
     if x <= 2 {
         return true;
     }
-    table::type_kind(t, s, x) == 3
+    code::type_kind(c, x) == 3
 }
 
-fn param_simple(t: &[u8], s: table::Sections, x: usize, k: usize) -> bool
-    requires { ⌜ Of (now t) s ⌝ }
+fn param_simple(c: &code::Slots, x: usize, k: usize) -> bool
     requires { ⌜ (x < 65536) × (k < 65536) ⌝ }
-    ensures { λ r. ⌜ r ≡ paramSimple (tableOf (s .w) (now (t .entry))) x k ⌝ }
+    ensures { λ r. ⌜ r ≡ paramSimple (decoded (now (c .entry))) x k ⌝ }
 {
-    if table::var_mode(t, s, x + k) == 1 {
-        return is_simple(t, s, table::var_type(t, s, x + k));
+    if code::var_mode(c, x + k) == 1 {
+        return is_simple(c, code::var_type(c, x + k));
     }
     false
 }
 
-fn each_simple(t: &[u8], s: table::Sections, x: usize, count: usize) -> bool
-    requires { ⌜ Of (now t) s ⌝ }
+fn each_simple(c: &code::Slots, x: usize, count: usize) -> bool
     requires { ⌜ (x < 65536) × (count < 65536) ⌝ }
-    ensures { λ r. ⌜ r ≡ allBelow count (paramSimple (tableOf (s .w) (now (t .entry))) x) ⌝ }
+    ensures { λ r. ⌜ r ≡ allBelow count (paramSimple (decoded (now (c .entry))) x) ⌝ }
 {
     let mut k = 0;
     while k < count {
-        if param_simple(t, s, x, k) {
+        if param_simple(c, x, k) {
             k += 1;
         } else {
             return false;
@@ -345,30 +326,23 @@ fn each_simple(t: &[u8], s: table::Sections, x: usize, count: usize) -> bool
     true
 }
 
-fn params_simple(t: &[u8], s: table::Sections, b: usize) -> bool
-    requires { ⌜ Of (now t) s ⌝ }
-    ensures { λ r. ⌜ r ≡ paramsSimple (tableOf (s .w) (now (t .entry))) b ⌝ }
+fn params_simple(c: &code::Slots, b: usize) -> bool
+    ensures { λ r. ⌜ r ≡ paramsSimple (decoded (now (c .entry))) b ⌝ }
 {
-    if table::block_kind(t, s, b) == 1 {
-        return each_simple(
-            t,
-            s,
-            table::first_var(t, s, b),
-            table::block_params(t, s, b),
-        );
+    if code::block_kind(c, b) == 1 {
+        return each_simple(c, code::first_var(c, b), code::block_params(c, b));
     }
     true
 }
 
-fn nodes_typed(t: &[u8], s: table::Sections, types: &[u16]) -> bool
-    requires { ⌜ Of (now t) s ⌝ }
-    requires { ⌜ Types (tableOf (s .w) (now t)) (now types) ⌝ }
-    ensures { λ r. ⌜ r ≡ allBelow (nodeCount (tableOf (s .w) (now (t .entry)))) (nodeTyped (tableOf (s .w) (now (t .entry)))) ⌝ }
+fn nodes_typed(c: &code::Slots, types: &[u16]) -> bool
+    requires { ⌜ Types (decoded (now c)) (now types) ⌝ }
+    ensures { λ r. ⌜ r ≡ allBelow (nodeCount (decoded (now (c .entry)))) (nodeTyped (decoded (now (c .entry)))) ⌝ }
 {
-    let count = table::nodes(t, s);
+    let count = code::nodes(c);
     let mut n = 0;
     while n < count {
-        if node_typed(t, s, types, n) {
+        if node_typed(c, types, n) {
             n += 1;
         } else {
             return false;
@@ -377,15 +351,15 @@ fn nodes_typed(t: &[u8], s: table::Sections, types: &[u16]) -> bool
     true
 }
 
-fn statements_typed(t: &[u8], s: table::Sections, types: &[u16]) -> bool
-    requires { ⌜ Of (now t) s ⌝ }
-    requires { ⌜ Types (tableOf (s .w) (now t)) (now types) ⌝ }
-    ensures { λ r. ⌜ r ≡ allBelow (stmtCount (tableOf (s .w) (now (t .entry)))) (stmtTyped (tableOf (s .w) (now (t .entry)))) ⌝ }
+fn statements_typed(t: &[u8], s: table::Sections, c: &code::Slots, types: &[u16]) -> bool
+    requires { ⌜ Decodes (now t) s (now c) ⌝ }
+    requires { ⌜ Types (decoded (now c)) (now types) ⌝ }
+    ensures { λ r. ⌜ r ≡ allBelow (stmtCount (decoded (now (c .entry)))) (stmtTyped (decoded (now (c .entry)))) ⌝ }
 {
-    let count = table::statements(t, s);
+    let count = code::statements(c);
     let mut i = 0;
     while i < count {
-        if stmt_typed(t, s, types, i) {
+        if stmt_typed(t, s, c, types, i) {
             i += 1;
         } else {
             return false;
@@ -394,14 +368,13 @@ fn statements_typed(t: &[u8], s: table::Sections, types: &[u16]) -> bool
     true
 }
 
-fn blocks_simple(t: &[u8], s: table::Sections) -> bool
-    requires { ⌜ Of (now t) s ⌝ }
-    ensures { λ r. ⌜ r ≡ allBelow (blockCount (tableOf (s .w) (now (t .entry)))) (paramsSimple (tableOf (s .w) (now (t .entry)))) ⌝ }
+fn blocks_simple(c: &code::Slots) -> bool
+    ensures { λ r. ⌜ r ≡ allBelow (blockCount (decoded (now (c .entry)))) (paramsSimple (decoded (now (c .entry)))) ⌝ }
 {
-    let count = table::blocks(t, s);
+    let count = code::blocks(c);
     let mut b = 0;
     while b < count {
-        if params_simple(t, s, b) {
+        if params_simple(c, b) {
             b += 1;
         } else {
             return false;
@@ -411,14 +384,14 @@ fn blocks_simple(t: &[u8], s: table::Sections) -> bool
 }
 
 // Whether a table keeps the rule of refusal 9; `types` are those of its nodes.
-pub fn all_typed(t: &[u8], s: table::Sections, types: &[u16]) -> bool
-    requires { ⌜ Of (now t) s ⌝ }
-    requires { ⌜ Types (tableOf (s .w) (now t)) (now types) ⌝ }
-    ensures { λ r. ⌜ r ≡ typed (tableOf (s .w) (now (t .entry))) ⌝ }
+pub fn all_typed(t: &[u8], s: table::Sections, c: &code::Slots, types: &[u16]) -> bool
+    requires { ⌜ Decodes (now t) s (now c) ⌝ }
+    requires { ⌜ Types (decoded (now c)) (now types) ⌝ }
+    ensures { λ r. ⌜ r ≡ typed (decoded (now (c .entry))) ⌝ }
 {
-    if nodes_typed(t, s, types) {
-        if statements_typed(t, s, types) {
-            return blocks_simple(t, s);
+    if nodes_typed(c, types) {
+        if statements_typed(t, s, c, types) {
+            return blocks_simple(c);
         }
         return false;
     }

@@ -6,19 +6,27 @@ use lib.ListN.{length, getD, replicate, length-replicate, getD-replicate}
 use native.Mathlib.Omega.{arith}
 use Rattle.table.specs.Bytes.{begins}
 use Rattle.table.specs.Table.{Table, tableOf, countAt}
-use Rattle.table.specs.Entries.{nodeCount, typeCount, blockCount}
+use Rattle.table.specs.Entries.{nodeCount}
+use Rattle.table.specs.Reading.{Of}
+use Rattle.table.specs.declared.Sections.{Sections}
+use Rattle.code.specs.Code.{decoded, Decodes}
+use Rattle.code.specs.Decoding.{Blank, Decodable}
+use Rattle.code.proofs.Blanks.{new-room}
 use Rattle.uses.proofs.Blanks.{blank-new}
+use Rattle.sizes.proofs.Counting.{kind-none}
 use mathlib.Core.Path.{sym, _∙_}
 use mathlib.Core.Bool.{Bool, true, false}
+use lib.Dec.{ltb}
 use Rattle.table.specs.Bytes.{whole}
-use Rattle.basics.specs.Choice.{pick}
+use Rattle.basics.specs.Choice.{pick, cases}
 use Rattle.verdict.specs.Rooms.{Rooms}
+use Rattle.verdict.specs.Checked.{Checked}
 use Rattle.verdict.specs.Verdict.{judged, verdict}
 
 module _ (t : List ℕ) (bytes : (i : ℕ) → getD t i 0 < 256) where
   count-small : (k : ℕ) → tableOf 1 t .count k < 256
   unfolding tableOf countAt
-  count-small k = bytes (begins 1 t k)
+  count-small k = cases (ltb k 7) (λ e. rw e (bytes (begins 1 t k))) (λ e. rw e (omega arith))
 
   rooms-1 : Rooms (tableOf 1 t) (replicate 256 0) (replicate 258 0) (replicate 256 0) (replicate 256 0)
   rooms-1 =
@@ -27,7 +35,7 @@ module _ (t : List ℕ) (bytes : (i : ℕ) → getD t i 0 < 256) where
       let b = count-small 3 in
       record {
         forTypes = record { room = rw (length-replicate {A = ℕ} 256 0) (omega arith) };
-        forSizes = record { room = rw (length-replicate {A = ℕ} 258 0) (omega arith) };
+        forSizes = record { room = rw (length-replicate {A = ℕ} 258 0) (omega arith); beyond = kind-none 1 t };
         forBlocks = record {
           long = rw (length-replicate {A = ℕ} 256 0) (omega arith);
           clear = λ j h. getD-replicate {A = ℕ} 256 j 0 0 (rw (length-replicate {A = ℕ} 256 0) at h);
@@ -35,15 +43,22 @@ module _ (t : List ℕ) (bytes : (i : ℕ) → getD t i 0 < 256) where
         forNodes = blank-new (nodeCount (tableOf 1 t)) 256 (omega arith);
       }
 
-  pub rooms-small : (w : ℕ) → w ≡ 1 → Rooms (tableOf w t) (replicate 256 0) (replicate 258 0) (replicate 256 0) (replicate 256 0)
-  rooms-small w e = rw e rooms-1
+  pub rooms-small : (s : Sections) (c : List ℕ) → Decodes t s c → s .w ≡ 1 → Rooms (decoded c) (replicate 256 0) (replicate 258 0) (replicate 256 0) (replicate 256 0)
+  rooms-small s c d e = rw (d .is, e) rooms-1
+
+  -- a row for each row, and then the table
+  pub decodable-small : (s : Sections) (c : List ℕ) → Of t s → s .w ≡ 1 → Blank c → Decodable t s c
+  decodable-small s c o e b = record { table = o; blank = b; room = rw e (new-room t bytes) }
 
 -- the verdict, from what the reader of the sections answered
 module _ (t : List ℕ) (f : Bool) (e : f ≡ whole 1 t) where
-  pub verdict-found : (w r : ℕ) → f ≡ true → w ≡ 1 → r ≡ judged (tableOf w t) → r ≡ verdict 1 t
+  pub checked-found : (w r : ℕ) (c : List ℕ) → f ≡ true → w ≡ 1 → decoded c ≡ tableOf w t → length c ≡ 8256 → r ≡ judged (decoded c) → Checked t r c
   unfolding verdict
-  verdict-found w r h g x = let y : whole 1 t ≡ true = sym e ∙ h in rw y (rw g at x)
+  checked-found w r c h g d l x =
+      let y : whole 1 t ≡ true = sym e ∙ h in
+      let q : decoded c ≡ tableOf 1 t = rw (← g) d in
+      record { is = rw y (rw q at x); table = λ z. q; long = l }
 
-  pub verdict-none : f ≡ false → 2 ≡ verdict 1 t
+  pub checked-none : (c : List ℕ) → f ≡ false → length c ≡ 8256 → Checked t 2 c
   unfolding verdict
-  verdict-none h = let y : whole 1 t ≡ false = sym e ∙ h in rw y
+  checked-none c h l = let y : whole 1 t ≡ false = sym e ∙ h in record { is = rw y; table = λ z. absurd (omega arith); long = l }

@@ -1,3 +1,4 @@
 pub mod Verdict
 pub mod Rooms
 pub mod Accepted
+pub mod Checked

@@ -1,25 +1,32 @@
 // The verdict on a table: the lowest refusal that applies, 0 where none does (01, Verdicts and other refusals).
 ghost use mathlib.Core.Path.{_≡_};
-ghost use Rattle.table.specs.Table.{tableOf};
-ghost use Rattle.table.specs.Reading.{Of};
+ghost use Rattle.table.specs.Entries.{nodeCount};
+ghost use Rattle.code.specs.Code.{decoded, Decodes};
+ghost use Rattle.code.specs.Decoding as decoding;
 ghost use Rattle.types.specs.Types.{Types};
 ghost use Rattle.sizes.specs.Sizes.{Room};
 ghost use Rattle.uses.specs.Marked.{Blank};
-ghost use Rattle.table.specs.Entries.{nodeCount};
 ghost use Rattle.verdict.specs.Verdict.{judged, judgedUses, judgedLate, verdict};
 ghost use Rattle.verdict.specs.Rooms.{Rooms};
+ghost use Rattle.verdict.specs.Checked.{Checked};
 
 // Refusals 7 to 9, of a table that the earlier rules accept.
-fn judge_late(t: &[u8], s: table::Sections, types: &[u16], sizes: &mut [u16]) -> u32
-    requires { ⌜ Of (now t) s ⌝ }
-    requires { ⌜ Types (tableOf (s .w) (now t)) (now types) ⌝ }
-    requires { ⌜ Room (tableOf (s .w) (now t)) (now sizes) ⌝ }
-    ensures { λ r. ⌜ r ≡ judgedLate (tableOf (s .w) (now (t .entry))) ⌝ }
+fn judge_late(
+    t: &[u8],
+    s: table::Sections,
+    c: &code::Slots,
+    types: &[u16],
+    sizes: &mut [u16],
+) -> u32
+    requires { ⌜ Decodes (now t) s (now c) ⌝ }
+    requires { ⌜ Types (decoded (now c)) (now types) ⌝ }
+    requires { ⌜ Room (decoded (now c)) (now sizes) ⌝ }
+    ensures { λ r. ⌜ r ≡ judgedLate (decoded (now (c .entry))) ⌝ }
 {
-    sizes::find_sizes(t, s, sizes);
-    if sizes::all_sized(t, s, sizes) {
-        if scopes::all_scoped(t, s) {
-            if typing::all_typed(t, s, types) {
+    sizes::find_sizes(c, sizes);
+    if sizes::all_sized(c, sizes) {
+        if scopes::all_scoped(t, s, c) {
+            if typing::all_typed(t, s, c, types) {
                 return 0;
             }
             return 9;
@@ -33,19 +40,20 @@ fn judge_late(t: &[u8], s: table::Sections, types: &[u16], sizes: &mut [u16]) ->
 fn judge_uses(
     t: &[u8],
     s: table::Sections,
+    c: &code::Slots,
     types: &[u16],
     sizes: &mut [u16],
     seen: &mut [u8],
 ) -> u32
-    requires { ⌜ Of (now t) s ⌝ }
-    requires { ⌜ Types (tableOf (s .w) (now t)) (now types) ⌝ }
-    requires { ⌜ Room (tableOf (s .w) (now t)) (now sizes) ⌝ }
-    requires { ⌜ Blank (nodeCount (tableOf (s .w) (now t))) (now seen) ⌝ }
-    ensures { λ r. ⌜ r ≡ judgedUses (tableOf (s .w) (now (t .entry))) ⌝ }
+    requires { ⌜ Decodes (now t) s (now c) ⌝ }
+    requires { ⌜ Types (decoded (now c)) (now types) ⌝ }
+    requires { ⌜ Room (decoded (now c)) (now sizes) ⌝ }
+    requires { ⌜ Blank (nodeCount (decoded (now c))) (now seen) ⌝ }
+    ensures { λ r. ⌜ r ≡ judgedUses (decoded (now (c .entry))) ⌝ }
 {
-    if uses::each_once(t, s, seen) {
-        if nesting::all_nested(t, s) {
-            return judge_late(t, s, types, sizes);
+    if uses::each_once(c, seen) {
+        if nesting::all_nested(c) {
+            return judge_late(t, s, c, types, sizes);
         }
         return 6;
     }
@@ -56,19 +64,20 @@ fn judge_uses(
 fn judge(
     t: &[u8],
     s: table::Sections,
+    c: &code::Slots,
     types: &mut [u16],
     sizes: &mut [u16],
     marks: &mut [u8],
     seen: &mut [u8],
 ) -> u32
-    requires { ⌜ Of (now t) s ⌝ }
-    requires { ⌜ Rooms (tableOf (s .w) (now t)) (now types) (now sizes) (now marks) (now seen) ⌝ }
-    ensures { λ r. ⌜ r ≡ judged (tableOf (s .w) (now (t .entry))) ⌝ }
+    requires { ⌜ Decodes (now t) s (now c) ⌝ }
+    requires { ⌜ Rooms (decoded (now c)) (now types) (now sizes) (now marks) (now seen) ⌝ }
+    ensures { λ r. ⌜ r ≡ judged (decoded (now (c .entry))) ⌝ }
 {
-    types::find_types(t, s, types);
-    if entries::all_known(t, s) {
-        if numbers::in_range(t, s, types, marks) {
-            return judge_uses(t, s, types, sizes, seen);
+    types::find_types(c, types);
+    if entries::all_known(c) {
+        if numbers::in_range(c, types, marks) {
+            return judge_uses(t, s, c, types, sizes, seen);
         }
         return 4;
     }
@@ -76,10 +85,10 @@ fn judge(
 }
 
 // The arrays of the small edition: sections of at most 255 rows.
-fn judge_small(t: &[u8], s: table::Sections) -> u32
-    requires { ⌜ Of (now t) s ⌝ }
+fn judge_small(t: &[u8], s: table::Sections, c: &code::Slots) -> u32
+    requires { ⌜ Decodes (now t) s (now c) ⌝ }
     requires { ⌜ s .w ≡ 1 ⌝ }
-    ensures { λ r. ⌜ r ≡ judged (tableOf (s .w) (now (t .entry))) ⌝ }
+    ensures { λ r. ⌜ r ≡ judged (decoded (now (c .entry))) ⌝ }
 {
     let mut types = [0u16; 256];
     let mut sizes = [0u16; 258];
@@ -88,6 +97,7 @@ fn judge_small(t: &[u8], s: table::Sections) -> u32
     judge(
         t,
         s,
+        c,
         &mut types[..],
         &mut sizes[..],
         &mut marks[..],
@@ -95,13 +105,24 @@ fn judge_small(t: &[u8], s: table::Sections) -> u32
     )
 }
 
-// The verdict on any bytes, in the small edition.
-pub fn check(t: &[u8]) -> u32
-    ensures { λ r. ⌜ r ≡ verdict 1 (now (t .entry)) ⌝ }
+// The verdict on any bytes, in the small edition; the table of bytes that are accepted is left decoded.
+pub fn check_into(t: &[u8], c: &mut code::Slots) -> u32
+    requires { ⌜ decoding.Blank (now c) ⌝ }
+    ensures { λ r. ⌜ Checked (now (t .entry)) r (now (c .exit)) ⌝ }
 {
     let r = table::read_sections(t, 1);
     if r.found {
-        return judge_small(t, r.sections);
+        let s = r.sections;
+        code::decode::decode(t, s, c);
+        return judge_small(t, s, c);
     }
     2
+}
+
+// The verdict alone.
+pub fn check(t: &[u8]) -> u32
+    ensures { λ r. ⌜ r ≡ verdict 1 (now (t .entry)) ⌝ }
+{
+    let mut c = [0u16; 8256];
+    check_into(t, &mut c)
 }

@@ -5,7 +5,7 @@ use Rattle.frames.proofs.start_on.Tie as tie
 
 pub start-on-spec : {M : Type 1} → statement M
 start-on-spec = tie.close (tie.spec
-    (λ c κs. (search needs, (search needs, (search needs, (search needs, search needs)))))
+    (λ c κs. (search needs, (search needs, (search needs, search needs))))
     (λ c κs. search needs)
     (λ c. search needs)
     (λ c. search then-update))

@@ -1,9 +1,9 @@
 use native.Mathlib.Omega.{arith}
 use borrow.Author.Needs.{needs}
-use Rattle.table.specs.Table.{tableOf}
+use Rattle.code.specs.Code.{decoded}
 use Rattle.table.specs.Entries.{stmtCount}
 use Rattle.nesting.specs.Ends.{BodyRest, ArmsRest}
-use Rattle.nesting.proofs.Flat.{parses, calls, bodies, armlists}
+use Rattle.nesting.proofs.Flat.{parses, calls, end-low, bodies, armlists}
 use Prim.Native.Nat.{ℕ, _<_, _+_, _-_, _*_}
 use borrow.Fn.Kinds.{In}
 use borrow.Fn.PlainCycle.{Measures, is, falls, and}
@@ -21,21 +21,21 @@ use Rattle.nesting.proofs.stmt_end.Kinds as stmt-end-kinds
 use Rattle.nesting.proofs.+arm_end+arms_end+body_end+stmt_end.Lts-stmt_end as stmt-end-lts
 use Rattle.nesting.proofs.closing.Reads as closing-reads
 use Rattle.nesting.proofs.stmt_class.Reads as stmt-class-reads
-use Rattle.table.proofs.stmt_link.Reads as stmt-link-reads
+use Rattle.code.proofs.stmt_link.Reads as stmt-link-reads
 use Rattle.nesting.proofs.+arm_end+arms_end+body_end+stmt_end.{statement}
 use Rattle.nesting.proofs.+arm_end+arms_end+body_end+stmt_end.Tie.{close}
 
 abbrev μ-arm-end : Measures 1 arm-end-kinds.ps ℕ
-μ-arm-end κs a = 2 * (stmtCount (tableOf (a .1 .0 .w) (a .0 .now)) - a .1 .1 .0)
+μ-arm-end κs a = 2 * (stmtCount (decoded (a .0 .now)) - a .1 .0)
 
 abbrev μ-arms-end : Measures 1 arms-end-kinds.ps ℕ
-μ-arms-end κs a = 2 * (stmtCount (tableOf (a .1 .0 .w) (a .0 .now)) - a .1 .1 .1 .0) + 1
+μ-arms-end κs a = 2 * (stmtCount (decoded (a .0 .now)) - a .1 .1 .0) + 1
 
 abbrev μ-body-end : Measures 1 body-end-kinds.ps ℕ
-μ-body-end κs a = 2 * (stmtCount (tableOf (a .1 .0 .w) (a .0 .now)) - a .1 .1 .0) + 1
+μ-body-end κs a = 2 * (stmtCount (decoded (a .0 .now)) - a .1 .0) + 1
 
 abbrev μ-stmt-end : Measures 1 stmt-end-kinds.ps ℕ
-μ-stmt-end κs a = 2 * (stmtCount (tableOf (a .1 .0 .w) (a .0 .now)) - a .1 .1 .0)
+μ-stmt-end κs a = 2 * (stmtCount (decoded (a .0 .now)) - a .1 .0)
 
 abbrev arm-end-at : ℕ → In 1 arm-end-kinds.ps
 arm-end-at t = and 1 arm-end-kinds.ps (is 1 arm-end-kinds.ps μ-arm-end t) arm-end.Pre
@@ -98,10 +98,10 @@ arm-end-returns-3 : (t : ℕ) → arm-end-lts.Need-returns-3 (arm-end-uses t) (a
 arm-end-returns-3 t c = search parses
 
 abbrev arms-end-Inv-loop : arms-end-lts.InvT-loop
-arms-end-Inv-loop t s o i j₀ j = ArmsRest (tableOf (s .w) t) o i j
+arms-end-Inv-loop c o i j₀ j = ArmsRest (decoded c) o i j
 
 abbrev arms-end-μ-loop : arms-end-lts.MeasureT-loop
-arms-end-μ-loop t s o i j₀ j = stmtCount (tableOf (s .w) t) - j
+arms-end-μ-loop c o i j₀ j = stmtCount (decoded c) - j
 
 arms-end-loop-holds : (t : ℕ) → arms-end-lts.Need-loop-holds (arms-end-uses t) (arms-end-at t) arms-end.Post arms-end-Inv-loop arms-end-μ-loop
 arms-end-loop-holds t c = search armlists
@@ -116,7 +116,7 @@ arms-end-stmt-class-requires : (t : ℕ) → arms-end-lts.Need-stmt-class-requir
 arms-end-stmt-class-requires t c κs = search calls
 
 arms-end-closing-requires : (t : ℕ) → arms-end-lts.Need-closing-requires (arms-end-uses t) (arms-end-at t) arms-end.Post arms-end-Inv-loop arms-end-μ-loop
-arms-end-closing-requires t c κs = (search needs, search needs)
+arms-end-closing-requires t c κs = end-low _ _ _ (c .before .stmt-class .ensures) (c .if2 .taken)
 
 arms-end-returns-2 : (t : ℕ) → arms-end-lts.Need-returns-2 (arms-end-uses t) (arms-end-at t) arms-end.Post arms-end-Inv-loop arms-end-μ-loop
 arms-end-returns-2 t c = search armlists
@@ -128,10 +128,10 @@ arms-end-loop-again : (t : ℕ) → arms-end-lts.Need-loop-again (arms-end-uses 
 arms-end-loop-again t c = search armlists
 
 abbrev body-end-Inv-loop : body-end-lts.InvT-loop
-body-end-Inv-loop t s i j₀ j = BodyRest (tableOf (s .w) t) i j
+body-end-Inv-loop c i j₀ j = BodyRest (decoded c) i j
 
 abbrev body-end-μ-loop : body-end-lts.MeasureT-loop
-body-end-μ-loop t s i j₀ j = stmtCount (tableOf (s .w) t) - j
+body-end-μ-loop c i j₀ j = stmtCount (decoded c) - j
 
 body-end-loop-holds : (t : ℕ) → body-end-lts.Need-loop-holds (body-end-uses t) (body-end-at t) body-end.Post body-end-Inv-loop body-end-μ-loop
 body-end-loop-holds t c = search bodies

@@ -1,5 +1,5 @@
 use Rattle.basics.proofs.Tests.{tests}
-use Rattle.nesting.proofs.Flat.{fits-end}
+use native.Mathlib.Omega.{arith}
 use Rattle.nesting.specs.Nest.{closed}
 use borrow.Author.Needs.{needs}
 use Rattle.nesting.proofs.closing.Statement.{statement}
@@ -9,6 +9,6 @@ pub closing-spec : {M : Type 1} → statement M
 unfolding closed
 closing-spec = tie.close (tie.spec
     (λ c κs. search needs)
-    (λ c. search fits-end)
+    (λ c. record { fits = omega arith })
     (λ c. search tests)
     (λ c. search tests))

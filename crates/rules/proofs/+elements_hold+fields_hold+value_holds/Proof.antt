@@ -1,6 +1,6 @@
 use native.Mathlib.Omega.{arith}
 use borrow.Author.Needs.{needs}
-use Rattle.table.specs.Table.{tableOf}
+use Rattle.code.specs.Code.{decoded}
 use Rattle.machine.specs.Memory.{memoryOf}
 use Rattle.rules.specs.Walks.{FieldsTo, ElementsTo}
 use Rattle.rules.proofs.Values.{values, elements-more, elements-integers, fieldwalks, elementwalks, walk-fits}
@@ -19,22 +19,22 @@ use Rattle.rules.proofs.+elements_hold+fields_hold+value_holds.Lts-valu
 use Rattle.rules.proofs.reference_holds.Reads as reference-holds-reads
 use Rattle.rules.proofs.simple_holds.Reads as simple-holds-reads
 use Rattle.rules.proofs.words_of.Reads as words-of-reads
-use Rattle.table.proofs.field_type.Reads as field-type-reads
-use Rattle.table.proofs.type_kind.Reads as type-kind-reads
-use Rattle.table.proofs.type_p.Reads as type-p-reads
-use Rattle.table.proofs.type_q.Reads as type-q-reads
+use Rattle.code.proofs.field_type.Reads as field-type-reads
+use Rattle.code.proofs.type_kind.Reads as type-kind-reads
+use Rattle.code.proofs.type_p.Reads as type-p-reads
+use Rattle.code.proofs.type_q.Reads as type-q-reads
 use Rattle.types.proofs.elements_of.Reads as elements-of-reads
 use Rattle.rules.proofs.+elements_hold+fields_hold+value_holds.{statement}
 use Rattle.rules.proofs.+elements_hold+fields_hold+value_holds.Tie.{close}
 
 abbrev μ-elements-hold : Measures 3 elements-hold-kinds.ps ℕ
-μ-elements-hold κs a = 2 * a .1 .1 .1 .1 .0
+μ-elements-hold κs a = 2 * a .1 .1 .1 .0
 
 abbrev μ-fields-hold : Measures 3 fields-hold-kinds.ps ℕ
-μ-fields-hold κs a = 2 * a .1 .1 .1 .1 .0
+μ-fields-hold κs a = 2 * a .1 .1 .1 .0
 
 abbrev μ-value-holds : Measures 3 value-holds-kinds.ps ℕ
-μ-value-holds κs a = 2 * a .1 .1 .1 .1 .0 + 1
+μ-value-holds κs a = 2 * a .1 .1 .1 .0 + 1
 
 abbrev elements-hold-at : ℕ → In 3 elements-hold-kinds.ps
 elements-hold-at t =
@@ -65,16 +65,16 @@ value-holds-below t =
     and 3 value-holds-kinds.ps (falls 3 value-holds-kinds.ps _<_ μ-value-holds t) value-holds.Pre
 
 abbrev elements-hold-Inv-loop : elements-hold-lts.InvT-loop
-elements-hold-Inv-loop t s sizes state x a q count words at₀ i₀ at i = (i ≤ count) × ElementsTo (tableOf (s .w) t) (memoryOf state) x a i at
+elements-hold-Inv-loop c sizes state x a q count words at₀ i₀ at i = (i ≤ count) × ElementsTo (decoded c) (memoryOf state) x a i at
 
 abbrev elements-hold-μ-loop : elements-hold-lts.MeasureT-loop
-elements-hold-μ-loop t s sizes state x a q count words at₀ i₀ at i = count - i
+elements-hold-μ-loop c sizes state x a q count words at₀ i₀ at i = count - i
 
 abbrev fields-hold-Inv-loop : fields-hold-lts.InvT-loop
-fields-hold-Inv-loop t s sizes state x a first count at₀ i₀ at i = (i ≤ count) × FieldsTo (tableOf (s .w) t) (memoryOf state) x a i at
+fields-hold-Inv-loop c sizes state x a first count at₀ i₀ at i = (i ≤ count) × FieldsTo (decoded c) (memoryOf state) x a i at
 
 abbrev fields-hold-μ-loop : fields-hold-lts.MeasureT-loop
-fields-hold-μ-loop t s sizes state x a first count at₀ i₀ at i = count - i
+fields-hold-μ-loop c sizes state x a first count at₀ i₀ at i = count - i
 
 pub +elements-hold+fields-hold+value-holds-spec : {M : Type 1} → statement M
 +elements-hold+fields-hold+value-holds-spec =
@@ -90,7 +90,7 @@ pub +elements-hold+fields-hold+value-holds-spec : {M : Type 1} → statement M
     (λ c κs. search needs)
     (λ c. (search needs, search elementwalks))
     (λ c. search elementwalks)
-    (λ c κs. (search needs, (search needs, (search needs, (search needs, search elementwalks)))))
+    (λ c κs. (search needs, (search needs, (search needs, search elementwalks))))
     (λ c. search (walk-fits, elementwalks))
     (λ c. search needs)
     (λ c. omega arith)
@@ -109,7 +109,7 @@ pub +elements-hold+fields-hold+value-holds-spec : {M : Type 1} → statement M
     (λ c. search needs)
     (λ c κs. search needs)
     (λ c. search fieldwalks)
-    (λ c κs. (search needs, (search needs, (search needs, (search needs, search fieldwalks)))))
+    (λ c κs. (search needs, (search needs, (search needs, search fieldwalks))))
     (λ c κs. search needs)
     (λ c. search (walk-fits, fieldwalks))
     (λ c. search needs)
@@ -122,9 +122,9 @@ pub +elements-hold+fields-hold+value-holds-spec : {M : Type 1} → statement M
     (value-holds-at t)
     value-holds.Post
     (λ c κs. search needs)
-    (λ c κs. (search needs, (search needs, (search needs, (search needs, search values)))))
+    (λ c κs. (search needs, (search needs, (search needs, search values))))
     (λ c. search values)
-    (λ c κs. (search needs, (search needs, (search needs, (search needs, search values)))))
+    (λ c κs. (search needs, (search needs, (search needs, search values))))
     (λ c. search values)
     (λ c κs. search needs)
     (λ c κs. search needs)

@@ -1,6 +1,6 @@
 use native.Mathlib.Omega.{arith}
 use borrow.Author.Needs.{needs}
-use Rattle.table.specs.Table.{tableOf}
+use Rattle.code.specs.Code.{decoded}
 use Rattle.sizes.specs.Sizes.{offsetIn}
 use Rattle.rules.specs.Walks.{Sought, fieldIBegins}
 use Rattle.rules.proofs.Parts.{parts, fieldparts, fieldsearches, elementparts, sought-small}
@@ -24,10 +24,10 @@ use Rattle.rules.proofs.part_words.Reads as part-words-reads
 use Rattle.rules.proofs.quotient.Reads as quotient-reads
 use Rattle.rules.proofs.remainder.Reads as remainder-reads
 use Rattle.rules.proofs.words_of.Reads as words-of-reads
-use Rattle.table.proofs.field_type.Reads as field-type-reads
-use Rattle.table.proofs.type_kind.Reads as type-kind-reads
-use Rattle.table.proofs.type_p.Reads as type-p-reads
-use Rattle.table.proofs.type_q.Reads as type-q-reads
+use Rattle.code.proofs.field_type.Reads as field-type-reads
+use Rattle.code.proofs.type_kind.Reads as type-kind-reads
+use Rattle.code.proofs.type_p.Reads as type-p-reads
+use Rattle.code.proofs.type_q.Reads as type-q-reads
 use Rattle.types.proofs.elements_of.Reads as elements-of-reads
 use Rattle.rules.proofs.+part_begins+part_of_element+part_of_field+part_of_fields.{
   statement,
@@ -37,16 +37,16 @@ use Rattle.rules.proofs.+part_begins+part_of_element+part_of_field+part
 }
 
 abbrev μ-part-begins : Measures 2 part-begins-kinds.ps ℕ
-μ-part-begins κs a = 3 * a .1 .1 .1 .0 + 2
+μ-part-begins κs a = 3 * a .1 .1 .0 + 2
 
 abbrev μ-part-of-element : Measures 2 part-of-element-kinds.ps ℕ
-μ-part-of-element κs a = 3 * a .1 .1 .1 .0
+μ-part-of-element κs a = 3 * a .1 .1 .0
 
 abbrev μ-part-of-field : Measures 2 part-of-field-kinds.ps ℕ
-μ-part-of-field κs a = 3 * a .1 .1 .1 .0
+μ-part-of-field κs a = 3 * a .1 .1 .0
 
 abbrev μ-part-of-fields : Measures 2 part-of-fields-kinds.ps ℕ
-μ-part-of-fields κs a = 3 * a .1 .1 .1 .0 + 1
+μ-part-of-fields κs a = 3 * a .1 .1 .0 + 1
 
 abbrev part-begins-at : ℕ → In 2 part-begins-kinds.ps
 part-begins-at t =
@@ -101,10 +101,10 @@ part-of-fields-below t =
     part-of-fields.Pre
 
 abbrev part-of-fields-Inv-loop : part-of-fields-lts.InvT-loop
-part-of-fields-Inv-loop t s sizes x y k first count at₀ i₀ at i = (i ≤ count) × Sought (offsetIn (tableOf (s .w) t) x) (fieldIBegins (tableOf (s .w) t) y x k) i at
+part-of-fields-Inv-loop c sizes x y k first count at₀ i₀ at i = (i ≤ count) × Sought (offsetIn (decoded c) x) (fieldIBegins (decoded c) y x k) i at
 
 abbrev part-of-fields-μ-loop : part-of-fields-lts.MeasureT-loop
-part-of-fields-μ-loop t s sizes x y k first count at₀ i₀ at i = count - i
+part-of-fields-μ-loop c sizes x y k first count at₀ i₀ at i = count - i
 
 pub +part-begins+part-of-element+part-of-field+part-of-fields-spec : {M : Type 1} → statement M
 +part-begins+part-of-element+part-of-field+part-of-fields-spec =
@@ -120,9 +120,9 @@ pub +part-begins+part-of-element+part-of-field+part-of-fields-spec : {M : Type 1
     (λ c κs. search needs)
     (λ c. search parts)
     (λ c κs. search needs)
-    (λ c κs. (search needs, (search needs, search needs)))
+    (λ c κs. (search needs, search needs))
     (λ c. search parts)
-    (λ c κs. (search needs, (search needs, search needs)))
+    (λ c κs. (search needs, search needs))
     (λ c. search parts)
     (λ c. search parts))
     (λ t. part-of-element-lts.spec
@@ -134,7 +134,7 @@ pub +part-begins+part-of-element+part-of-field+part-of-fields-spec : {M : Type 1
     (λ c κs. search needs)
     (λ c κs. search needs)
     (λ c κs. search needs)
-    (λ c κs. (search needs, (search needs, search needs)))
+    (λ c κs. (search needs, search needs))
     (λ c. search elementparts)
     (λ c. search elementparts)
     (λ c. search elementparts))
@@ -144,7 +144,7 @@ pub +part-begins+part-of-element+part-of-field+part-of-fields-spec : {M : Type 1
     part-of-field.Post
     (λ c κs. search needs)
     (λ c. search needs)
-    (λ c κs. (search needs, (search needs, search needs)))
+    (λ c κs. (search needs, search needs))
     (λ c. search fieldparts)
     (λ c. search fieldparts)
     (λ c. search fieldparts)
@@ -160,7 +160,7 @@ pub +part-begins+part-of-element+part-of-field+part-of-fields-spec : {M : Type 1
     (λ c. (search needs, search fieldsearches))
     (λ c. search needs)
     (λ c κs. search needs)
-    (λ c κs. (search needs, (search needs, (search needs, search (sought-small, needs)))))
+    (λ c κs. (search needs, (search needs, search (sought-small, needs))))
     (λ c. search fieldsearches)
     (λ c κs. search needs)
     (λ c. omega arith)

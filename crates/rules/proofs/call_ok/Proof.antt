@@ -9,7 +9,7 @@ call-ok-spec =
     (tie.spec
     (λ c. search needs)
     (λ c κs. search needs)
-    (λ c κs. (search needs, (search needs, (search needs, (search needs, search needs)))))
+    (λ c κs. (search needs, (search needs, (search needs, search needs))))
     (λ c. search needs)
     (λ c κs. search needs)
     (λ c κs. search needs)

@@ -1,7 +1,7 @@
 use Prim.Native.Nat.{_≤_, _-_}
 use native.Mathlib.Omega.{arith}
 use borrow.Author.Needs.{needs}
-use Rattle.table.specs.Table.{tableOf}
+use Rattle.code.specs.Code.{decoded}
 use Rattle.machine.specs.Variables.{firstWords}
 use Rattle.rules.specs.Chains.{Summed}
 use Rattle.rules.proofs.Chains.{sums, summed-fits}
@@ -9,10 +9,10 @@ use Rattle.rules.proofs.frame_words.Statement.{statement}
 use Rattle.rules.proofs.frame_words.Tie as tie
 
 abbrev Inv-loop : tie.InvT-loop
-Inv-loop t s sizes q first count sum₀ i₀ sum i = (i ≤ count) × Summed (firstWords (tableOf (s .w) t) q) i sum
+Inv-loop c sizes q first count sum₀ i₀ sum i = (i ≤ count) × Summed (firstWords (decoded c) q) i sum
 
 abbrev μ-loop : tie.MeasureT-loop
-μ-loop t s sizes q first count sum₀ i₀ sum i = count - i
+μ-loop c sizes q first count sum₀ i₀ sum i = count - i
 
 pub frame-words-spec : {M : Type 1} → statement M
 frame-words-spec =

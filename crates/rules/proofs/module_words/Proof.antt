@@ -1,7 +1,7 @@
 use Prim.Native.Nat.{_≤_, _-_}
 use native.Mathlib.Omega.{arith}
 use borrow.Author.Needs.{needs}
-use Rattle.table.specs.Table.{tableOf}
+use Rattle.code.specs.Code.{decoded}
 use Rattle.sizes.specs.Sizes.{varOffset}
 use Rattle.rules.specs.Chains.{Summed}
 use Rattle.rules.proofs.Chains.{sums, summed-fits}
@@ -9,10 +9,10 @@ use Rattle.rules.proofs.module_words.Statement.{statement}
 use Rattle.rules.proofs.module_words.Tie as tie
 
 abbrev Inv-loop : tie.InvT-loop
-Inv-loop t s sizes b first count sum₀ i₀ sum i = (i ≤ count) × Summed (varOffset (tableOf (s .w) t) b) i sum
+Inv-loop c sizes b first count sum₀ i₀ sum i = (i ≤ count) × Summed (varOffset (decoded c) b) i sum
 
 abbrev μ-loop : tie.MeasureT-loop
-μ-loop t s sizes b first count sum₀ i₀ sum i = count - i
+μ-loop c sizes b first count sum₀ i₀ sum i = count - i
 
 pub module-words-spec : {M : Type 1} → statement M
 module-words-spec =

@@ -2,7 +2,7 @@ use Prim.Native.Nat.{_<_}
 use native.Mathlib.Omega.{arith}
 use mathlib.Core.Path.{_≡_, refl}
 use borrow.Author.Needs.{needs}
-use Rattle.table.specs.Table.{tableOf}
+use Rattle.code.specs.Code.{decoded}
 use Rattle.machine.specs.Memory.{memoryOf}
 use Rattle.machine.specs.Rule.{owns}
 use Rattle.rules.proofs.Frames.{owns-found, owns-next, owns-none}
@@ -10,10 +10,10 @@ use Rattle.rules.proofs.owns_word.Statement.{statement}
 use Rattle.rules.proofs.owns_word.Tie as tie
 
 abbrev Inv-loop : tie.InvT-loop
-Inv-loop t s sizes state p d f y k n₀ g₀ n g = (g < 65536) × (owns (tableOf (s .w) t) (memoryOf state) p n g y k ≡ owns (tableOf (s .w) t) (memoryOf state) p d f y k)
+Inv-loop c sizes state p d f y k n₀ g₀ n g = (g < 65536) × (owns (decoded c) (memoryOf state) p n g y k ≡ owns (decoded c) (memoryOf state) p d f y k)
 
 abbrev μ-loop : tie.MeasureT-loop
-μ-loop t s sizes state p d f y k n₀ g₀ n g = n
+μ-loop c sizes state p d f y k n₀ g₀ n g = n
 
 pub owns-word-spec : {M : Type 1} → statement M
 owns-word-spec =
@@ -22,7 +22,7 @@ owns-word-spec =
     Inv-loop
     μ-loop
     (λ c. (search needs, refl))
-    (λ c κs. (search needs, (search needs, (search needs, (search needs, (search needs, search needs))))))
+    (λ c κs. (search needs, (search needs, (search needs, (search needs, search needs)))))
     (λ c. search owns-found)
     (λ c κs. search needs)
     (λ c. search needs)

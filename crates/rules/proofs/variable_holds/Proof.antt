@@ -8,5 +8,5 @@ variable-holds-spec =
     tie.close (tie.spec
     (λ c κs. search needs)
     (λ c κs. search needs)
-    (λ c κs. (search needs, (search needs, (search needs, search near-any))))
+    (λ c κs. (search needs, (search needs, search near-any)))
     (λ c. search variable-is))

@@ -8,14 +8,14 @@ use Rattle.scopes.proofs.node_scoped.Kinds as node-scoped-kinds
 use Rattle.scopes.proofs.+node_scoped.Lts-node_scoped as node-scoped-lts
 use Rattle.scopes.proofs.has_second.Reads as has-second-reads
 use Rattle.scopes.proofs.is_visible.Reads as is-visible-reads
-use Rattle.table.proofs.node_kind.Reads as node-kind-reads
-use Rattle.table.proofs.node_p.Reads as node-p-reads
-use Rattle.table.proofs.node_q.Reads as node-q-reads
+use Rattle.code.proofs.node_kind.Reads as node-kind-reads
+use Rattle.code.proofs.node_p.Reads as node-p-reads
+use Rattle.code.proofs.node_q.Reads as node-q-reads
 use Rattle.scopes.proofs.+node_scoped.{statement}
 use Rattle.scopes.proofs.+node_scoped.Tie.{close}
 
 abbrev μ-node-scoped : Measures 1 node-scoped-kinds.ps ℕ
-μ-node-scoped κs a = a .1 .1 .1 .0
+μ-node-scoped κs a = a .1 .1 .0
 
 abbrev node-scoped-at : ℕ → In 1 node-scoped-kinds.ps
 node-scoped-at t =

@@ -1,7 +1,7 @@
 use Prim.Native.Nat.{_≤_, _-_}
 use native.Mathlib.Omega.{arith}
 use borrow.Author.Needs.{needs}
-use Rattle.table.specs.Table.{tableOf}
+use Rattle.code.specs.Code.{decoded}
 use Rattle.basics.specs.Chain.{Chain}
 use Rattle.scopes.proofs.Scoping.{statements}
 use Rattle.nesting.specs.Nest.{blockStep}
@@ -10,10 +10,10 @@ use Rattle.scopes.proofs.all_scoped.Statement.{statement}
 use Rattle.scopes.proofs.all_scoped.Tie as tie
 
 abbrev Inv-loop : tie.InvT-loop
-Inv-loop t s count b₀ i₀ b i = (i ≤ count) × (b ≤ i) × Chain (blockStep (tableOf (s .w) t)) (stmtScoped (tableOf (s .w) t)) i b
+Inv-loop t s c count b₀ i₀ b i = (i ≤ count) × (b ≤ i) × Chain (blockStep (decoded c)) (stmtScoped (decoded c)) i b
 
 abbrev μ-loop : tie.MeasureT-loop
-μ-loop t s count b₀ i₀ b i = count - i
+μ-loop t s c count b₀ i₀ b i = count - i
 
 pub all-scoped-spec : {M : Type 1} → statement M
 all-scoped-spec =

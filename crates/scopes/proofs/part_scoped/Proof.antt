@@ -1,7 +1,7 @@
 use Prim.Native.Nat.{_≤_, _-_}
 use native.Mathlib.Omega.{arith}
 use borrow.Author.Needs.{needs}
-use Rattle.table.specs.Table.{tableOf}
+use Rattle.code.specs.Code.{decoded}
 use Rattle.basics.specs.Choice.{Passed}
 use Rattle.scopes.proofs.Scoping.{parts}
 use Rattle.scopes.specs.Scopes.{scopedIn}
@@ -9,10 +9,10 @@ use Rattle.scopes.proofs.part_scoped.Statement.{statement}
 use Rattle.scopes.proofs.part_scoped.Tie as tie
 
 abbrev Inv-loop : tie.InvT-loop
-Inv-loop t s b part count w k₀ k = (k ≤ count) × Passed (scopedIn (tableOf (s .w) t) b (s .w) part) k
+Inv-loop c b part w count k₀ k = (k ≤ count) × Passed (scopedIn (decoded c) b w part) k
 
 abbrev μ-loop : tie.MeasureT-loop
-μ-loop t s b part count w k₀ k = count - k
+μ-loop c b part w count k₀ k = count - k
 
 pub part-scoped-spec : {M : Type 1} → statement M
 part-scoped-spec =

@@ -2,7 +2,7 @@ use native.Mathlib.Omega.{arith}
 use borrow.Author.Needs.{needs}
 use mathlib.Core.Path.{_≡_, _∙_}
 use mathlib.Core.Logic.{⊎-elim}
-use Rattle.table.specs.Table.{tableOf}
+use Rattle.code.specs.Code.{decoded}
 use Rattle.sizes.specs.Sizes.{offsetIn}
 use Rattle.sizes.proofs.Sums.{product-fits}
 use Rattle.sizes.proofs.Counting.{counts, o-none, o-more, o-skip, o-all}
@@ -17,20 +17,20 @@ use Rattle.sizes.proofs.words.Kinds as words-kinds
 use Rattle.sizes.proofs.+fields_words+words.Lts-words as words-lts
 use Rattle.sizes.proofs.at_most.Reads as at-most-reads
 use Rattle.sizes.proofs.wide.Reads as wide-reads
-use Rattle.table.proofs.field_type.Reads as field-type-reads
-use Rattle.table.proofs.type_kind.Reads as type-kind-reads
-use Rattle.table.proofs.type_p.Reads as type-p-reads
-use Rattle.table.proofs.type_q.Reads as type-q-reads
+use Rattle.code.proofs.field_type.Reads as field-type-reads
+use Rattle.code.proofs.type_kind.Reads as type-kind-reads
+use Rattle.code.proofs.type_p.Reads as type-p-reads
+use Rattle.code.proofs.type_q.Reads as type-q-reads
 use Rattle.types.proofs.elements_of.Reads as elements-of-reads
 use Rattle.sizes.proofs.+fields_words+words.{statement}
 use Rattle.sizes.proofs.+fields_words+words.Tie.{close}
 
 -- the type number falls: a part has a lower number than the type that it is a part of
 abbrev μ-fields-words : Measures 2 fields-words-kinds.ps ℕ
-μ-fields-words κs a = 2 * a .1 .1 .1 .0
+μ-fields-words κs a = 2 * a .1 .1 .0
 
 abbrev μ-words : Measures 2 words-kinds.ps ℕ
-μ-words κs a = 2 * a .1 .1 .1 .0 + 1
+μ-words κs a = 2 * a .1 .1 .0 + 1
 
 abbrev fields-words-at : ℕ → In 2 fields-words-kinds.ps
 fields-words-at t = and 2 fields-words-kinds.ps (is 2 fields-words-kinds.ps μ-fields-words t) fields-words.Pre
@@ -45,10 +45,10 @@ abbrev words-below : ℕ → In 2 words-kinds.ps
 words-below t = and 2 words-kinds.ps (falls 2 words-kinds.ps _<_ μ-words t) words.Pre
 
 abbrev fields-words-Inv-loop : fields-words-lts.InvT-loop
-fields-words-Inv-loop t s known n k first sum₀ i₀ sum i = (i ≤ k) × (sum ≡ min (offsetIn (tableOf (s .w) t) n i) 201)
+fields-words-Inv-loop c known n k first sum₀ i₀ sum i = (i ≤ k) × (sum ≡ min (offsetIn (decoded c) n i) 201)
 
 abbrev fields-words-μ-loop : fields-words-lts.MeasureT-loop
-fields-words-μ-loop t s known n k first sum₀ i₀ sum i = k - i
+fields-words-μ-loop c known n k first sum₀ i₀ sum i = k - i
 
 abbrev fields-words-uses : ℕ → fields-words-lts.Claims
 fields-words-uses t = (type-p-reads.Asked, type-p-reads.Learnt, field-type-reads.Asked, field-type-reads.Learnt, words-below t, words.Post, at-most-reads.Asked, at-most-reads.Learnt)

@@ -8,6 +8,6 @@ pub all-sized-spec : {M : Type 1} → statement M
 unfolding sized
 all-sized-spec = tie.close (tie.spec
     (λ c κs. search needs)
-    (λ c κs. (search needs, (search needs, (cc))))
+    (λ c κs. (search needs, cc))
     (λ c. search tests)
     (λ c. search tests))

@@ -3,17 +3,17 @@ use native.Mathlib.Omega.{arith}
 use borrow.Author.Needs.{needs}
 use Rattle.basics.specs.Choice.{Passed}
 use Rattle.basics.proofs.Passes.{passes}
-use Rattle.table.specs.Table.{tableOf}
+use Rattle.code.specs.Code.{decoded}
 use Rattle.sizes.specs.Sizes.{blockSized, blocksSized}
 use Rattle.sizes.proofs.Judging.{sections}
 use Rattle.sizes.proofs.blocks_sized.Statement.{statement}
 use Rattle.sizes.proofs.blocks_sized.Tie as tie
 
 abbrev Inv-loop : tie.InvT-loop
-Inv-loop t s sizes count b₀ b = (b ≤ count) × Passed (blockSized (tableOf (s .w) t)) b
+Inv-loop c sizes count b₀ b = (b ≤ count) × Passed (blockSized (decoded c)) b
 
 abbrev μ-loop : tie.MeasureT-loop
-μ-loop t s sizes count b₀ b = count - b
+μ-loop c sizes count b₀ b = count - b
 
 pub blocks-sized-spec : {M : Type 1} → statement M
 unfolding blocksSized

@@ -9,5 +9,5 @@ field-offset-spec =
     (λ c κs. search needs)
     (λ c. search needs)
     (λ c. part-long _ _ (search sizes-long))
-    (λ c κs. (search needs, (search sizes-part, search needs)))
+    (λ c κs. (search sizes-part, search needs))
     (λ c. search needs))

@@ -4,17 +4,17 @@ use lib.ListN.{length, length-set}
 use native.Mathlib.Omega.{arith}
 use borrow.Author.Needs.{needs}
 use Rattle.basics.specs.Holds.{Holds}
-use Rattle.table.specs.Table.{tableOf}
+use Rattle.code.specs.Code.{decoded}
 use Rattle.sizes.specs.Sizes.{kept}
 use Rattle.sizes.proofs.Counting.{part-long, sizes-none, sizes-known, sizes-more, sizes-all}
 use Rattle.sizes.proofs.find_sizes.Statement.{statement}
 use Rattle.sizes.proofs.find_sizes.Tie as tie
 
 abbrev Inv-loop : tie.InvT-loop
-Inv-loop t s sizes₀ count n₀ sizes n = (n ≤ count) × (length sizes ≡ length sizes₀) × Holds (kept (tableOf (s .w) t)) n sizes
+Inv-loop c sizes₀ count n₀ sizes n = (n ≤ count) × (length sizes ≡ length sizes₀) × Holds (kept (decoded c)) n sizes
 
 abbrev μ-loop : tie.MeasureT-loop
-μ-loop t s sizes₀ count n₀ sizes n = count - n
+μ-loop c sizes₀ count n₀ sizes n = count - n
 
 pub find-sizes-spec : {M : Type 1} → statement M
 find-sizes-spec =
@@ -27,7 +27,7 @@ find-sizes-spec =
     (λ c. (search needs, search needs, search sizes-none))
     (λ c. search needs)
     (λ c. part-long _ _ (omega arith))
-    (λ c κs. (search needs, search sizes-known))
+    (λ c κs. search sizes-known)
     (λ c κs. search needs)
     (λ c. search needs)
     (λ c. search needs)

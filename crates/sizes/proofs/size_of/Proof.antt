@@ -1,6 +1,5 @@
 use borrow.Author.Needs.{needs}
 use Rattle.sizes.proofs.Counting.{size-at, size-none}
-use borrow.Author.Needs.{needs}
 use Rattle.sizes.proofs.size_of.Statement.{statement}
 use Rattle.sizes.proofs.size_of.Tie as tie
 

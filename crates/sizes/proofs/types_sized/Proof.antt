@@ -3,17 +3,17 @@ use native.Mathlib.Omega.{arith}
 use borrow.Author.Needs.{needs}
 use Rattle.basics.specs.Choice.{Passed}
 use Rattle.basics.proofs.Passes.{passes}
-use Rattle.table.specs.Table.{tableOf}
+use Rattle.code.specs.Code.{decoded}
 use Rattle.sizes.specs.Sizes.{typeSized, typesSized}
 use Rattle.sizes.proofs.Judging.{type-row, sections}
 use Rattle.sizes.proofs.types_sized.Statement.{statement}
 use Rattle.sizes.proofs.types_sized.Tie as tie
 
 abbrev Inv-loop : tie.InvT-loop
-Inv-loop t s sizes count i₀ i = (i ≤ count) × Passed (typeSized (tableOf (s .w) t)) i
+Inv-loop c sizes count i₀ i = (i ≤ count) × Passed (typeSized (decoded c)) i
 
 abbrev μ-loop : tie.MeasureT-loop
-μ-loop t s sizes count i₀ i = count - i
+μ-loop c sizes count i₀ i = count - i
 
 pub types-sized-spec : {M : Type 1} → statement M
 unfolding typesSized

@@ -1,4 +1,4 @@
-use Rattle.statements.proofs.Performs.{at-plain, arm-low, arm-high, at-end}
+use Rattle.statements.proofs.Performs.{last-is}
 use borrow.Author.Needs.{needs}
 use Rattle.statements.proofs.perform.Statement.{statement}
 use Rattle.statements.proofs.perform.Tie as tie
@@ -24,7 +24,7 @@ perform-spec =
     (λ c. search needs)
     (λ c. search needs)
     (λ c. search needs)
-    (λ c κs. (search at-plain, (search arm-low, search arm-high)))
+    (λ c κs. search needs)
     (λ c. search needs)
     (λ c. search needs)
     (λ c. search needs)
@@ -32,7 +32,7 @@ perform-spec =
     (λ c. search needs)
     (λ c. search needs)
     (λ c. search needs)
-    (λ c κs. search at-end)
+    (λ c κs. (search needs, search last-is))
     (λ c. search needs)
     (λ c. search needs)
     (λ c. search needs))

@@ -8,8 +8,8 @@ look-word-spec =
     tie.close
     (tie.spec
     (λ c κs. search needs)
-    (λ c κs. let x = c .before in let s = x .before .before .before .before .pre in (search needs, (search needs, (search needs, (search needs, (s .1 .1 .1 .1, seen-visible _ _ _ _ _ _ (x .is-visible .ensures) (c .if1 .taken)))))))
+    (λ c κs. let x = c .before in let s = x .before .before .before .pre in (search needs, (search needs, (search needs, (s .1 .1 .1, (seen-visible _ _ _ _ _ _ (x .is-visible .ensures .0) (c .if1 .taken), x .is-visible .ensures .1 (c .if1 .taken)))))))
     (λ c. search needs)
     (λ c. search needs)
-    (λ c. look-seen _ _ _ _ _ _ (c .before .before .is-visible .ensures) (c .before .if1 .taken) _ (c .visible-word .ensures))
-    (λ c. look-none _ _ _ _ _ _ (c .before .is-visible .ensures) (c .if1 .left)))
+    (λ c. look-seen _ _ _ _ _ _ (c .before .before .is-visible .ensures .0) (c .before .if1 .taken) _ (c .visible-word .ensures))
+    (λ c. look-none _ _ _ _ _ _ (c .before .is-visible .ensures .0) (c .if1 .left)))

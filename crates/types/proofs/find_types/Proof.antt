@@ -4,17 +4,17 @@ use lib.ListN.{length, length-set}
 use native.Mathlib.Omega.{arith}
 use borrow.Author.Needs.{needs}
 use Rattle.basics.specs.Holds.{Holds}
-use Rattle.table.specs.Table.{tableOf}
+use Rattle.code.specs.Code.{decoded}
 use Rattle.types.specs.Types.{typeOf}
 use Rattle.types.proofs.Finding.{types-none, types-more, types-all}
 use Rattle.types.proofs.find_types.Statement.{statement}
 use Rattle.types.proofs.find_types.Tie as tie
 
 abbrev Inv-loop : tie.InvT-loop
-Inv-loop t s types₀ count n₀ types n = (n ≤ count) × (length types ≡ length types₀) × Holds (typeOf (tableOf (s .w) t)) n types
+Inv-loop c types₀ count n₀ types n = (n ≤ count) × (length types ≡ length types₀) × Holds (typeOf (decoded c)) n types
 
 abbrev μ-loop : tie.MeasureT-loop
-μ-loop t s types₀ count n₀ types n = count - n
+μ-loop c types₀ count n₀ types n = count - n
 
 pub find-types-spec : {M : Type 1} → statement M
 find-types-spec =

@@ -11,6 +11,6 @@ arguments-typed-spec =
     (λ c κs. search needs)
     (λ c κs. search needs)
     (λ c κs. search needs)
-    (λ c κs. (search needs, (search needs, (omega arith, omega arith))))
+    (λ c κs. (search needs, (search needs, search needs, omega arith, omega arith)))
     (λ c. search arguments-each)
     (λ c. search arguments-other))

@@ -2,17 +2,17 @@ use Prim.Native.Nat.{_≤_, _-_}
 use native.Mathlib.Omega.{arith}
 use borrow.Author.Needs.{needs}
 use Rattle.basics.specs.Choice.{Passed}
-use Rattle.table.specs.Table.{tableOf}
+use Rattle.code.specs.Code.{decoded}
 use Rattle.typing.proofs.Passing.{counts}
 use Rattle.typing.specs.Typing.{paramsSimple}
 use Rattle.typing.proofs.blocks_simple.Statement.{statement}
 use Rattle.typing.proofs.blocks_simple.Tie as tie
 
 abbrev Inv-loop : tie.InvT-loop
-Inv-loop t s count b₀ b = (b ≤ count) × Passed (paramsSimple (tableOf (s .w) t)) b
+Inv-loop c count b₀ b = (b ≤ count) × Passed (paramsSimple (decoded c)) b
 
 abbrev μ-loop : tie.MeasureT-loop
-μ-loop t s count b₀ b = count - b
+μ-loop c count b₀ b = count - b
 
 pub blocks-simple-spec : {M : Type 1} → statement M
 blocks-simple-spec =

@@ -2,17 +2,17 @@ use Prim.Native.Nat.{_≤_, _-_}
 use native.Mathlib.Omega.{arith}
 use borrow.Author.Needs.{needs}
 use Rattle.basics.specs.Choice.{Passed}
-use Rattle.table.specs.Table.{tableOf}
+use Rattle.code.specs.Code.{decoded}
 use Rattle.typing.proofs.Passing.{parameters}
 use Rattle.typing.specs.Typing.{parameterIn}
 use Rattle.typing.proofs.part_typed.Statement.{statement}
 use Rattle.typing.proofs.part_typed.Tie as tie
 
 abbrev Inv-loop : tie.InvT-loop
-Inv-loop t s types part x count w k₀ k = (k ≤ count) × Passed (parameterIn (tableOf (s .w) t) (s .w) part x) k
+Inv-loop c types part w x count k₀ k = (k ≤ count) × Passed (parameterIn (decoded c) w part x) k
 
 abbrev μ-loop : tie.MeasureT-loop
-μ-loop t s types part x count w k₀ k = count - k
+μ-loop c types part w x count k₀ k = count - k
 
 pub part-typed-spec : {M : Type 1} → statement M
 part-typed-spec =

@@ -1,8 +1,8 @@
 use native.Mathlib.Omega.{arith}
 use borrow.Author.Needs.{needs}
 use Prim.Native.Nat.{_-_}
-use Rattle.table.specs.Table.{tableOf}
 use Rattle.machine.specs.Memory.{memoryOf}
+use Rattle.code.specs.Code.{decoded}
 use Rattle.operands.specs.Ready.{contextIn}
 use Rattle.operands.proofs.Lending.{lends}
 use Rattle.calls.specs.Gathering.{Gathering}
@@ -11,11 +11,11 @@ use Rattle.calls.proofs.arguments.arguments.Statement.{statement}
 use Rattle.calls.proofs.arguments.arguments.Tie as tie
 
 abbrev Inv-loop : tie.InvT-loop
-Inv-loop t s types sizes offsets places state page x buffer₀ b c d first count₀ i₀ buffer count i =
-    Gathering (tableOf (s .w) t) (memoryOf state) (memoryOf page) (contextIn x) first c d buffer₀ buffer i count
+Inv-loop c state page x buffer₀ b from d first count₀ i₀ buffer count i =
+    Gathering (decoded c) (memoryOf state) (memoryOf page) (contextIn x) first from d buffer₀ buffer i count
 
 abbrev μ-loop : tie.MeasureT-loop
-μ-loop t s types sizes offsets places state page x buffer₀ b c d first count₀ i₀ buffer count i = d - i
+μ-loop c state page x buffer₀ b from d first count₀ i₀ buffer count i = d - i
 
 pub arguments-spec : {M : Type 1} → statement M
 arguments-spec =

@@ -9,5 +9,5 @@ var-words-spec =
     (λ c κs. search needs)
     (λ c. search counts)
     (λ c κs. search needs)
-    (λ c κs. search needs)
+    (λ c κs. search counts)
     (λ c. search counts))

@@ -12,6 +12,6 @@ enter-local-spec =
     (λ c κs. search needs)
     (λ c. search needs)
     (λ c. search entering-over)
-    (λ c κs. (c .before .before .before .before .before .before .before .before .before .before .before .pre .framing .sized .table, (entering-lent _ _ _ _ _ _ _ _ _ _ _ _ (c .before .before .before .before .before .before .before .before .before .before .before .pre), (entering-fits _ _ _ _ _ _ _ _ _ _ _ _ (c .before .before .before .before .before .before .before .before .before .before .before .pre) _ (c .before .before .before .before .frame-words .ensures) _ (c .before .before .is-over .ensures) (c .before .if1 .left), ((entering-room _ _ _ _ _ _ _ _ _ _ _ _ (c .before .before .before .before .before .before .before .before .before .before .before .pre) _ (c .before .before .before .before .frame-words .ensures) _ (c .before .before .is-over .ensures) (c .before .if1 .left), (entering-held _ _ _ _ _ _ _ _ _ _ _ _ (c .before .before .before .before .before .before .before .before .before .before .before .pre) _ (c .before .before .before .before .frame-words .ensures) _ (c .before .before .is-over .ensures) (c .before .if1 .left), entering-small _ _ _ _ _ _ _ _ _ _ _ _ (c .before .before .before .before .before .before .before .before .before .before .before .pre))), entering-size _ _ _ _ _ _ _ _ _ _ _ _ (c .before .before .before .before .before .before .before .before .before .before .before .pre) _ (c .before .before .before .before .frame-words .ensures) _ (c .before .before .is-over .ensures) (c .before .if1 .left))))))
+    (λ c κs. (search entering-lent, (search entering-fits, ((search entering-room, (search entering-held, search entering-small)), search entering-size))))
     (λ c. search needs)
-    (λ c. entering-local _ _ _ _ _ _ _ _ _ _ (c .before .before .before .before .before .before .before .before .before .before .before .before .before .before .pre) _ (c .before .before .before .before .before .before .before .frame-words .ensures) _ (c .before .before .before .before .before .is-over .ensures) (c .before .before .before .before .if1 .left) _ (c .before .before .push-local .ensures)))
+    (λ c. search entering-local))

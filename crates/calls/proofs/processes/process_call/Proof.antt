@@ -1,4 +1,4 @@
-use Rattle.transfers.proofs.Steps.{stands-lent}
+use Rattle.calls.proofs.Entering.{stand-lent}
 use Rattle.calls.proofs.Serving.{process-referring, process-serving, process-fails}
 use borrow.Author.Needs.{needs}
 use Rattle.calls.proofs.processes.process_call.Statement.{statement}
@@ -8,13 +8,13 @@ pub process-call-spec : {M : Type 1} → statement M
 process-call-spec =
     tie.close
     (tie.spec
-    (λ c κs. c .before .before .before .before .before .before .before .pre .0 .ready .table)
-    (λ c κs. (c .before .before .before .before .before .before .before .before .before .pre .0 .ready, process-referring _ _ _ _ _ _ _ _ _ (c .before .before .before .before .before .before .before .before .before .pre .0) (c .before .before .before .before .before .before .before .before .before .pre .1 .0) _ (c .before .stmt-a .ensures .is)))
+    (λ c κs. search needs)
+    (λ c κs. (search needs, search process-referring))
     (λ c. search needs)
-    (λ c κs. stands-lent _ _ _ _ _ _ _ _ _ (c .before .before .before .before .before .before .before .before .before .before .before .before .before .before .pre .0))
+    (λ c κs. search stand-lent)
     (λ c. search needs)
-    (λ c κs. process-serving _ _ _ _ _ _ _ _ _ (c .before .before .before .before .before .before .before .before .before .before .before .before .before .before .pre .0) (c .before .before .before .before .before .before .before .before .before .before .before .before .before .before .pre .1 .0) _ (c .before .before .before .before .before .before .stmt-a .ensures .is) _ (c .before .before .before .before .reference .ensures) _ (c .before .before .before .before .before .before .before .before .before .before .before .before .before .before .pre .1 .1) (c .before .before .l2 .given .1))
+    (λ c κs. search process-serving)
     (λ c. search needs)
-    (λ c. process-fails _ _ _ _ _ _ _ _ _ (c .before .before .before .before .before .before .before .before .before .before .before .before .before .before .before .before .before .pre .0) (c .before .before .before .before .before .before .before .before .before .before .before .before .before .before .before .before .before .pre .1 .0) _ (c .before .before .before .before .before .before .before .before .before .stmt-a .ensures .is) _ (c .before .before .before .before .before .before .before .reference .ensures) _ _ _ (c .before .before .before .before .before .l .given .1) (c .before .before .fail .ensures .0) (c .before .before .fail .ensures .1))
+    (λ c. search process-fails)
     (λ c. search needs)
     (λ c. search needs))

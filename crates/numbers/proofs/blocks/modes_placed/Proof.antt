@@ -3,16 +3,16 @@ use native.Mathlib.Omega.{arith}
 use Rattle.basics.specs.Choice.{Passed}
 use Rattle.numbers.specs.Blocks.{modePlaced}
 use Rattle.basics.proofs.Passes.{passes}
-use Rattle.table.specs.Table.{tableOf}
+use Rattle.code.specs.Code.{decoded}
 use borrow.Author.Needs.{needs}
 use Rattle.numbers.proofs.blocks.modes_placed.Statement.{statement}
 use Rattle.numbers.proofs.blocks.modes_placed.Tie as tie
 
 abbrev Inv-loop : tie.InvT-loop
-Inv-loop t s b n j₀ j = (j ≤ n) × Passed (modePlaced (tableOf (s .w) t) b) j
+Inv-loop c b n j₀ j = (j ≤ n) × Passed (modePlaced (decoded c) b) j
 
 abbrev μ-loop : tie.MeasureT-loop
-μ-loop t s b n j₀ j = n - j
+μ-loop c b n j₀ j = n - j
 
 pub modes-placed-spec : {M : Type 1} → statement M
 modes-placed-spec =

@@ -3,16 +3,16 @@ use native.Mathlib.Omega.{arith}
 use Rattle.basics.specs.Choice.{Passed}
 use Rattle.numbers.specs.Declarations.{fieldBelow}
 use Rattle.basics.proofs.Passes.{passes}
-use Rattle.table.specs.Table.{tableOf}
+use Rattle.code.specs.Code.{decoded}
 use borrow.Author.Needs.{needs}
 use Rattle.numbers.proofs.declared.fields_below.Statement.{statement}
 use Rattle.numbers.proofs.declared.fields_below.Tie as tie
 
 abbrev Inv-loop : tie.InvT-loop
-Inv-loop t s x q j₀ j = (j ≤ q) × Passed (fieldBelow (tableOf (s .w) t) x) j
+Inv-loop c x q j₀ j = (j ≤ q) × Passed (fieldBelow (decoded c) x) j
 
 abbrev μ-loop : tie.MeasureT-loop
-μ-loop t s x q j₀ j = q - j
+μ-loop c x q j₀ j = q - j
 
 pub fields-below-spec : {M : Type 1} → statement M
 fields-below-spec =

@@ -2,7 +2,7 @@ use Prim.Native.Nat.{_≤_, _-_}
 use native.Mathlib.Omega.{arith}
 use mathlib.Core.Path.{_≡_, refl}
 use lib.ListN.{length}
-use Rattle.table.specs.Table.{tableOf}
+use Rattle.code.specs.Code.{decoded}
 use Rattle.numbers.specs.Marking.{Named}
 use Rattle.numbers.proofs.Marks.{marking}
 use borrow.Author.Needs.{needs}
@@ -10,10 +10,10 @@ use Rattle.numbers.proofs.declared.mark_modules.Statement.{statement}
 use Rattle.numbers.proofs.declared.mark_modules.Tie as tie
 
 abbrev Inv-loop : tie.InvT-loop
-Inv-loop t s marks₀ n i₀ marks i = (i ≤ n) × ((length marks ≡ length marks₀) × Named (tableOf (s .w) t) i marks)
+Inv-loop c marks₀ n i₀ marks i = (i ≤ n) × ((length marks ≡ length marks₀) × Named (decoded c) i marks)
 
 abbrev μ-loop : tie.MeasureT-loop
-μ-loop t s marks₀ n i₀ marks i = n - i
+μ-loop c marks₀ n i₀ marks i = n - i
 
 pub mark-modules-spec : {M : Type 1} → statement M
 mark-modules-spec =

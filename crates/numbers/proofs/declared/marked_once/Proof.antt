@@ -3,16 +3,16 @@ use native.Mathlib.Omega.{arith}
 use Rattle.basics.specs.Choice.{Passed}
 use Rattle.numbers.specs.Declarations.{namedOnce, modulesOnce}
 use Rattle.basics.proofs.Passes.{counts}
-use Rattle.table.specs.Table.{tableOf}
+use Rattle.code.specs.Code.{decoded}
 use borrow.Author.Needs.{needs}
 use Rattle.numbers.proofs.declared.marked_once.Statement.{statement}
 use Rattle.numbers.proofs.declared.marked_once.Tie as tie
 
 abbrev Inv-loop : tie.InvT-loop
-Inv-loop t s marks n i₀ i = (i ≤ n) × Passed (namedOnce (tableOf (s .w) t)) i
+Inv-loop c marks n i₀ i = (i ≤ n) × Passed (namedOnce (decoded c)) i
 
 abbrev μ-loop : tie.MeasureT-loop
-μ-loop t s marks n i₀ i = n - i
+μ-loop c marks n i₀ i = n - i
 
 pub marked-once-spec : {M : Type 1} → statement M
 unfolding modulesOnce

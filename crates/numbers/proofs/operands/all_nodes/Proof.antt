@@ -3,16 +3,16 @@ use native.Mathlib.Omega.{arith}
 use Rattle.basics.specs.Choice.{Passed}
 use Rattle.numbers.specs.Operands.{nodeRanged}
 use Rattle.basics.proofs.Passes.{counts}
-use Rattle.table.specs.Table.{tableOf}
+use Rattle.code.specs.Code.{decoded}
 use borrow.Author.Needs.{needs}
 use Rattle.numbers.proofs.operands.all_nodes.Statement.{statement}
 use Rattle.numbers.proofs.operands.all_nodes.Tie as tie
 
 abbrev Inv-loop : tie.InvT-loop
-Inv-loop t s types n i₀ i = (i ≤ n) × Passed (nodeRanged (tableOf (s .w) t)) i
+Inv-loop c types n i₀ i = (i ≤ n) × Passed (nodeRanged (decoded c)) i
 
 abbrev μ-loop : tie.MeasureT-loop
-μ-loop t s types n i₀ i = n - i
+μ-loop c types n i₀ i = n - i
 
 pub all-nodes-spec : {M : Type 1} → statement M
 all-nodes-spec =

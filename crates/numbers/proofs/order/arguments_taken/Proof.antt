@@ -2,17 +2,17 @@ use Prim.Native.Nat.{_≤_, _-_}
 use native.Mathlib.Omega.{arith}
 use Rattle.basics.specs.Chain.{taken, stepTake, testTake, Chain}
 use Rattle.numbers.specs.Operands.{argumentsTaken, isCall, callFirst, callCount}
-use Rattle.table.specs.Table.{tableOf}
+use Rattle.code.specs.Code.{decoded}
 use Rattle.numbers.proofs.Taking.{orders}
 use borrow.Author.Needs.{needs}
 use Rattle.numbers.proofs.order.arguments_taken.Statement.{statement}
 use Rattle.numbers.proofs.order.arguments_taken.Tie as tie
 
 abbrev Inv-loop : tie.InvT-loop
-Inv-loop t s n j₀ i₀ j i = (i ≤ n) × Chain (stepTake (isCall (tableOf (s .w) t)) (callFirst (tableOf (s .w) t)) (callCount (tableOf (s .w) t))) (testTake (isCall (tableOf (s .w) t)) (callFirst (tableOf (s .w) t))) i j
+Inv-loop c n j₀ i₀ j i = (i ≤ n) × Chain (stepTake (isCall (decoded c)) (callFirst (decoded c)) (callCount (decoded c))) (testTake (isCall (decoded c)) (callFirst (decoded c))) i j
 
 abbrev μ-loop : tie.MeasureT-loop
-μ-loop t s n j₀ i₀ j i = n - i
+μ-loop c n j₀ i₀ j i = n - i
 
 pub arguments-taken-spec : {M : Type 1} → statement M
 unfolding argumentsTaken taken

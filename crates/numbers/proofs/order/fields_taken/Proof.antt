@@ -2,17 +2,17 @@ use Prim.Native.Nat.{_≤_, _-_}
 use native.Mathlib.Omega.{arith}
 use Rattle.basics.specs.Chain.{taken, stepTake, testTake, Chain}
 use Rattle.numbers.specs.Declarations.{fieldsTaken, isRecord, recordFirst, recordCount}
-use Rattle.table.specs.Table.{tableOf}
+use Rattle.code.specs.Code.{decoded}
 use Rattle.numbers.proofs.Taking.{orders}
 use borrow.Author.Needs.{needs}
 use Rattle.numbers.proofs.order.fields_taken.Statement.{statement}
 use Rattle.numbers.proofs.order.fields_taken.Tie as tie
 
 abbrev Inv-loop : tie.InvT-loop
-Inv-loop t s n j₀ i₀ j i = (i ≤ n) × Chain (stepTake (isRecord (tableOf (s .w) t)) (recordFirst (tableOf (s .w) t)) (recordCount (tableOf (s .w) t))) (testTake (isRecord (tableOf (s .w) t)) (recordFirst (tableOf (s .w) t))) i j
+Inv-loop c n j₀ i₀ j i = (i ≤ n) × Chain (stepTake (isRecord (decoded c)) (recordFirst (decoded c)) (recordCount (decoded c))) (testTake (isRecord (decoded c)) (recordFirst (decoded c))) i j
 
 abbrev μ-loop : tie.MeasureT-loop
-μ-loop t s n j₀ i₀ j i = n - i
+μ-loop c n j₀ i₀ j i = n - i
 
 pub fields-taken-spec : {M : Type 1} → statement M
 unfolding fieldsTaken taken

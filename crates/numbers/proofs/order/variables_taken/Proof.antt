@@ -3,17 +3,17 @@ use native.Mathlib.Omega.{arith}
 use Rattle.basics.specs.Chain.{taken, stepTake, testTake, Chain, always}
 use Rattle.numbers.specs.Blocks.{variablesTaken}
 use Rattle.table.specs.Entries.{firstVar, vars}
-use Rattle.table.specs.Table.{tableOf}
+use Rattle.code.specs.Code.{decoded}
 use Rattle.numbers.proofs.Taking.{orders}
 use borrow.Author.Needs.{needs}
 use Rattle.numbers.proofs.order.variables_taken.Statement.{statement}
 use Rattle.numbers.proofs.order.variables_taken.Tie as tie
 
 abbrev Inv-loop : tie.InvT-loop
-Inv-loop t s n j₀ i₀ j i = (i ≤ n) × Chain (stepTake always (firstVar (tableOf (s .w) t)) (vars (tableOf (s .w) t))) (testTake always (firstVar (tableOf (s .w) t))) i j
+Inv-loop c n j₀ i₀ j i = (i ≤ n) × Chain (stepTake always (firstVar (decoded c)) (vars (decoded c))) (testTake always (firstVar (decoded c))) i j
 
 abbrev μ-loop : tie.MeasureT-loop
-μ-loop t s n j₀ i₀ j i = n - i
+μ-loop c n j₀ i₀ j i = n - i
 
 pub variables-taken-spec : {M : Type 1} → statement M
 unfolding taken variablesTaken

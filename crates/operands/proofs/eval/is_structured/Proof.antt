@@ -5,11 +5,9 @@ use Rattle.operands.proofs.eval.is_structured.Tie as tie
 
 pub is-structured-spec : {M : Type 1} → statement M
 is-structured-spec =
-    tie.close
-    (tie.spec
+    tie.close (tie.spec
     (λ c κs. search needs)
     (λ c κs. search needs)
-    (λ c κs. search needs)
-    (λ c κs. search needs)
-    (λ c. search structures)
-    (λ c. search structures))
+    (λ c κs. search (structures, needs))
+    (λ c. search (structures, needs))
+    (λ c. search (structures, needs)))

@@ -1,5 +1,4 @@
 use Rattle.operands.proofs.Standing.{standing}
-use native.Mathlib.Omega.{arith}
 use borrow.Author.Needs.{needs}
 use Rattle.operands.proofs.places.element_place.Statement.{statement}
 use Rattle.operands.proofs.places.element_place.Tie as tie
@@ -18,6 +17,7 @@ element-place-spec =
     (λ c κs. search needs)
     (λ c. search (standing, needs))
     (λ c. search (standing, needs))
+    (λ c κs. search (standing, needs))
     (λ c. search (standing, needs))
     (λ c. search (standing, needs))
     (λ c. search (standing, needs)))

@@ -1,4 +1,4 @@
-use Rattle.operands.proofs.Standing.{standing, field-room}
+use Rattle.operands.proofs.Standing.{standing}
 use borrow.Author.Needs.{needs}
 use Rattle.operands.proofs.places.word_at.Statement.{statement}
 use Rattle.operands.proofs.places.word_at.Tie as tie

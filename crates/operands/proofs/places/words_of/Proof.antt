@@ -1,5 +1,4 @@
 use Rattle.operands.proofs.Standing.{standing}
-use native.Mathlib.Omega.{arith}
 use borrow.Author.Needs.{needs}
 use Rattle.operands.proofs.places.words_of.Statement.{statement}
 use Rattle.operands.proofs.places.words_of.Tie as tie
@@ -7,4 +6,4 @@ use Rattle.operands.proofs.places.words_of.Tie as tie
 pub words-of-spec : {M : Type 1} → statement M
 words-of-spec = tie.close (tie.spec
     (λ c κs. search needs)
-    (λ c. search standing))
+    (λ c. search (standing, needs)))

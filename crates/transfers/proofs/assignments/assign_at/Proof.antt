@@ -1,6 +1,5 @@
 use Rattle.operands.proofs.Lending.{lends}
-use Rattle.transfers.proofs.Steps.{lent-after}
-use Rattle.transfers.proofs.Assigning.{assigns, assigning-bounds}
+use Rattle.transfers.proofs.Assigning.{assigns}
 use borrow.Author.Needs.{needs}
 use Rattle.transfers.proofs.assignments.assign_at.Statement.{statement}
 use Rattle.transfers.proofs.assignments.assign_at.Tie as tie
@@ -10,17 +9,16 @@ assign-at-spec =
     tie.close
     (tie.spec
     (λ c κs. search needs)
+    (λ c κs. search (assigns, lends, needs))
+    (λ c κs. (search needs, search (assigns, lends, needs)))
+    (λ c. search needs)
+    (λ c. search needs)
+    (λ c κs. (search (assigns, lends, needs), search (assigns, lends, needs)))
+    (λ c. search needs)
     (λ c κs. search needs)
+    (λ c. search needs)
+    (λ c κs. search (assigns, lends, needs))
     (λ c κs. search needs)
-    (λ c κs. search (assigns, lends, needs))
-    (λ c. search needs)
-    (λ c. search needs)
-    (λ c κs. search (assigns, lends, needs))
-    (λ c. search needs)
-    (λ c κs. search (assigns, lends, needs))
-    (λ c. search needs)
-    (λ c κs. search (assigns, lends, needs))
-    (λ c κs. (search (lent-after, needs), assigning-bounds _ _ _ _ _ _ _ _ _ _ (c .before .before .before .before .before .before .before .before .before .before .before .before .before .before .before .before .before .before .before .before .before .pre)))
     (λ c. search needs)
     (λ c. search (assigns, lends, needs))
     (λ c. search needs)

@@ -1,5 +1,5 @@
 use Rattle.operands.proofs.Lending.{lends}
-use Rattle.transfers.proofs.Writing.{writings, writing-lent, writing-page, writing-bounds}
+use Rattle.transfers.proofs.Writing.{writings}
 use borrow.Author.Needs.{needs}
 use Rattle.transfers.proofs.devices.write_value.Statement.{statement}
 use Rattle.transfers.proofs.devices.write_value.Tie as tie
@@ -9,11 +9,11 @@ write-value-spec =
     tie.close
     (tie.spec
     (λ c κs. search needs)
-    (λ c κs. search (writings, lends, needs))
+    (λ c κs. (search (writings, lends, needs), search (writings, lends, needs)))
     (λ c. search needs)
     (λ c κs. search needs)
     (λ c. search needs)
-    (λ c κs. let q = c .before .before .before .before .before .before .before .before .before .before .before .before .before .before .before .before .pre in (writing-lent _ _ _ _ _ _ _ _ _ _ q, (writing-page _ _ _ _ _ _ _ _ _ _ q, writing-bounds _ _ _ _ _ _ _ _ _ _ q)))
+    (λ c κs. search needs)
     (λ c. search needs)
     (λ c. search needs)
     (λ c. search (writings, lends, needs))

@@ -1,0 +1,4 @@
+pub mod Slots
+pub mod Columns
+pub mod Decodes
+pub mod Blanks
