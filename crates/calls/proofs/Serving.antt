@@ -37,19 +37,19 @@ use Rattle.transfers.specs.References.{referenceOf, referred, Referring}
 use Rattle.transfers.proofs.Referring.{follows, call-follows, follows-referring, follows-fails, follows-to, follows-refers}
 use Rattle.calls.specs.Framing.{Counted}
 use Rattle.calls.specs.Entering.{invoked, Invoking, Entering}
-use Rattle.calls.specs.Serving.{freed, served, Serving}
+use Rattle.calls.specs.Serving.{served, Serving}
 use Rattle.calls.proofs.Passing.{kept}
 use Rattle.calls.proofs.Entering.{stand-lent, stand-there, stand-fail, stand-done, entering-done, invoking-none}
 
 -- ---- the laws of `is_free`
 
 module _ (m : List ℕ) (r w : ℕ) (hw : w ≡ memoryOf m (statusAt r)) where
-  pub free-not : w ≡ 1 → false ≡ freed (memoryOf m) r
-  unfolding freed both
+  pub free-not : w ≡ 1 → false ≡ free (memoryOf m) r
+  unfolding free both
   free-not e = rw (← hw, e)
 
-  pub free-holder : (v : ℕ) → (w ≡ 1 → ⊥) → v ≡ memoryOf m (holderAt r) → eqb v 0 ≡ freed (memoryOf m) r
-  unfolding freed both
+  pub free-holder : (v : ℕ) → (w ≡ 1 → ⊥) → v ≡ memoryOf m (holderAt r) → eqb v 0 ≡ free (memoryOf m) r
+  unfolding free both
   free-holder v n hv = rw (← hw, ne-eqb w 1 n, ← hv)
 
 -- ---- the laws of `enter_process`
@@ -65,11 +65,11 @@ module _ (t m p : List ℕ) (x : Context) (q r : ℕ) (l : List ℕ) (n : ℕ)
 
 -- ---- the laws of `serve` and `call_on`
 
-served-not : (T : Table) (m page : Memory) (x : machine.Context) (q c d r : ℕ) → freed m r ≡ false → served T m page x q c d r ≡ ok (effect 1 m page)
+served-not : (T : Table) (m page : Memory) (x : machine.Context) (q c d r : ℕ) → free m r ≡ false → served T m page x q c d r ≡ ok (effect 1 m page)
 unfolding served wait
 served-not T m page x q c d r e = rw e
 
-served-free : (T : Table) (m page : Memory) (x : Context) (q c d r : ℕ) → freed m r ≡ true
+served-free : (T : Table) (m page : Memory) (x : Context) (q c d r : ℕ) → free m r ≡ true
     → served T m page (contextIn x) q c d r ≡ invoked T m page (contextIn x) (update m (holderAt r) (x .process)) q r (arguments T m page (contextIn x) q c d)
 unfolding served contextIn
 served-free T m page x q c d r e = rw e
@@ -84,16 +84,16 @@ module _ (t m p : List ℕ) (x : Context) (r : ℕ) (h : Serving t m p x r) wher
   pub serving-high : r ≤ 64
   serving-high = h .high
 
-  module _ (b : Bool) (hb : b ≡ freed (memoryOf m) r) where
+  module _ (b : Bool) (hb : b ≡ free (memoryOf m) r) where
     pub serving-waits : b ≡ false → Stepped 1 m p (carried (decoded t) (memoryOf m) (memoryOf p) (contextIn x))
     serving-waits e =
         stand-done t m p x (h .standing) 1 m (memoryOf m) (h .performs ∙ served-not _ _ _ _ _ _ _ _ (sym hb ∙ e))
         (record { long = h .standing .ready .state; is = refl })
 
-    pub serving-free : b ≡ true → freed (memoryOf m) r ≡ true
+    pub serving-free : b ≡ true → free (memoryOf m) r ≡ true
     serving-free e = sym hb ∙ e
 
-  pub serving-invoking : (q c d : ℕ) → freed (memoryOf m) r ≡ true → q ≡ stmtB (decoded t) (x .statement)
+  pub serving-invoking : (q c d : ℕ) → free (memoryOf m) r ≡ true → q ≡ stmtB (decoded t) (x .statement)
       → c ≡ stmtC (decoded t) (x .statement) → d ≡ stmtD (decoded t) (x .statement) → q < 65536
       → Invoking t m p x q c d (update (memoryOf m) (holderAt r) (x .process)) r
   serving-invoking q c d e hq hc hd l =
@@ -108,7 +108,7 @@ module _ (t m p : List ℕ) (x : Context) (r : ℕ) (h : Serving t m p x r) wher
         performs = h .performs ∙ served-free _ _ _ x _ _ _ r e;
       }
 
-  pub serving-none : (q d : ℕ) (l : List ℕ) → freed (memoryOf m) r ≡ true → q ≡ stmtB (decoded t) (x .statement)
+  pub serving-none : (q d : ℕ) (l : List ℕ) → free (memoryOf m) r ≡ true → q ≡ stmtB (decoded t) (x .statement)
       → d ≡ stmtD (decoded t) (x .statement) → q < 65536 → d ≡ 0
       → Entering t m p x q (update (memoryOf m) (holderAt r) (x .process)) r l 0
   serving-none q d l e hq hd g k =
@@ -124,7 +124,7 @@ module _ (T : Table) (m page : Memory) (x : machine.Context) (q c d : ℕ) where
   serves v r = served T m page x q c d r
 
   call-is : (a : ℕ) → doProcessCall T m page x a q c d ≡ follows T m page x a tests serves
-  unfolding doProcessCall served freed free invoked
+  unfolding doProcessCall served free invoked
   call-is a = call-follows T m page x a tests serves
 
 module _ (t m p : List ℕ) (x : Context) (h : Standing t m p x)

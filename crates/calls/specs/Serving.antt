@@ -18,21 +18,17 @@ use Rattle.machine.specs.Variables.{frameWords}
 use Rattle.machine.specs.Context as machine
 use Rattle.machine.specs.Calls.{arguments}
 use Rattle.machine.specs.Processes.{started}
-use Rattle.machine.specs.Statements.{Effect, effect, goOn, wait, perform}
+use Rattle.machine.specs.Statements.{Effect, effect, goOn, wait, free, perform}
 use Rattle.code.specs.Code.{decoded}
 use Rattle.operands.specs.declared.Context.{Context}
 use Rattle.operands.specs.Ready.{contextIn}
 use Rattle.effects.specs.Effects.{Standing}
 use Rattle.calls.specs.Entering.{invoked}
 
--- process r is started and nobody holds its variables (11.3, 13)
-unfoldable pub freed : Memory → ℕ → Bool
-freed m r = both (not (eqb (m (statusAt r)) 1)) (eqb (m (holderAt r)) 0)
-
 -- process r is called: it serves, or the caller waits
 unfoldable pub served : Table → Memory → Memory → machine.Context → ℕ → ℕ → ℕ → ℕ → Outcome Effect
 served T m page x q c d r =
-    pick (freed m r)
+    pick (free m r)
     (invoked T m page x (update m (holderAt r) (x .process)) q r (arguments T m page x q c d))
     (wait T m page x m)
 

@@ -18,13 +18,14 @@ ghost use Rattle.code.specs.Code.{decoded};
 ghost use Rattle.operands.specs.Ready.{contextIn};
 ghost use Rattle.effects.specs.Effects.{carried, Stepped, Standing};
 ghost use Rattle.calls.specs.Entering.{Invoking, Entering};
-ghost use Rattle.calls.specs.Serving.{freed, Serving, Starting, Beginning};
+ghost use Rattle.machine.specs.Statements.{free};
+ghost use Rattle.calls.specs.Serving.{Serving, Starting, Beginning};
 
 // Process r can serve a call when it is started and nobody holds its variables.
 fn is_free(state: &[u8], r: usize) -> bool
     requires { ⌜ Lent 17664 (now state) ⌝ }
     requires { ⌜ (1 ≤ r) × (r ≤ 64) ⌝ }
-    ensures { λ b. ⌜ b ≡ freed (memoryOf (now (state .entry))) r ⌝ }
+    ensures { λ b. ⌜ b ≡ free (memoryOf (now (state .entry))) r ⌝ }
 {
     if machine::record_word(state, r, 0) == 1 {
         return false;
@@ -81,7 +82,7 @@ fn call_process(
 // A call of process r, which can serve it.
 fn call_on(c: &code::Slots, state: &mut [u8], page: &[u8], x: Context, r: usize) -> u8
     requires { ⌜ Serving (now c) (now state) (now page) x r ⌝ }
-    requires { ⌜ freed (memoryOf (now state)) r ≡ true ⌝ }
+    requires { ⌜ free (memoryOf (now state)) r ≡ true ⌝ }
     ensures { λ a. ⌜ Stepped a (now (state .exit)) (now (page .entry)) (carried (decoded (now (c .entry))) (memoryOf (now (state .entry))) (memoryOf (now (page .entry))) (contextIn x)) ⌝ }
 {
     let q = code::stmt_b(c, x.statement);

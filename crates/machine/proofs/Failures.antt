@@ -126,7 +126,7 @@ module _ (T : Table) (m page : Memory) (x : Context) where
   low-perform (processCall a q c d) =
       ends-onProcess Low T a m page x _
       (λ i μ. ends-need Low _ _ (ends-onReference Low m i μ _
-      (λ r. ends-pick Low (free T m page x r) _ _ (ends-andThen Low _ _ (λ ws. low-moved _)) (low-wait m))))
+      (λ r. ends-pick Low (free m r) _ _ (ends-andThen Low _ _ (λ ws. low-moved _)) (low-wait m))))
   low-perform (create a) = ends-onProcess Low T a m page x _ (λ i μ. ends-failWhere Low _ 24 _ (low-goOn _))
   low-perform (start a c d) =
       ends-onProcess Low T a m page x _

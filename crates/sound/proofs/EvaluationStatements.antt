@@ -63,7 +63,7 @@ reference T m p τ a l k n =
     either-case (eqb (m a) 0) (refers m (typeP T τ) (m a)) h (λ e. absurd (n (eqb-true (m a) 0 e))) (λ e. e)
 
 -- a process that can serve a call is started, and nobody holds its variables
-module _ (T : Table) (m page : Memory) (x : Context) (r : ℕ) (e : free T m page x r ≡ true) where
+module _ (T : Table) (m page : Memory) (x : Context) (r : ℕ) (e : free m r ≡ true) where
   free-status : m (statusAt r) ≡ 1 → ⊥
   unfolding free
   free-status = eqb-false (m (statusAt r)) 1 (not-true _ (both-l _ _ e))
@@ -211,7 +211,7 @@ module _ (T : Table) (acc : Accepted T) (L : PlaceLaws T) (W : WordTable T) (m :
       calling : state.calls (stmtB T stmt) (stmtAt T stmt) ≡ true
       calling = rw e (unfold state.calls in eq-eqb (stmtB T stmt) (stmtB T stmt) refl)
 
-      pushed-frame : (r : ℕ) → refers m (typeP T (typeOf T (stmtA T stmt))) r ≡ true → free T m page (contextOf m p) r ≡ true → (ws : List ℕ) → Bound T m p (params T (stmtB T stmt)) (firstVar T (stmtB T stmt)) ws
+      pushed-frame : (r : ℕ) → refers m (typeP T (typeOf T (stmtA T stmt))) r ≡ true → free m r ≡ true → (ws : List ℕ) → Bound T m p (params T (stmtB T stmt)) (firstVar T (stmtB T stmt)) ws
           → Performed T m page p (moved T m page (contextOf m p) (call T m page (contextOf m p) (update m (holderAt r) p) (stmtB T stmt) r ws))
       pushed-frame r g h ws b =
           let f = arguments-fit T acc m p (stmtB T stmt) (there .0) ws b in
@@ -220,9 +220,9 @@ module _ (T : Table) (acc : Accepted T) (L : PlaceLaws T) (W : WordTable T) (m :
           (record { there = there .0; procedure = there .1; bound = b; long = f; room = o; deep = d; calling = calling }))
 
       served : (r : ℕ) → refers m (typeP T (typeOf T (stmtA T stmt))) r ≡ true
-          → Performed T m page p (pick (free T m page (contextOf m p) r) (andThen (arguments T m page (contextOf m p) (stmtB T stmt) (stmtC T stmt) (stmtD T stmt)) λ ws. moved T m page (contextOf m p) (call T m page (contextOf m p) (update m (holderAt r) p) (stmtB T stmt) r ws)) (wait T m page (contextOf m p) m))
+          → Performed T m page p (pick (free m r) (andThen (arguments T m page (contextOf m p) (stmtB T stmt) (stmtC T stmt) (stmtD T stmt)) λ ws. moved T m page (contextOf m p) (call T m page (contextOf m p) (update m (holderAt r) p) (stmtB T stmt) r ws)) (wait T m page (contextOf m p) m))
       served r g =
-          cases (free T m page (contextOf m p) r)
+          cases (free m r)
           (λ h. rw h (on-arguments (stmtB T stmt) (stmtC T stmt) (stmtD T stmt) _ (there .0) (typing.called-arguments T (acc .types) stmt l k) (ranged.call-args T (acc .numbers) stmt l k) inside (pushed-frame r g h)))
           (λ h. rw h (unfold wait in waits))
 

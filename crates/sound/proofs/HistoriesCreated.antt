@@ -152,7 +152,7 @@ module _ (T : Table) (m page : Memory) (x : Context) where
         g-place Keeping none (operand T m page x a) _ (λ f e. fails)
         (λ i τ e. g-module Keeping none (typeAt T τ) _ (λ μ t. g-need Keeping none _ _
         (g-where Keeping none _ 19 _ (λ z. fails) (λ z. g-need Keeping none _ _
-        (cases (free T m page x (m i))
+        (cases (free m (m i))
         (λ k. rw k (g-then Keeping none (arguments T m page x q c d) _ (λ f u. fails)
         (λ ws u. moved-keeps _ (within-call _ q (m i) ws (holder-still (m i) _)))))
         (λ k. rw k (wait-keeps m (still m))))))))

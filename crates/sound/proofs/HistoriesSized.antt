@@ -169,7 +169,7 @@ module _ (T : Table) (m page : Memory) (x : Context) (hm : Sized 17664 m) (hp : 
       g-place Inside none (operand T m page x a) _ (λ f e. fails)
       (λ i τ e. g-module Inside none (typeAt T τ) _ (λ μ t. g-need Inside none _ _
       (g-where Inside none _ 19 _ (λ z. fails) (λ z. g-test Inside none _ _ (λ r.
-      cases (free T m page x (m i))
+      cases (free m (m i))
       (λ k. rw k (g-then Inside none (arguments T m page x q c d) _ (λ f u. fails)
       (λ ws u. moved-in _ (within-call _ q (m i) ws (record-sized m hm (m i) (refers-in μ (m i) r) 6 _ (omega arith))))))
       (λ k. rw k (wait-in m hm)))))))

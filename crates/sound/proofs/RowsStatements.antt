@@ -214,14 +214,14 @@ module _ (T : Table) (m page : Memory) (x : Context) where
   returns-reports S c noStatement = strays
 
   -- a process that cannot serve is unstarted or held
-  not-free : (r : ℕ) → free T m page x r ≡ false → (m (statusAt r) ≡ 1) ⊎ (m (holderAt r) ≡ 0 → ⊥)
+  not-free : (r : ℕ) → free m r ≡ false → (m (statusAt r) ≡ 1) ⊎ (m (holderAt r) ≡ 0 → ⊥)
   unfolding free both
   not-free r e =
       cases (eqb (m (statusAt r)) 1)
       (λ h. inl (eqb-true _ 1 h))
       (λ h. inr (eqb-false _ 0 (rw h at e)))
 
-  serves : (r : ℕ) → free T m page x r ≡ true → Serves T m page x r
+  serves : (r : ℕ) → free m r ≡ true → Serves T m page x r
   unfolding free
   serves r e = record {
     started = λ h. no-true (sym (ap (λ (n : ℕ). not (eqb n 1)) h) ∙ both-l _ _ e);
@@ -249,7 +249,7 @@ module _ (T : Table) (m page : Memory) (x : Context) where
       (λ i τ y. g-module (Reports _) strays (typeAt T τ) _ (λ μ t. g-need (Reports _) strays _ _
       (g-where (Reports _) strays _ 19 _ (λ z. failed (calleeEmpty y (eqb-true _ 0 z)))
       (λ z. g-need (Reports _) strays _ _
-      (cases (free T m page x (m i))
+      (cases (free m (m i))
       (λ e. rw e (g-then (Reports _) strays (arguments T m page x q c d) _ (λ f u. failed (callArgument y (eqb-false _ 0 z) (serves (m i) e) (arguments-fail q c d f u)))
       (λ ws u. call-reports _ _ q (m i) ws (λ h. callArea y (eqb-false _ 0 z) (serves (m i) e) u h))))
       (λ e. rw e (waited (busy y (eqb-false _ 0 z) (not-free (m i) e)) keeps)))))))
@@ -338,11 +338,11 @@ module _ (T : Table) (m page : Memory) (x : Context) where
 
   -- ---- a rule that holds says what the statement comes to, where it is not stuck
 
-  serves-free : (r : ℕ) → Serves T m page x r → free T m page x r ≡ true
+  serves-free : (r : ℕ) → Serves T m page x r → free m r ≡ true
   unfolding free
   serves-free r h = both-i _ _ (rw (ne-eqb _ 1 (h .started))) (eq-eqb _ 0 (h .unheld))
 
-  busy-free : (r : ℕ) → (m (statusAt r) ≡ 1) ⊎ (m (holderAt r) ≡ 0 → ⊥) → free T m page x r ≡ false
+  busy-free : (r : ℕ) → (m (statusAt r) ≡ 1) ⊎ (m (holderAt r) ≡ 0 → ⊥) → free m r ≡ false
   unfolding free
   busy-free r (inl e) = both-false-l _ _ (rw (eq-eqb _ 1 e))
   busy-free r (inr n) = both-false-r _ _ (ne-eqb _ 0 n)
