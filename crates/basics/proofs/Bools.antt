@@ -4,9 +4,9 @@ use mathlib.Core.Bool.{Bool, true, false}
 use Prim.Native.Nat.{ℕ, zero, suc, _<_, _≤_}
 use native.Mathlib.Omega.{arith}
 use native.Mathlib.Nat.{not-suc-le-zero}
-use lib.Dec.{T, eqb, leb}
+use lib.Dec.{T, eqb}
 use borrow.Author.Tests.{eqb-true, eqb-false, leb-true}
-use Rattle.basics.specs.Choice.{pick, cases, both, either, between, allBelow}
+use Rattle.basics.specs.Choice.{pick, cases, both, between, allBelow}
 
 pub no-true {ℓ} : {A : Type ℓ} → false ≡ true → A
 no-true e = absurd (subst T (sym e) tt)

@@ -1,13 +1,12 @@
 -- The loop over the items of a chain, and what a chain that holds says. Assumes nothing.
-use mathlib.Core.Path.{_≡_, refl, sym, ap, _∙_, subst}
+use mathlib.Core.Path.{_≡_, refl, sym, _∙_}
 use mathlib.Core.Bool.{Bool, true, false}
-use Prim.Native.Nat.{ℕ, zero, suc, _+_, _-_, _*_, _<_, _≤_}
+use Prim.Native.Nat.{ℕ, zero, suc, _+_, _-_, _<_, _≤_}
 use native.Mathlib.Omega.{arith}
 use native.Mathlib.Numerals.{add-one}
-use native.Mathlib.Nat.{add-zero}
-use lib.Dec.{ltb, leb, eqb}
+use lib.Dec.{leb, eqb}
 use borrow.Author.Tests.{eqb-true, leb-true, leb-false}
-use Rattle.basics.specs.Choice.{pick, cases, both, allBelow}
+use Rattle.basics.specs.Choice.{cases, both, allBelow}
 use Rattle.basics.specs.Chain.{free, carried, chained, Chain}
 use Rattle.basics.proofs.Bools.{both-l, both-r, both-i, both-false-l, all-at, all-fail}
 

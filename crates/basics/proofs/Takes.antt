@@ -1,14 +1,13 @@
 -- The loop over rows that take numbers, and what an accepted section promises. Assumes nothing.
-use mathlib.Core.Path.{_≡_, refl, sym, ap, _∙_}
+use mathlib.Core.Path.{_≡_, sym, _∙_}
 use mathlib.Core.Bool.{Bool, true, false}
-use mathlib.Core.List.{List}
-use Prim.Native.Nat.{ℕ, zero, suc, _+_, _-_, _*_, _<_, _≤_}
+use Prim.Native.Nat.{ℕ, _+_, _-_, _<_, _≤_}
 use native.Mathlib.Omega.{arith}
 use native.Mathlib.Numerals.{add-one}
-use lib.Dec.{ltb, leb, eqb}
+use lib.Dec.{eqb}
 use borrow.Author.Tests.{eqb-true, eq-eqb, ne-eqb}
 use Rattle.basics.specs.Choice.{pick, cases}
-use Rattle.basics.specs.Chain.{free, chained, Chain, stepTake, testTake, taken, always}
+use Rattle.basics.specs.Chain.{free, stepTake, testTake, taken, always}
 use Rattle.basics.proofs.Chains.{chain-none, chain-more, chain-fail, chain-all, passes, ends, rises}
 
 module _ (takes : ℕ → Bool) (first count : ℕ → ℕ) where

@@ -1,11 +1,11 @@
 -- Calls of other processes, and starts (11.3, 11.5, 13). Assumes nothing.
 use Prim.Native.Nat.{ℕ, _+_, _<_, _≤_}
 use mathlib.Core.Path.{_≡_}
-use mathlib.Core.Bool.{Bool, not}
+use mathlib.Core.Bool.{not}
 use mathlib.Core.List.{List}
 use lib.ListN.{length, take}
 use lib.Dec.{eqb, leb}
-use Rattle.basics.specs.Choice.{pick, both}
+use Rattle.basics.specs.Choice.{pick}
 use Rattle.table.specs.Table.{Table}
 use Rattle.table.specs.Entries.{blockCount, typeP, stmtKind, stmtA, stmtB, stmtC, stmtD}
 use Rattle.types.specs.Types.{typeOf}

@@ -1,6 +1,6 @@
 // The words of frames (01, A step).
 ghost use mathlib.Core.Path.{_≡_};
-ghost use Prim.Native.Nat.{ℕ, _<_, _≤_};
+ghost use Prim.Native.Nat.{_≤_};
 ghost use Rattle.table.specs.Entries.{varType};
 ghost use Rattle.machine.specs.Variables.{varWords};
 ghost use Rattle.code.specs.Code.{decoded};

@@ -1,23 +1,22 @@
 -- A statement that is not stuck exists, and does what its kind says. Assumes nothing.
-use Prim.Native.Nat.{ℕ, _+_, _<_, _≤_}
-use mathlib.Core.Path.{_≡_, refl, sym, ap, _∙_}
+use Prim.Native.Nat.{ℕ, _<_}
+use mathlib.Core.Path.{_≡_, refl, _∙_}
 use mathlib.Core.Bool.{Bool, true, false}
 use mathlib.Core.List.{List}
-use native.Mathlib.Omega.{arith}
 use borrow.Author.Tests.{ltb-true, lt-ltb}
 use lib.ListN.{length}
-use lib.Dec.{ltb, eqb}
+use lib.Dec.{ltb}
 use Rattle.basics.specs.Choice.{pick}
 use Rattle.table.specs.Table.{Table}
 use Rattle.table.specs.Entries.{stmtCount, stmtKind, stmtA, stmtB, stmtC, stmtD, stmtLink}
 use Rattle.machine.specs.Memory.{Memory, memoryOf, update}
 use Rattle.machine.specs.Layout.{failureAt}
 use Rattle.machine.specs.Lent.{Changed}
-use Rattle.machine.specs.Outcomes.{Outcome, ok, fail, stuck}
-use Rattle.machine.specs.Entries.{Statement, Opener, if, while, when, cycle, noStatement, statementOf, stmtAt}
+use Rattle.machine.specs.Outcomes.{ok, fail, stuck}
+use Rattle.machine.specs.Entries.{Statement, if, while, when, cycle, noStatement, statementOf, stmtAt}
 use Rattle.machine.specs.Context.{Context}
-use Rattle.machine.specs.Statements.{Effect, effect, goOn, doAssign, doLocalCall, doProcessCall, doCreate, doStart, doOpener, doEnd, doWrite, doBlockEnd, perform}
-use Rattle.machine.specs.Step.{Step, done, settled}
+use Rattle.machine.specs.Statements.{effect, goOn, doAssign, doLocalCall, doProcessCall, doCreate, doStart, doOpener, doEnd, doWrite, doBlockEnd, perform}
+use Rattle.machine.specs.Step.{settled}
 use Rattle.effects.specs.Effects.{carried, Stepped}
 
 there : (b : Bool) (T : Table) (m page : Memory) (x : Context) (y : Statement)

@@ -1,9 +1,8 @@
 -- What a call that is not stuck gives its code: the bounds of the push, and the outcome. Assumes nothing.
 use Prim.Native.Nat.{ℕ, _+_, _<_, _≤_}
-use mathlib.Core.Path.{_≡_, refl, sym, _∙_}
+use mathlib.Core.Path.{_≡_, refl}
 use mathlib.Core.Bool.{Bool, true, false}
 use mathlib.Core.List.{List}
-use native.Mathlib.Omega.{arith}
 use borrow.Author.Tests.{leb-true, ltb-true, le-leb, lt-ltb, le-ltb}
 use lib.ListN.{length}
 use lib.Dec.{leb, ltb}
@@ -12,7 +11,7 @@ use Rattle.machine.specs.Memory.{Memory}
 use Rattle.machine.specs.Layout.{topAt, depthAt}
 use Rattle.machine.specs.Outcomes.{Outcome, ok, fail, stuck, need, failWhere}
 use Rattle.machine.specs.Variables.{frameWords}
-use Rattle.machine.specs.Context.{Context, contextOf}
+use Rattle.machine.specs.Context.{contextOf}
 use Rattle.machine.specs.Calls.{topAfter, pushed, call}
 use Rattle.frames.specs.Frames.{Fits}
 

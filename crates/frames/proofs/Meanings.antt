@@ -1,22 +1,21 @@
 -- What the writes mean in the definitions of `machine`. Assumes nothing.
-use Prim.Native.Nat.{ℕ, _+_, _-_, _*_, _<_, _≤_}
-use mathlib.Core.Path.{_≡_, refl, sym, ap, _∙_}
-use mathlib.Core.List.{List, [], _∷_, _++_}
+use Prim.Native.Nat.{ℕ, _+_, _-_, _<_, _≤_}
+use mathlib.Core.Path.{_≡_, refl}
+use mathlib.Core.List.{List}
 use native.Mathlib.Omega.{arith}
-use lib.ListN.{length}
 use Rattle.table.specs.Table.{Table}
 use Rattle.table.specs.Entries.{firstStmt}
 use Rattle.table.specs.Reading.{Field}
 use Rattle.sizes.specs.Sizes.{moduleWords}
-use Rattle.machine.specs.Memory.{Memory, memoryOf, update, store, clear}
-use Rattle.machine.specs.Layout.{location, recordAt, statementAt, frameAt, topAt, worksAt, holderAt, depthAt, linkAt, callerFrame, callerWorks}
-use Rattle.machine.specs.Lent.{Lent, Changed}
+use Rattle.machine.specs.Memory.{Memory, memoryOf, update}
+use Rattle.machine.specs.Layout.{location, recordAt, frameAt, worksAt, holderAt, linkAt}
+use Rattle.machine.specs.Lent.{Changed}
 use Rattle.machine.specs.Variables.{frameWords}
-use Rattle.machine.specs.Context.{Context, contextOf}
-use Rattle.machine.specs.Calls.{standing, frame, topAfter, pushed, popped}
+use Rattle.machine.specs.Context.{contextOf}
+use Rattle.machine.specs.Calls.{frame, topAfter, pushed, popped}
 use Rattle.machine.specs.Processes.{started}
 use Rattle.machine.proofs.Memories.{update-other}
-use Rattle.frames.specs.Frames.{placed, padded, linked, framed, entered, left, wiped, given, begun, ended, Fits, Called}
+use Rattle.frames.specs.Frames.{padded, linked, framed, entered, left, given, begun, Fits, Called}
 
 -- holders are words of their own
 pub record-kept : (m : Memory) (r v p k : ℕ) → k < 20 → (k ≡ 6 → ⊥) → update m (holderAt r) v (recordAt p k) ≡ m (recordAt p k)

@@ -1,23 +1,21 @@
 -- Writes one after the other are the writes of the definitions. Assumes nothing.
-use Prim.Native.Nat.{ℕ, zero, suc, _+_, _-_, _*_, _<_, _≤_}
-use mathlib.Core.Path.{_≡_, refl, sym, ap, _∙_, fun-ext}
+use Prim.Native.Nat.{ℕ, suc, _+_, _-_, _<_, _≤_}
+use mathlib.Core.Path.{_≡_, sym, ap, _∙_, fun-ext}
 use mathlib.Core.List.{List, [], _∷_, _++_}
 use native.Mathlib.Omega.{arith}
-use borrow.Author.Needs.{needs}
 use borrow.Author.Tests.{eqb-true, eqb-false, ltb-true, ltb-false}
 use lib.Dec.{eqb, ltb}
-use lib.ListN.{length, getD, replicate, take, length-replicate, getD-replicate}
+use lib.ListN.{length, replicate, take, length-replicate, getD-replicate}
 use lib.Seq.{length-take-le}
 use Rattle.basics.specs.Choice.{cases}
-use Rattle.machine.specs.Memory.{Memory, memoryOf, update, store, clear, wordsAt}
+use Rattle.machine.specs.Memory.{Memory, memoryOf, update, store, clear}
 use Rattle.machine.specs.Layout.{location, recordAt, statusAt, moduleAt, statementAt, frameAt, topAt, worksAt, holderAt, depthAt, createdAt, linkAt}
-use Rattle.machine.specs.Lent.{Lent, Changed}
+use Rattle.machine.specs.Lent.{Changed}
 use Rattle.machine.specs.Calls.{standing}
 use Rattle.machine.specs.Processes.{created}
 use Rattle.machine.proofs.Memories.{update-same, update-other, store-below, store-above, store-at, clear-below, clear-above, clear-at}
-use Rattle.machine.proofs.Copies.{store-none, store-more}
+use Rattle.machine.proofs.Copies.{store-none}
 use Rattle.frames.specs.Frames.{placed, padded, linked, framed, entered, left, wiped, given, begun, ended}
-use Rattle.frames.proofs.Storing.{still-lent}
 
 -- ---- lists stored in parts
 

@@ -1,10 +1,10 @@
 -- What statements write, in the numbers that their code has at hand; proofs/Meanings.antt carries them to the definitions of `machine`.
 -- Assumes nothing.
 use Prim.Native.Nat.{ℕ, _+_, _-_, _≤_, _<_}
-use mathlib.Core.List.{List, [], _∷_, _++_}
+use mathlib.Core.List.{List, _∷_, _++_}
 use lib.ListN.{length, replicate}
 use Rattle.machine.specs.Memory.{Memory, update, store, clear}
-use Rattle.machine.specs.Layout.{location, recordAt, statusAt, moduleAt, statementAt, frameAt, topAt, worksAt, holderAt, depthAt, callerFrame, callerWorks}
+use Rattle.machine.specs.Layout.{location, recordAt, statusAt, statementAt, frameAt, topAt, worksAt, holderAt, depthAt, callerFrame, callerWorks}
 use Rattle.machine.specs.Calls.{standing}
 
 -- process p is at a statement, its innermost frame and its first free word are these

@@ -1,13 +1,13 @@
 // What statements write into a lent state: where a process stands, frames, records (01, A step). Callers test first.
 ghost use mathlib.Core.Path.{_≡_};
-ghost use mathlib.Core.List.{[], _∷_};
-ghost use Prim.Native.Nat.{ℕ, _+_, _-_, _*_, _≤_, _<_};
+ghost use mathlib.Core.List.{[]};
+ghost use Prim.Native.Nat.{_+_, _-_, _≤_, _<_};
 ghost use lib.ListN.{length, take};
 ghost use Rattle.table.specs.Table.{Table};
 ghost use Rattle.sizes.specs.Sizes.{moduleWords};
 ghost use Rattle.code.specs.Code.{decoded};
 ghost use Rattle.machine.specs.Memory.{Memory, memoryOf, update, store, clear, wordsAt};
-ghost use Rattle.machine.specs.Layout.{location, recordAt, statementAt, worksAt, holderAt, failureAt};
+ghost use Rattle.machine.specs.Layout.{location, statementAt, worksAt, holderAt, failureAt};
 ghost use Rattle.machine.specs.Lent.{Lent, Changed};
 ghost use Rattle.machine.specs.Variables.{frameWords};
 ghost use Rattle.machine.specs.Context.{contextOf};

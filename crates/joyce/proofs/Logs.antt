@@ -2,15 +2,15 @@
 use Prim.Native.Nat.{ℕ}
 use mathlib.Core.Path.{_≡_, refl, sym, ap, subst, _∙_}
 use mathlib.Core.Bool.{Bool, true, false}
-use mathlib.Core.List.{List, [], _∷_, _++_}
+use mathlib.Core.List.{List, [], _∷_}
 use lib.Dec.{eqb}
 use lib.ListN.{length, take}
 use borrow.Author.Tests.{eqb-true}
 use Rattle.basics.specs.Choice.{pick}
 use Rattle.verdict.specs.Verdict.{verdict}
-use Rattle.machine.specs.Public.{Begun, begun, Called, called, beginCall, runCall}
+use Rattle.machine.specs.Public.{called, beginCall}
 use Rattle.sound.specs.Histories as sound
-use Rattle.sound.specs.Histories.{Ask, begunResult, begunState, result, stateLeft, pageLeft, answersLeft, devicesAfter, stepsOf, Devices, Handed, callOf, refused, written, writtenOf, stateAfter, Calls, Fits, begunWith, History, first, steps, answers, finally}
+use Rattle.sound.specs.Histories.{begunResult, begunState, result, stateLeft, pageLeft, answersLeft, devicesAfter, stepsOf, Devices, Handed, callOf, refused, written, writtenOf, stateAfter, Calls, begunWith, History, first, steps, answers, finally}
 use Rattle.sound.specs.Demand.{Demand3}
 use Rattle.sound.proofs.StepsDemand.{demand3}
 use Rattle.joyce.specs.Calls.{Call, Kept, Follows, Following, Log, asks, answered, leaves, Pages}

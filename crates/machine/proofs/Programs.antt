@@ -1,8 +1,7 @@
 -- What the runs of programs come to, by computation. Assumes nothing.
-use Prim.Native.Nat.{ℕ, _+_, _/_}
-use mathlib.Core.Bool.{Bool, false}
-use mathlib.Core.List.{List, [], _∷_}
-use lib.ListN.{length, getD}
+use Prim.Native.Nat.{ℕ}
+use mathlib.Core.Bool.{Bool}
+use mathlib.Core.List.{List, []}
 use Rattle.basics.specs.Choice
 use Rattle.basics.specs.Course
 use Rattle.words.specs.Numbers

@@ -9,7 +9,7 @@ use Rattle.machine.specs.Run.{stuck}
 use Rattle.machine.proofs.Rows.{Row, tableFrom, records, arrays, processes, number, local, byValue, byVar, initial, process, procedure}
 use Rattle.machine.proofs.Rows.{constant, whole, field, element, value, unary, binary, transfer}
 use Rattle.machine.proofs.Rows.{skip, assign, localCall, processCall, create, start, if, arm, endArms, write, blockEnd}
-use Rattle.machine.proofs.Programs.{runOn, answersOf, answers}
+use Rattle.machine.proofs.Programs.{runOn, answers}
 
 -- one step of process 1
 abbrev one : List ℕ

@@ -1,7 +1,6 @@
 // Access to a lent state by word: areas, control records and frames (01, The four calls; docs/STATE.md).
 ghost use mathlib.Core.Path.{_≡_};
-ghost use Prim.Native.Nat.{ℕ, _*_, _≤_, _<_};
-ghost use lib.ListN.{length};
+ghost use Prim.Native.Nat.{_*_, _≤_, _<_};
 ghost use Rattle.machine.specs.Memory.{memoryOf, update};
 ghost use Rattle.machine.specs.Layout.{location, recordAt};
 ghost use Rattle.machine.specs.Lent.{Lent, Changed};

@@ -1,21 +1,19 @@
 -- Variables of areas and frames: the laws of each return. Assumes nothing.
-use Prim.Native.Nat.{ℕ, zero, suc, _+_, _-_, _*_, _/_, _%_, _≤_, _<_}
-use mathlib.Core.Path.{_≡_, refl, sym, ap, _∙_}
+use Prim.Native.Nat.{ℕ, suc, _+_, _-_, _/_, _%_, _≤_, _<_}
+use mathlib.Core.Path.{_≡_, refl, sym, _∙_}
 use mathlib.Core.Bool.{Bool, true, false}
 use mathlib.Core.List.{List}
-use lib.Dec.{eqb, leb, ltb}
 use native.Mathlib.Omega.{arith}
 use native.Mathlib.Nat.{add-zero}
 use borrow.Author.Tests.{eq-eqb, ne-eqb, le-leb, lt-leb}
-use Rattle.basics.specs.Choice.{pick, cases, both, either, allBelow, Passed}
+use Rattle.basics.specs.Choice.{both, either, allBelow}
 use Rattle.basics.proofs.Passes.{passed-none, passed-more, passed-fail, passed-all}
 use Rattle.table.specs.Table.{Table}
 use Rattle.table.specs.Entries.{varMode, varType, firstVar, vars}
-use Rattle.sizes.specs.Sizes.{wordsOf}
 use Rattle.sizes.proofs.Judging.{any-small}
 use Rattle.machine.specs.Memory.{Memory}
-use Rattle.machine.specs.Layout.{location, linkAt, moduleAt, createdAt, callerFrame, calledBlock}
-use Rattle.machine.specs.Variables.{varWords, firstWords, offsetOf}
+use Rattle.machine.specs.Layout.{location, linkAt, moduleAt, createdAt}
+use Rattle.machine.specs.Variables.{varWords, firstWords}
 use Rattle.machine.specs.Values.{holds, partOfBlock}
 use Rattle.machine.specs.Step.{inRange}
 use Rattle.machine.specs.Rule.{isCreated, owns, lives, moduleHolds, modulesHold, frameHolds, framesHold}

@@ -1,13 +1,11 @@
 -- Parts of variables: the laws of each return of the search for a part. Assumes nothing.
-use Prim.Native.Nat.{ℕ, zero, suc, _+_, _-_, _*_, _/_, _%_, _≤_, _<_}
+use Prim.Native.Nat.{ℕ, zero, suc, _+_, _-_, _/_, _%_, _≤_, _<_}
 use mathlib.Core.Path.{_≡_, refl, sym, ap, _∙_, fun-ext}
 use mathlib.Core.Bool.{Bool, true, false}
-use lib.Dec.{eqb, leb, ltb}
+use lib.Dec.{eqb, ltb}
 use native.Mathlib.Omega.{arith}
 use native.Mathlib.Numerals.{add-one}
 use native.Mathlib.Nat.{not-suc-le-zero}
-use mir.Val.{Fits}
-use mir.Syntax.{w64}
 use borrow.Author.Tests.{eq-eqb, ne-eqb, le-leb, lt-leb, lt-ltb, le-ltb, eqb-true, eqb-false}
 use Rattle.basics.specs.Choice.{pick, cases, both, either}
 use Rattle.table.specs.Table.{Table}
@@ -17,7 +15,7 @@ use Rattle.sizes.specs.Sizes.{sumBelow, wordsOf, partWords, offsetIn}
 use Rattle.sizes.proofs.Sums.{sum-more}
 use Rattle.sizes.proofs.Counting.{offset-none, offset-more, part-lower, part-none}
 use Rattle.machine.specs.Memory.{within}
-use Rattle.machine.specs.Entries.{TypeEntry, integer, boolean, character, recordType, arrayType, processType, noType, typeAt}
+use Rattle.machine.specs.Entries.{TypeEntry, typeAt}
 use Rattle.machine.specs.Variables.{varWords, firstWords, offsetOf}
 use Rattle.machine.specs.Values.{someBelow, nowhere, partIn, partAt, part, partOfVariable, partOfBlock}
 use Rattle.machine.proofs.Courses.{below, part-is}

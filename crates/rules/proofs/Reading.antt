@@ -1,20 +1,20 @@
 -- Words of a state, and words of types, as the passes read them. Assumes nothing.
 use Prim.Native.Nat.{ℕ, _+_, _*_, _/_, _%_, _≤_, _<_, min}
 use native.Mathlib.Nat.{div-zero, mod-zero}
-use mathlib.Core.Path.{_≡_, refl, sym, _∙_}
+use mathlib.Core.Path.{_≡_, sym}
 use mathlib.Core.Bool.{Bool, true, false}
 use mathlib.Core.List.{List}
-use lib.ListN.{length, getD, List·getD-eq-default}
-use lib.Dec.{eqb, leb}
+use lib.ListN.{getD, List·getD-eq-default}
+use lib.Dec.{eqb}
 use native.Mathlib.Omega.{arith}
 use borrow.Author.Tests.{eq-eqb, ne-eqb, le-leb, lt-leb}
-use Rattle.basics.specs.Choice.{pick, both}
+use Rattle.basics.specs.Choice.{both}
 use Rattle.table.specs.Table.{Table}
 use Rattle.table.specs.Reading.{Field}
 use Rattle.sizes.specs.Sizes.{wordsOf}
 use Rattle.sizes.proofs.Judging.{any-small}
 use Rattle.machine.specs.Memory.{Memory, memoryOf}
-use Rattle.machine.specs.Layout.{location, recordAt, createdAt, moduleAt}
+use Rattle.machine.specs.Layout.{createdAt, moduleAt}
 use Rattle.machine.specs.Lent.{Lent}
 use Rattle.machine.specs.Processes.{refers}
 use Rattle.machine.specs.Step.{inRange}

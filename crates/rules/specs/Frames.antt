@@ -1,6 +1,6 @@
 -- Rows of the passes over the variables of areas and frames. Assumes nothing.
 use Prim.Native.Nat.{ℕ, _+_, _-_, _/_, _%_}
-use mathlib.Core.Bool.{Bool, false}
+use mathlib.Core.Bool.{Bool}
 use lib.Dec.{eqb, leb}
 use Rattle.basics.specs.Choice.{pick, both}
 use Rattle.table.specs.Table.{Table}

@@ -6,7 +6,7 @@ use mathlib.Core.List.{List}
 use lib.Dec.{eqb, leb, ltb}
 use Rattle.basics.specs.Choice.{pick, both, allBelow, Passed}
 use Rattle.table.specs.Table.{Table}
-use Rattle.table.specs.Entries.{typeKind, typeP, typeQ, fieldType, varMode, varType, firstVar, vars}
+use Rattle.table.specs.Entries.{typeKind, typeP, typeQ, fieldType, varMode, varType, firstVar}
 use Rattle.types.specs.Match.{elements}
 use Rattle.sizes.specs.Sizes.{wordsOf, offsetIn, typesSized, Sizes}
 use Rattle.machine.specs.Memory.{Memory, within}

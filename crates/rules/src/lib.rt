@@ -1,10 +1,9 @@
 // The test of the state rule (01, Verdicts and other refusals): the words of a lent state against an accepted table.
 ghost use mathlib.Core.Path.{_≡_};
-ghost use Prim.Native.Nat.{ℕ, _+_, _*_, _/_, _%_, _≤_, _<_};
+ghost use Prim.Native.Nat.{_+_, _*_, _/_, _%_, _≤_, _<_};
 ghost use lib.Dec.{eqb};
 ghost use Rattle.basics.specs.Choice.{both};
 ghost use Rattle.code.specs.Code.{decoded};
-ghost use Rattle.table.specs.Entries.{typeKind};
 ghost use Rattle.table.specs.Reading.{Field};
 ghost use Rattle.sizes.specs.Sizes.{wordsOf, partWords, moduleWords};
 ghost use Rattle.machine.specs.Memory.{memoryOf};

@@ -1,5 +1,5 @@
 -- Evaluation: the types of nodes, types that match, and words. Assumes nothing.
-use Prim.Native.Nat.{ℕ, zero, suc, _+_, _-_, _*_, _<_}
+use Prim.Native.Nat.{ℕ, zero, suc, _+_, _-_, _<_}
 use mathlib.Core.Path.{_≡_, sym}
 use mathlib.Core.Bool.{Bool, true, false}
 use mathlib.Core.List.{List, [], _∷_}
@@ -10,12 +10,10 @@ use borrow.Author.Tests.{eqb-true, eqb-false, lt-ltb, eq-eqb, ne-eqb}
 use Rattle.basics.specs.Choice.{pick, cases}
 use Rattle.basics.specs.Course.{course}
 use Rattle.basics.proofs.Courses.{upto-below}
-use Rattle.table.specs.Bytes.{num, rowSize, fieldAt, fieldWidth, begins}
-use Rattle.table.specs.Table.{Table, countAt, cellAt, tableOf}
+use Rattle.table.specs.Table.{Table}
 use Rattle.table.specs.Entries.{declared, nodeCount, varType, nodeKind, nodeP, nodeQ, nodeV}
 use Rattle.types.specs.Types.{fieldOf, elementOf, unaryType, binaryType, operandType, nodeType, typeOf}
 use Rattle.types.specs.Match.{elements, isString, matches}
-use Rattle.words.specs.Memory.{Bytes}
 use Rattle.machine.specs.Memory.{Memory, wordsAt}
 use Rattle.machine.specs.Outcomes.{wordOf}
 use Rattle.machine.specs.Entries.{nodeOf, nodeAt}

@@ -1,7 +1,7 @@
 -- Live places and the links and var parameters of frames are apart. Assumes nothing.
-use Prim.Native.Nat.{ℕ, zero, suc, _+_, _-_, _*_, _/_, _%_, _≤_, _<_}
-use mathlib.Core.Path.{_≡_, refl, sym, ap, _∙_, subst}
-use mathlib.Core.Bool.{Bool, true, false}
+use Prim.Native.Nat.{ℕ, suc, _+_, _-_, _*_, _/_, _%_, _≤_, _<_}
+use mathlib.Core.Path.{_≡_, refl, sym, _∙_, subst}
+use mathlib.Core.Bool.{true}
 use mathlib.Core.Logic.{_⊎_, inl, inr}
 use mathlib.Core.List.{List, _++_}
 use native.Mathlib.Omega.{arith}
@@ -9,29 +9,29 @@ use lib.Dec.{eqb, leb, ltb}
 use lib.ListN.{length, replicate, length-append, length-replicate}
 use borrow.Author.Tests.{eqb-true, eqb-false, leb-true, ltb-true, ltb-false, ne-eqb, lt-leb, le-ltb}
 use Rattle.basics.specs.Choice.{cases, both, either}
-use Rattle.basics.proofs.Bools.{both-l, both-r, both-false-l, both-false-r, no-true}
+use Rattle.basics.proofs.Bools.{both-l, both-r, both-false-l, both-false-r}
 use Rattle.table.specs.Table.{Table}
-use Rattle.table.specs.Entries.{varMode, firstVar, vars, blockCount}
+use Rattle.table.specs.Entries.{firstVar}
 use Rattle.sizes.specs.Sizes.{wordsOf, moduleWords}
 use Rattle.machine.specs.Memory.{Memory, update, within, store, clear}
-use Rattle.machine.specs.Layout.{location, recordAt, statusAt, moduleAt, statementAt, frameAt, topAt, worksAt, holderAt, depthAt, createdAt, failureAt, callerFrame, callStatement, callerWorks, calledBlock}
-use Rattle.machine.specs.Variables.{offsetOf, frameWords, varWords}
+use Rattle.machine.specs.Layout.{location, recordAt, statusAt, moduleAt, frameAt, topAt, worksAt, holderAt, depthAt, createdAt, failureAt, callerFrame, calledBlock}
+use Rattle.machine.specs.Variables.{frameWords}
 use Rattle.machine.specs.Outcomes.{Outcome, ok, fail, stuck}
 use Rattle.machine.specs.Entries.{Statement, skip, assign, localCall, processCall, create, start, opener, arm, endArms, write, blockEnd, noStatement, stmtAt}
-use Rattle.machine.specs.Context.{Context, contextOf}
+use Rattle.machine.specs.Context.{contextOf}
 use Rattle.machine.specs.Calls.{standing, frame, topAfter, pushed, popped, returns, return}
 use Rattle.machine.specs.Processes.{refers, created, started}
 use Rattle.machine.specs.Statements.{Effect, effect, perform}
-use Rattle.machine.specs.Step.{Step, done, settled, inRange, answers, performs, proceeds, exists, turn, step}
+use Rattle.machine.specs.Step.{done, settled, inRange, answers, performs, proceeds, exists, turn, step}
 use Rattle.sound.proofs.RowsOutcomes.{g-need, g-pick}
 use Rattle.sound.proofs.HistoriesOperands.{g-test}
 use Rattle.sizes.proofs.Counting.{words-simple}
 use Rattle.sound.specs.Evaluated.{Live, Pushable, Performed}
 use Rattle.machine.specs.Values.{partOfBlock}
-use Rattle.machine.specs.Rule.{isCreated, owns, lives, rule}
+use Rattle.machine.specs.Rule.{isCreated, owns, lives}
 use Rattle.verdict.specs.Accepted.{Accepted}
 use Rattle.sound.specs.Claims.{PlaceLaws}
-use Rattle.sound.specs.Ruled.{Framed, Chained, bottom, called, Process, Ruled, PartOf}
+use Rattle.sound.specs.Ruled.{Framed, Chained, called, Ruled}
 use Rattle.sound.specs.InUse.{Created, Call, innermost, caller}
 use Rattle.sound.specs.Bindings.{FrameWord, link, bound, BindingsKept}
 use Rattle.sound.proofs.Ruled.{either-case, block-there, block-kind}

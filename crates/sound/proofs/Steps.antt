@@ -6,7 +6,6 @@ use Rattle.machine.specs.Context.{contextOf}
 use Rattle.machine.specs.Run.{begin}
 use Rattle.machine.specs.Rule.{rule}
 use Rattle.verdict.specs.Accepted.{Accepted}
-use Rattle.sound.specs.Claims.{Started}
 use Rattle.sound.specs.Reached.{WordTable, StepLaws, BeginLaw}
 use Rattle.sound.proofs.Ruled.{ruled}
 use Rattle.sound.proofs.StoresChains.{created-i}

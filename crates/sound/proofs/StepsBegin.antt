@@ -1,26 +1,26 @@
 -- THE FIRST STATE meets the rule. Assumes nothing.
-use Prim.Native.Nat.{ℕ, zero, suc, _+_, _-_, _*_, _≤_, _<_}
-use mathlib.Core.Path.{_≡_, refl, sym, ap, _∙_}
-use mathlib.Core.Bool.{Bool, true, false}
+use Prim.Native.Nat.{ℕ, _+_, _-_, _≤_, _<_}
+use mathlib.Core.Path.{_≡_, refl, _∙_}
+use mathlib.Core.Bool.{true}
 use native.Mathlib.Omega.{arith}
 use Rattle.table.specs.Table.{Table}
-use Rattle.table.specs.Entries.{typeCount, blockCount, stmtCount, varMode, varType, blockKind, firstVar, vars, firstStmt}
-use Rattle.sizes.specs.Sizes.{wordsOf, moduleWords}
-use Rattle.numbers.proofs.BlockPromise.{program-there, program-kind, first-stmt}
+use Rattle.table.specs.Entries.{varType, blockKind, firstVar, vars, firstStmt}
+use Rattle.sizes.specs.Sizes.{moduleWords}
+use Rattle.numbers.proofs.BlockPromise.{program-there, program-kind}
 use Rattle.machine.specs.Memory.{Memory, update, zeros}
-use Rattle.machine.specs.Layout.{location, recordAt, statusAt, moduleAt, statementAt, frameAt, topAt, worksAt, holderAt, depthAt, createdAt, failureAt}
-use Rattle.machine.specs.Variables.{varWords, frameWords, offsetOf}
+use Rattle.machine.specs.Layout.{location, recordAt, statusAt, moduleAt, holderAt, createdAt, failureAt}
+use Rattle.machine.specs.Variables.{offsetOf}
 use Rattle.machine.specs.Values.{holds}
 use Rattle.machine.specs.Calls.{standing}
 use Rattle.machine.specs.Run.{begin}
-use Rattle.machine.specs.Rule.{nextFirst, rule}
+use Rattle.machine.specs.Rule.{rule}
 use Rattle.verdict.specs.Accepted.{Accepted}
-use Rattle.sound.specs.Claims.{PlaceLaws, Small}
-use Rattle.sound.specs.Ruled.{Bottom, Chained, bottom, Process, Ruled}
+use Rattle.sound.specs.Claims.{PlaceLaws}
+use Rattle.sound.specs.Ruled.{Bottom, bottom, Process, Ruled}
 use Rattle.sound.proofs.Ruled.{rules}
-use Rattle.sound.proofs.StoresBlocks.{variable-in, plain-words, variable-type, module-plain, module-variables, module-fits}
-use Rattle.sound.proofs.StoresMemory.{location-add, location-low, location-up, record-high, words-apart, update-same, update-other, update-small}
-use Rattle.sound.proofs.StoresStanding.{block-begins, stand-word, stand-depth, stand-works, stand-top, stand-frame, stand-statement, stand-small, stand-area}
+use Rattle.sound.proofs.StoresBlocks.{variable-in, plain-words, variable-type, module-plain, module-fits}
+use Rattle.sound.proofs.StoresMemory.{location-add, location-low, location-up, record-high, words-apart, update-same, update-other}
+use Rattle.sound.proofs.StoresStanding.{block-begins, stand-word, stand-depth, stand-works, stand-top, stand-frame, stand-statement, stand-area}
 
 -- the state before process 1 stands
 unfoldable empty : Memory

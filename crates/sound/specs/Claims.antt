@@ -1,23 +1,19 @@
 -- What the parts of the soundness proof claim of each other: values and places, evaluation, steps. Each is proved in proofs/. Assumes nothing.
 use Prim.Native.Nat.{ℕ, _+_, _*_, _≤_, _<_}
 use mathlib.Core.Path.{_≡_}
-use mathlib.Core.Bool.{Bool, true, false}
-use mathlib.Core.List.{List, [], _∷_}
+use mathlib.Core.Bool.{true}
+use mathlib.Core.List.{List}
 use lib.ListN.{length}
-use lib.Dec.{eqb}
 use Rattle.table.specs.Table.{Table}
-use Rattle.table.specs.Entries.{typeCount, nodeCount, fieldType, varMode, varType, firstVar, params, vars}
-use Rattle.types.specs.Types.{typeOf}
+use Rattle.table.specs.Entries.{typeCount, fieldType}
 use Rattle.types.specs.Match.{elements, matches}
 use Rattle.sizes.specs.Sizes.{wordsOf, offsetIn}
 use Rattle.machine.specs.Memory.{Memory, wordsAt, store}
-use Rattle.machine.specs.Layout.{statusAt, frameAt, depthAt, createdAt}
+use Rattle.machine.specs.Layout.{statusAt, frameAt, depthAt}
 use Rattle.machine.specs.Outcomes.{Outcome, ok, fail, stuck, Operand, place, value}
-use Rattle.machine.specs.Entries.{TypeEntry, recordType, arrayType, typeAt}
+use Rattle.machine.specs.Entries.{recordType, arrayType, typeAt}
 use Rattle.machine.specs.Processes.{refers}
-use Rattle.machine.specs.Context.{Context, contextOf, blockOf}
 use Rattle.machine.specs.Operands.{operand}
-use Rattle.machine.specs.Calls.{arguments}
 use Rattle.machine.specs.Values.{holds, part}
 use Rattle.machine.specs.Rule.{isCreated, lives, rule}
 use Rattle.machine.specs.Step.{Step, done, step}

@@ -9,7 +9,7 @@ use native.Mathlib.Nat.{suc-mul, mul-le-mul-right}
 use native.Mathlib.Omega.{arith}
 use Rattle.basics.specs.Choice.{cases}
 use Rattle.table.specs.Bytes.{num, shorts, fields, rowSize, fieldAt, fieldWidth, begins}
-use Rattle.table.specs.Table.{Table, countAt, cellAt, tableOf}
+use Rattle.table.specs.Table.{Table, cellAt, tableOf}
 use Rattle.table.specs.Entries.{declared}
 use Rattle.table.specs.Reading.{Of, Field}
 use Rattle.table.specs.declared.Sections.{Sections}

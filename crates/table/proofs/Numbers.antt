@@ -1,19 +1,15 @@
 -- A number of one or two bytes, and a section that begins a part. Assumes nothing.
-use Prim.Native.Nat.{ℕ, zero, suc, _+_, _-_, _*_, _≤_, _<_, _^_}
-use mathlib.Core.Path.{_≡_, refl, sym, ap, _∙_}
-use mathlib.Core.List.{List, [], _∷_}
-use mathlib.Core.Bool.{Bool, true, false}
+use Prim.Native.Nat.{ℕ, _+_, _-_, _*_, _≤_, _<_}
+use mathlib.Core.Path.{_≡_}
+use mathlib.Core.List.{List}
 use lib.ListN.{length, getD}
-use lib.Dec.{leb, ltb, eqb}
 use borrow.Author.Tests.{eq-eqb, ne-eqb, le-leb, lt-leb}
 use native.Mathlib.Nat.{mul-le-mul}
 use native.Mathlib.Omega.{arith}
 use mir.Val.{Fits}
 use mir.Syntax.{w64}
-use Rattle.basics.specs.Choice.{pick}
 use Rattle.table.specs.Bytes.{num, rowSize, sectionEnd, sectionFits}
 use Rattle.table.specs.Reading.{sectionAt, Field}
-use Rattle.table.specs.declared.Section.{Section}
 use Rattle.table.specs.declared.Section.the-variants.{Whole, Early}
 
 pub num-two : (t : List ℕ) (p k a b : ℕ) → k ≡ 2 → a ≡ getD t p 0 → b ≡ getD t (p + 1) 0 → a < 256 → b < 256 → Field (num t p k) (a + 256 * b)

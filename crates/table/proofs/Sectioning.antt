@@ -1,28 +1,26 @@
 -- Reading the sections one after the other. Assumes nothing.
-use Prim.Native.Nat.{ℕ, zero, suc, _+_, _-_, _*_, _≤_, _<_, _^_}
-use mathlib.Core.Path.{_≡_, refl, sym, ap, _∙_}
+use Prim.Native.Nat.{ℕ, _+_, _-_, _*_, _≤_, _<_, _^_}
+use mathlib.Core.Path.{_≡_, refl, sym, _∙_}
 use mathlib.Core.List.{List, [], _∷_}
-use mathlib.Core.Bool.{Bool, true, false}
+use mathlib.Core.Bool.{true, false}
 use lib.ListN.{length, getD, take, drop, length-drop, set, length-set}
 use lib.Seq.{getD-drop, getD-set-same, getD-set-other}
 use lib.Dec.{leb, eqb}
-use borrow.Author.Tests.{lt-ltb, le-leb, lt-leb, leb-true, leb-false, eqb-true, eqb-false}
+use borrow.Author.Tests.{lt-ltb, le-leb, leb-true, leb-false, eqb-true, eqb-false}
 use borrow.Rule.Slice.PartAt.{part-to-end}
 use native.Mathlib.Nat.{add-zero}
 use native.Mathlib.Omega.{arith}
 use mir.Val.{Fits}
 use mir.Syntax.{w64}
 use Rattle.basics.specs.Choice.{pick, cases}
-use Rattle.basics.specs.Chain.{free, chained, Chain}
 use Rattle.basics.proofs.Bools.{no-true}
 use Rattle.basics.proofs.Chains.{chain-none, chain-more, chain-fail, chain-all}
 use Rattle.table.specs.Bytes.{num, rowSize, sectionEnd, sectionFits, whole, begins}
 use Rattle.table.specs.Table.{countAt}
-use Rattle.table.specs.Reading.{sectionAt, SectionIs, SectionsTo, Of, Answers}
+use Rattle.table.specs.Reading.{sectionAt, SectionIs, SectionsTo, Answers}
 use Rattle.table.specs.declared.Section.{Section}
 use Rattle.table.specs.declared.Section.the-variants.{Whole, Early}
 use Rattle.table.specs.declared.Sections.{Sections}
-use Rattle.table.specs.declared.Read.{Read}
 
 -- two tests that hold of each other's numbers are the same test
 same-test : (a b c d : ℕ) → (a ≤ b → c ≤ d) → (c ≤ d → a ≤ b) → leb a b ≡ leb c d

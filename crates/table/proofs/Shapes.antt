@@ -1,12 +1,9 @@
 -- The shapes of rows: bounds, and that a field lies in its row. Assumes nothing.
 use Prim.Native.Nat.{ℕ, zero, suc, _+_, _-_, _*_, _≤_, _<_}
-use mathlib.Core.Path.{_≡_, refl, sym, ap, _∙_}
-use mathlib.Core.List.{List, [], _∷_}
-use lib.Dec.{ltb}
+use mathlib.Core.Path.{_≡_, refl, sym}
 use borrow.Author.Tests.{lt-ltb, le-ltb}
-use native.Mathlib.Nat.{mul-le-mul, mul-le-mul-right, suc-mul, add-mul}
+use native.Mathlib.Nat.{mul-le-mul, mul-le-mul-right, suc-mul}
 use native.Mathlib.Omega.{arith}
-use Rattle.basics.specs.Choice.{pick}
 use Rattle.table.specs.Bytes.{shorts, words, fields, rowSize, fieldAt, fieldWidth}
 
 pub shorts-small : (k : ℕ) → shorts k ≤ 6

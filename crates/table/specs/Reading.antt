@@ -3,7 +3,7 @@ use Prim.Native.Nat.{ℕ, _+_, _-_, _*_, _≤_, _<_}
 use mathlib.Core.Path.{_≡_}
 use mathlib.Core.Bool.{true}
 use mathlib.Core.List.{List}
-use lib.ListN.{length, getD, take, drop}
+use lib.ListN.{length, getD}
 use Rattle.basics.specs.Choice.{pick}
 use Rattle.basics.specs.Chain.{Chain}
 use Rattle.table.specs.Bytes.{num, rowSize, begins, sectionEnd, sectionFits, whole}

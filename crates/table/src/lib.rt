@@ -1,10 +1,10 @@
 // The table of a program, read from a lent slice of bytes: sections, rows, fields. Crate code decodes it, and all above goes by that.
 // The width w of a field, 1 or 2, is a parameter: 1 is the small edition.
 ghost use mathlib.Core.Path.{_≡_};
-ghost use Prim.Native.Nat.{ℕ, _+_, _-_, _*_, _≤_, _<_, min};
-ghost use lib.ListN.{length, getD, take, drop};
+ghost use Prim.Native.Nat.{_+_, _-_, _*_, _≤_, _<_, min};
+ghost use lib.ListN.{length};
 ghost use Rattle.table.specs.Bytes.{num, shorts, words, fields, rowSize, fieldAt, fieldWidth};
-ghost use Rattle.table.specs.Table.{Table, tableOf};
+ghost use Rattle.table.specs.Table.{tableOf};
 ghost use Rattle.table.specs.Reading.{sectionAt, Of, Answers, Field};
 ghost use Rattle.table.specs.Parts.{argumentPart, argumentIn};
 

@@ -1,19 +1,18 @@
 -- Finding the types of all nodes: the laws of each return. Assumes nothing.
 use Prim.Native.Nat.{ℕ, _+_, _-_, _≤_, _<_}
-use mathlib.Core.Path.{_≡_, refl, sym, ap, _∙_}
+use mathlib.Core.Path.{_≡_, refl, _∙_}
 use mathlib.Core.List.{List}
-use lib.ListN.{length, getD, set, length-set}
+use lib.ListN.{length, getD, set}
 use native.Mathlib.Omega.{arith}
-use borrow.Author.Tests.{eq-eqb, ne-eqb, lt-ltb, le-ltb}
-use Rattle.basics.specs.Choice.{pick}
+use borrow.Author.Tests.{ne-eqb, lt-ltb, le-ltb}
 use Rattle.basics.specs.Course.{upto, course}
 use Rattle.basics.specs.Holds.{Holds}
 use Rattle.basics.proofs.Courses.{upto-below, upto-above}
 use Rattle.basics.proofs.Holding.{holds-none, holds-more, holds-in}
 use Rattle.table.specs.Table.{Table}
-use Rattle.table.specs.Entries.{nodeCount, typeKind, typeP, typeQ, typeLow, typeHigh, fieldType, varType, nodeKind, nodeP, nodeQ, nodeV}
+use Rattle.table.specs.Entries.{nodeCount, typeP, typeLow, typeHigh, fieldType, varType, nodeKind, nodeP, nodeQ, nodeV}
 use Rattle.table.specs.Reading.{Field}
-use Rattle.types.specs.Types.{noType, fieldOf, elementOf, unaryType, binaryType, operandType, nodeType, typeOf, Room, Types}
+use Rattle.types.specs.Types.{noType, fieldOf, unaryType, binaryType, operandType, nodeType, typeOf, Types}
 use Rattle.types.specs.Match.{offset, span, elements}
 
 -- leaves called with locals

@@ -1,10 +1,10 @@
 -- Types that match (report 9.1; 01, Verdicts). Assumes nothing.
 use Prim.Native.Nat.{ℕ, _+_, _-_}
 use mathlib.Core.Bool.{Bool, true, false}
-use lib.Dec.{eqb, leb, ltb}
+use lib.Dec.{eqb, ltb}
 use Rattle.basics.specs.Choice.{pick}
 use Rattle.table.specs.Table.{Table}
-use Rattle.table.specs.Entries.{typeKind, typeP, typeQ, typeLow, typeHigh}
+use Rattle.table.specs.Entries.{typeKind, typeQ, typeLow, typeHigh}
 
 -- 32,768 more than the integer that a word stands for: it orders words as their integers are ordered
 unfoldable pub offset : ℕ → ℕ

@@ -1,7 +1,6 @@
 // The types of nodes, found once for all nodes into a lent array; types that match.
 ghost use mathlib.Core.Path.{_≡_};
-ghost use Prim.Native.Nat.{ℕ, _+_, _-_, _≤_, _<_};
-ghost use lib.ListN.{length, getD};
+ghost use Prim.Native.Nat.{_+_, _-_, _≤_, _<_};
 ghost use Rattle.basics.specs.Course.{upto};
 ghost use Rattle.basics.specs.Holds.{Holds};
 ghost use Rattle.code.specs.Code.{decoded};

@@ -1,10 +1,8 @@
 -- What verdict 0 promises: the table keeps every rule. All above this layer uses these facts and what the rules' crates promise of them. Assumes nothing.
 use Prim.Native.Nat.{ℕ}
 use mathlib.Core.Path.{_≡_}
-use mathlib.Core.Bool.{true}
 use mathlib.Core.List.{List}
 use native.Mathlib.Omega.{arith}
-use Rattle.basics.specs.Choice.{pick}
 use Rattle.basics.proofs.Bools.{zero-test}
 use Rattle.table.specs.Bytes.{whole}
 use Rattle.table.specs.Table.{Table, tableOf}

@@ -1,11 +1,11 @@
 -- The arrays of the small edition suffice: a count of one byte is at most 255. Assumes nothing.
-use Prim.Native.Nat.{ℕ, _+_, _≤_, _<_}
-use mathlib.Core.Path.{_≡_, refl}
+use Prim.Native.Nat.{ℕ, _<_}
+use mathlib.Core.Path.{_≡_}
 use mathlib.Core.List.{List}
 use lib.ListN.{length, getD, replicate, length-replicate, getD-replicate}
 use native.Mathlib.Omega.{arith}
 use Rattle.table.specs.Bytes.{begins}
-use Rattle.table.specs.Table.{Table, tableOf, countAt}
+use Rattle.table.specs.Table.{tableOf, countAt}
 use Rattle.table.specs.Entries.{nodeCount}
 use Rattle.table.specs.Reading.{Of}
 use Rattle.table.specs.declared.Sections.{Sections}
@@ -18,7 +18,7 @@ use mathlib.Core.Path.{sym, _∙_}
 use mathlib.Core.Bool.{Bool, true, false}
 use lib.Dec.{ltb}
 use Rattle.table.specs.Bytes.{whole}
-use Rattle.basics.specs.Choice.{pick, cases}
+use Rattle.basics.specs.Choice.{cases}
 use Rattle.verdict.specs.Rooms.{Rooms}
 use Rattle.verdict.specs.Checked.{Checked}
 use Rattle.verdict.specs.Verdict.{judged, verdict}

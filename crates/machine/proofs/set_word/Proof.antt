@@ -1,5 +1,4 @@
 use Rattle.machine.proofs.Lending.{lent-put}
-use native.Mathlib.Omega.{arith}
 use borrow.Author.Needs.{needs}
 use Rattle.machine.proofs.set_word.Statement.{statement}
 use Rattle.machine.proofs.set_word.Tie as tie

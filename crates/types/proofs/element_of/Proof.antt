@@ -1,4 +1,4 @@
-use Rattle.basics.proofs.Tests.{tests, righttests}
+use Rattle.basics.proofs.Tests.{tests}
 use Rattle.types.specs.Types.{elementOf}
 use borrow.Author.Needs.{needs}
 use Rattle.types.proofs.element_of.Statement.{statement}

@@ -1,6 +1,4 @@
 use Rattle.types.proofs.Finding.{of-elements}
-use Rattle.basics.proofs.Tests.{tests, righttests}
-use Rattle.types.specs.Match.{elements}
 use borrow.Author.Needs.{needs}
 use Rattle.types.proofs.elements_of.Statement.{statement}
 use Rattle.types.proofs.elements_of.Tie as tie

@@ -1,4 +1,4 @@
-use Rattle.basics.proofs.Tests.{tests, righttests}
+use Rattle.basics.proofs.Tests.{tests}
 use Rattle.types.specs.Match.{offset}
 use borrow.Author.Needs.{needs}
 use Rattle.types.proofs.offset_of.Statement.{statement}

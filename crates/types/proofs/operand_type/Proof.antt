@@ -1,5 +1,5 @@
 use Rattle.types.proofs.Finding.{leaves}
-use Rattle.basics.proofs.Tests.{tests, righttests}
+use Rattle.basics.proofs.Tests.{tests}
 use Rattle.types.specs.Types.{operandType}
 use borrow.Author.Needs.{needs}
 use Rattle.types.proofs.operand_type.Statement.{statement}

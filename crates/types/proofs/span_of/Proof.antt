@@ -1,6 +1,4 @@
 use Rattle.types.proofs.Finding.{span-some, span-none}
-use Rattle.basics.proofs.Tests.{tests, righttests}
-use Rattle.types.specs.Match.{span}
 use borrow.Author.Needs.{needs}
 use Rattle.types.proofs.span_of.Statement.{statement}
 use Rattle.types.proofs.span_of.Tie as tie

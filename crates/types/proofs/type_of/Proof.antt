@@ -1,5 +1,4 @@
-use Rattle.types.proofs.Finding.{types-at, types-in, nodes}
-use native.Mathlib.Omega.{arith}
+use Rattle.types.proofs.Finding.{types-at, nodes}
 use borrow.Author.Needs.{needs}
 use Rattle.types.proofs.type_of.Statement.{statement}
 use Rattle.types.proofs.type_of.Tie as tie
