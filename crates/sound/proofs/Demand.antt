@@ -1,5 +1,5 @@
 -- DEMAND 3 is met (01, A run, for demand 3; Agreement). Assumes nothing.
-use Prim.Native.Nat.{ℕ, _+_, _≤_}
+use Prim.Native.Nat.{ℕ, _+_, _≤_, _<_}
 use mathlib.Core.Path.{_≡_, refl, sym, ap, _∙_}
 use mathlib.Core.Bool.{true}
 use mathlib.Core.List.{List, [], _∷_, _++_}
@@ -22,11 +22,11 @@ use Rattle.sound.specs.Reached.{Reached, WordTable, StepLaws, BeginLaw}
 use Rattle.sound.specs.Histories.{Seen, asked, told, finally, Threaded, Every, Lasting, Calls, begunResult, History, first, steps}
 use Rattle.sound.specs.InUse.{ValuesHold}
 use Rattle.sound.specs.Created.{creations, ProcessesKept}
-use Rattle.sound.specs.Rows.{Changes, failureMark, nothing, givesUp, absent, others}
+use Rattle.sound.specs.Rows.{Changes, failureMark, nothing, givesUp, endedBefore, endsNow, absent, others}
 use Rattle.sound.specs.Demand.{StepHolds, Demand3}
-use Rattle.sound.proofs.HistoriesBegin.{word-table, begin-reached, begin-block, begin-created}
+use Rattle.sound.proofs.HistoriesBegin.{word-table, begin-reached, begin-block, begin-created, begin-mark}
 use Rattle.sound.proofs.Histories.{StepOf, state-memory, At, at-memory, follows, served, handed, same-told, begun-at, at-begin}
-use Rattle.sound.proofs.HistoriesCreated.{CreatedIn, step-created, created-count, created-kept}
+use Rattle.sound.proofs.HistoriesCreated.{CreatedIn, step-created, created-count, created-kept, mark-zero}
 use Rattle.sound.proofs.HistoriesValues.{rule-values}
 use Rattle.sound.proofs.Rows.{rows-hold, same-failure}
 
@@ -62,11 +62,12 @@ mark-at m n = rw (eq-eqb failureAt failureAt refl)
 
 changes-mark : (T : Table) (m page : Memory) (p n : ℕ) (s d : Memory) → 16 ≤ n → Changes T m page p n s d → s failureAt ≡ n
 changes-mark T m page p n _ _ h (failureMark f) = mark-at m n
-changes-mark T m page p _ _ _ h nothing = absurd (omega arith)
-changes-mark T m page p _ _ _ h (givesUp e w) = absurd (omega arith)
+changes-mark T m page p _ _ _ h (nothing b) = absurd (omega arith)
+changes-mark T m page p _ _ _ h (givesUp b) = absurd (omega arith)
 changes-mark T m page p _ _ _ h absent = absurd (omega arith)
-changes-mark T m page p n s d h (others (inl e)) = absurd (omega arith)
-changes-mark T m page p n s d h (others (inr e)) = absurd (omega arith)
+changes-mark T m page p _ _ _ h (endedBefore c e) = absurd (omega arith)
+changes-mark T m page p _ _ _ h (endsNow r e) = absurd (omega arith)
+changes-mark T m page p _ s d h (others r) = absurd (omega arith)
 
 -- a step of a failed run: its number, and the mark stays
 failed-step : (T : Table) (e : Seen) → StepHolds T e → (f : ℕ) → 16 ≤ f → memoryOf (e .before) failureAt ≡ f → (e .answer ≡ f) × (memoryOf (e .after) failureAt ≡ f)
@@ -160,6 +161,11 @@ module _ (verdict : List ℕ → ℕ)
           created-count (tableOf 1 (h .table)) (first verdict h) es fs (rw e t) (rw e each-creates)
           ∙ ap (λ n. n + creations (tableOf 1 (h .table)) es) (ap (λ (m : Memory). m createdAt) first-memory ∙ begin-created (tableOf 1 (h .table)))
 
+      no-mark : (es fs : List Seen) → es ++ fs ≡ steps verdict h → Every (λ e. e .answer < 16) es → memoryOf (finally (first verdict h) es) failureAt ≡ 0
+      no-mark es fs e k =
+          mark-zero (tableOf 1 (h .table)) (first verdict h) es fs (rw e t) (rw e each-creates) k
+          (ap (λ (m : Memory). m failureAt) first-memory ∙ begin-mark (tableOf 1 (h .table)))
+
       stay : (es fs gs : List Seen) → es ++ (fs ++ gs) ≡ steps verdict h → ProcessesKept (memoryOf (finally (first verdict h) es)) (memoryOf (finally (first verdict h) (es ++ fs)))
       stay es fs gs e = created-kept (tableOf 1 (h .table)) (first verdict h) es fs gs (rw e t) (rw e each-creates)
 
@@ -177,6 +183,7 @@ module _ (verdict : List ℕ → ℕ)
           handed = handed verdict (h .table) laws (first verdict h) (h .calls) at-first (h .fits);
           holds = every;
           lasting = lasts (tableOf 1 (h .table)) _ _ (f .course .threaded) every;
+          unfailed = no-mark (f .course .threaded) every;
           last = f .course .last;
           program = ap (λ (m : Memory). m (moduleAt 1)) first-memory ∙ begin-block (tableOf 1 (h .table));
           created = count-is (f .course .threaded) every;

@@ -14,7 +14,7 @@ use Rattle.sizes.specs.Sizes.{moduleWords}
 use Rattle.sizes.proofs.Promise.{module-most}
 use Rattle.numbers.proofs.BlockPromise.{program-there, program-kind}
 use Rattle.machine.specs.Memory.{Memory, update, zeros}
-use Rattle.machine.specs.Layout.{recordAt, moduleAt, createdAt}
+use Rattle.machine.specs.Layout.{recordAt, moduleAt, createdAt, failureAt}
 use Rattle.machine.specs.Calls.{standing}
 use Rattle.machine.specs.Run.{begin}
 use Rattle.machine.specs.Rule.{rule}
@@ -65,3 +65,7 @@ begin-created T = refl
 pub begin-block : (T : Table) → begin T (moduleAt 1) ≡ 0
 unfolding begin standing update zeros recordAt
 begin-block T = refl
+
+pub begin-mark : (T : Table) → begin T failureAt ≡ 0
+unfolding begin standing update zeros recordAt
+begin-mark T = refl

@@ -31,7 +31,7 @@ use Rattle.sound.proofs.RowsListed.{statement-listed}
 use Rattle.sound.proofs.RowsStatements.{g-arms, g-opener, g-end, Reports, went, waited, ended, failed, strays, reports}
 use Rattle.sound.proofs.HistoriesOperands.{g-test, place-fits, value-long}
 use Rattle.sound.proofs.HistoriesSized.{room}
-use Rattle.sound.proofs.HistoriesRecords.{location-end, Still, still, still-record, still-status, still-store, still-standing, new-process, others-kept}
+use Rattle.sound.proofs.HistoriesRecords.{location-end, Still, still, still-record, still-status, still-store, still-standing, new-process, others-kept, mark-kept, fail-count, fail-kept}
 
 -- ---- statements
 
@@ -121,12 +121,12 @@ module _ (T : Table) (m page : Memory) (x : Context) where
   data Comes (S : Statement) : Outcome Effect → Type 0 where
     keeps : {a : ℕ} {s d : Memory} → isCreate S ≡ false → Still m s → Comes S (ok (effect a s d))
     makes : {s d : Memory} (a i τ μ : ℕ) → S ≡ create a → operand T m page x a ≡ ok (place i τ) → typeAt T τ ≡ processType μ
-        → NewProcess s (m createdAt + 1) μ i → ProcessesKept m s → Comes S (ok (effect 0 s d))
+        → NewProcess s (m createdAt + 1) μ i → ProcessesKept m s → s failureAt ≡ m failureAt → Comes S (ok (effect 0 s d))
     fails : {n : ℕ} → Comes S (fail n)
     none : Comes S stuck
 
   -- started processes, of 64
-  module _ (lp : x .process ≤ 64) (begun : m (statusAt (x .process)) ≡ 2) (lc : m createdAt ≤ 64) where
+  module _ (lp : x .process ≤ 64) (begun : m (statusAt (x .process)) ≡ 2) (lc : m createdAt ≤ 64) (some : 1 ≤ m createdAt) where
     pushed-still : (s : Memory) (q r : ℕ) (ws : List ℕ) → Still m s → length ws ≤ frameWords T q → topAfter T m page x q ≤ 256 → Still m (pushed T m page x s q r ws)
     unfolding pushed frame topAfter
     pushed-still s q r ws h l t =
@@ -203,7 +203,8 @@ module _ (T : Table) (m page : Memory) (x : Context) where
         let u = place-area a i τ e in
         makes a i τ μ refl e t
         (new-process m (m createdAt + 1) μ i (x .statement + 1) (x .process) (omega arith) (omega arith) u)
-        (others-kept m (m createdAt + 1) μ i (x .statement + 1) (x .process) (omega arith) (omega arith) u))))
+        (others-kept m (m createdAt + 1) μ i (x .statement + 1) (x .process) (omega arith) (omega arith) u)
+        (mark-kept m (m createdAt + 1) μ i (x .statement + 1) (x .process) (omega arith) (omega arith) u some))))
 
     keeping-comes : (S : Statement) (o : Outcome Effect) → isCreate S ≡ false → Keeping o → Comes S o
     keeping-comes S _ e (Keeping.keeps h) = keeps e h
@@ -244,7 +245,7 @@ module _ (T : Table) (m page : Memory) (p : ℕ) where
   }
 
   still-step : (n : ℕ) (s : Memory) → createsOne T m p n ≡ false → Still m s → CreatedKept T m page p n s
-  still-step n s e h = record { creating = same e (h .count); kept = still-kept s h }
+  still-step n s e h = record { creating = same e (h .count); kept = still-kept s h; mark = λ l. h .mark }
 
   -- another answer than 0
   other-step : (n : ℕ) (s : Memory) → (n ≡ 0 → ⊥) → Still m s → CreatedKept T m page p n s
@@ -263,14 +264,14 @@ module _ (T : Table) (m page : Memory) (p : ℕ) where
   comes-left : (S : Statement) (o : Outcome Effect) → next T m page p ≡ S → Comes T m page (contextOf m p) S o → ((n : ℕ) → o ≡ fail n → 16 ≤ n) → Left o
   unfolding createsOne isCreate
   comes-left S _ z (Comes.keeps {a = a} e h) f = left (still-step a _ (both-false-r _ _ (rw z e)) h)
-  comes-left S _ z (Comes.makes a i τ μ e o t n k) f = left {a = 0} (record { creating = creates a i τ μ (rw (z, e) (both-i _ _ refl refl)) (z ∙ e) o t n; kept = k })
+  comes-left S _ z (Comes.makes a i τ μ e o t n k y) f = left {a = 0} (record { creating = creates a i τ μ (rw (z, e) (both-i _ _ refl refl)) (z ∙ e) o t n; kept = k; mark = λ l. y })
   comes-left S _ z (Comes.fails {n = n}) f = fails (f n refl)
   comes-left S _ z Comes.none f = none
 
-  performs-left : p ≤ 64 → m (statusAt p) ≡ 2 → m createdAt ≤ 64 → Left (performs T m page p)
+  performs-left : p ≤ 64 → m (statusAt p) ≡ 2 → m createdAt ≤ 64 → 1 ≤ m createdAt → Left (performs T m page p)
   unfolding performs contextOf
-  performs-left l b c =
-      g-need Left none _ _ (comes-left _ _ refl (comes T m page (contextOf m p) l b c (next T m page p))
+  performs-left l b c y =
+      g-need Left none _ _ (comes-left _ _ refl (comes T m page (contextOf m p) l b c y (next T m page p))
       (fails-listed T m page (contextOf m p) (next T m page p) _ (reports T m page (contextOf m p) (next T m page p))))
 
   in-least : (a b n : ℕ) → inRange a b n ≡ true → a ≤ n
@@ -281,22 +282,26 @@ module _ (T : Table) (m page : Memory) (p : ℕ) where
   unfolding inRange
   in-most a b n e = leb-true _ _ (both-r _ _ e)
 
-  exists-left : p ≤ 64 → m createdAt ≤ 64 → Left (exists T m page p)
+  exists-left : p ≤ 64 → m createdAt ≤ 64 → 1 ≤ m createdAt → Left (exists T m page p)
   unfolding exists proceeds
-  exists-left l c =
+  exists-left l c y =
       g-pick Left none (eqb (m (statusAt p)) 3) _ _ (λ e. answers-left 2 (λ z. omega arith))
       (λ e. g-pick Left none (eqb (m (statusAt p)) 1) _ _ (λ h. answers-left 1 (λ z. omega arith))
       (λ h. g-test Left none _ _ (λ b. g-need Left none _ _
       (g-pick Left none (either (eqb (m (holderAt (m (worksAt p)))) 0) (eqb (m (holderAt (m (worksAt p)))) p)) _ _
-      (λ k. performs-left l (eqb-true _ 2 b) c) (λ k. answers-left 1 (λ z. omega arith))))))
+      (λ k. performs-left l (eqb-true _ 2 b) c y) (λ k. answers-left 1 (λ z. omega arith))))))
 
   turn-left : Left (turn T m page p)
   unfolding turn
   turn-left =
       g-pick Left none (eqb (m failureAt) 0) _ _
       (λ e. g-test Left none _ _ (λ c. g-pick Left none (inRange 1 (m createdAt) p) _ _
-      (λ l. let u = in-most 1 64 _ c in let v = in-most 1 _ p l in exists-left (omega arith) u) (λ l. answers-left 3 (λ z. omega arith))))
+      (λ l. let u = in-most 1 64 _ c in let v = in-most 1 _ p l in exists-left (omega arith) u (in-least 1 64 _ c)) (λ l. answers-left 3 (λ z. omega arith))))
       (λ e. g-test Left none _ _ (λ c. let u = in-least 16 24 _ c in answers-left (m failureAt) (λ z. omega arith)))
+
+  failed-step : (n : ℕ) → 16 ≤ n → CreatedKept T m page p n (update m failureAt n)
+  unfolding createsOne
+  failed-step n l = record { creating = same (both-false-l _ _ (ne-eqb n 0 (λ z. omega arith))) (fail-count m n); kept = fail-kept m n; mark = λ k. absurd (omega arith) }
 
   settled-left : (o : Outcome Effect) → Left o → (a : ℕ) (s d : Memory) → settled m page o ≡ done a s d → CreatedKept T m page p a s
   unfolding settled
@@ -307,7 +312,7 @@ module _ (T : Table) (m page : Memory) (p : ℕ) where
   settled-left _ (fails {n = n} l) a s d e =
       let x : n ≡ a = cc in
       let y : update m failureAt n ≡ s = cc in
-      rw (y, x) at (other-step n (update m failureAt n) (λ z. omega arith) (still-record m m (still m) 1 9 n (omega arith)))
+      rw (y, x) at (failed-step n l)
   settled-left _ none a s d e = let x : _≡_ {A = ℕ} 0 1 = cc in absurd (omega arith)
 
   -- A STEP CREATES a process exactly if it carries out a create, and keeps those created before
@@ -360,3 +365,12 @@ module _ (T : Table) where
   unfolding Threaded Every finally
   created-kept s [] fs gs t h = from-here s fs gs t h
   created-kept s (e ∷ es) fs gs t h = created-kept (e .after) es fs gs (t .1) (h .1)
+
+  -- the failure mark is 0 until a step fails
+  pub mark-zero : (s : List ℕ) (es fs : List Seen) → Threaded s (es ++ fs) → Every (CreatedIn T) (es ++ fs) → Every (λ e. e .answer < 16) es
+      → memoryOf s failureAt ≡ 0 → memoryOf (finally s es) failureAt ≡ 0
+  unfolding Threaded Every finally
+  mark-zero s [] fs t h k z = z
+  mark-zero s (e ∷ es) fs t h k z =
+      let c : memoryOf (e .before) failureAt ≡ memoryOf s failureAt = ap (λ (b : List ℕ). memoryOf b failureAt) (t .0) in
+      mark-zero (e .after) es fs (t .1) (h .1) (k .1) (h .0 .mark (k .0) ∙ c ∙ z)

@@ -8,7 +8,7 @@ use lib.ListN.{length}
 use borrow.Author.Tests.{eqb-true, eqb-false}
 use Rattle.basics.specs.Choice.{cases}
 use Rattle.machine.specs.Memory.{Memory, update, store}
-use Rattle.machine.specs.Layout.{location, recordAt, statusAt, moduleAt, statementAt, createdAt}
+use Rattle.machine.specs.Layout.{location, recordAt, statusAt, moduleAt, statementAt, createdAt, failureAt}
 use Rattle.machine.specs.Calls.{standing}
 use Rattle.machine.specs.Processes.{created}
 use Rattle.sound.specs.InUse.{Created}
@@ -36,15 +36,17 @@ pub record Unread (k : ℕ) : Type 0 where
   pub low : 2 ≤ k
   pub high : k < 20
   pub other : k ≡ 8 → ⊥
+  pub mark : k ≡ 9 → ⊥
 
 pub record Still (m s : Memory) : Type 0 where
   pub count : s createdAt ≡ m createdAt
   pub block : (r : ℕ) → s (moduleAt r) ≡ m (moduleAt r)
   pub status : (r : ℕ) → m (statusAt r) ≤ s (statusAt r)
+  pub mark : s failureAt ≡ m failureAt
 
 module _ (m : Memory) where
   pub still : Still m m
-  still = record { count = refl; block = λ r. refl; status = λ r. omega arith }
+  still = record { count = refl; block = λ r. refl; status = λ r. omega arith; mark = refl }
 
   module _ (s : Memory) (h : Still m s) where
     pub still-record : (q k v : ℕ) → Unread k → Still m (update s (recordAt q k) v)
@@ -52,10 +54,12 @@ module _ (m : Memory) where
         let a = u .low in
         let b = u .high in
         let n = u .other in
+        let o = u .mark in
         record {
           count = update-other s _ v _ (unlike-words 1 q 8 k (omega arith)) ∙ h .count;
           block = λ r. update-other s _ v _ (unlike-words r q 1 k (omega arith)) ∙ h .block r;
           status = λ r. rw (update-other s (recordAt q k) v (statusAt r) (unlike-words r q 0 k (omega arith))) (h .status r);
+          mark = update-other s _ v _ (unlike-words 1 q 9 k (omega arith)) ∙ h .mark;
         }
 
     pub still-status : (q v : ℕ) → m (statusAt q) ≤ v → Still m (update s (statusAt q) v)
@@ -65,6 +69,7 @@ module _ (m : Memory) where
       status = λ r. cases (eqb (statusAt r) (statusAt q))
           (λ e. let z = eqb-true _ _ e in rw (update-same s (statusAt q) v (statusAt r) z, z) l)
           (λ e. rw (update-other s (statusAt q) v (statusAt r) (eqb-false _ _ e)) (h .status r));
+      mark = update-other s _ v _ (unlike-words 1 q 9 0 (omega arith)) ∙ h .mark;
     }
 
     pub still-store : (a : ℕ) (ws : List ℕ) → a + length ws ≤ 16384 → Still m (store s a ws)
@@ -72,6 +77,7 @@ module _ (m : Memory) where
       count = high 1 8 ∙ h .count;
       block = λ r. high r 1 ∙ h .block r;
       status = λ r. rw (high r 0) (h .status r);
+      mark = high 1 9 ∙ h .mark;
     }
       where
         high : (r k : ℕ) → store s a ws (recordAt r k) ≡ s (recordAt r k)
@@ -123,9 +129,9 @@ module _ (m : Memory) (n μ i c p : ℕ) (over : m createdAt < n) (most : n ≤ 
   other-record r k a b l = (λ e. omega arith, λ e. omega arith, omega arith)
 
   -- the records of the others
-  old-record : (r k : ℕ) → Created m r → k < 8 → created m n μ (recordAt r k) ≡ m (recordAt r k)
+  old-record : (r k : ℕ) → Created m r → k < 20 → (k ≡ 8 → ⊥) → created m n μ (recordAt r k) ≡ m (recordAt r k)
   unfolding created
-  old-record r k h l =
+  old-record r k h l n8 =
       let a = h .most in
       let u = other-record r k (h .least) (omega arith) (omega arith) in
       let z = record-high r k in
@@ -139,6 +145,24 @@ module _ (m : Memory) (n μ i c p : ℕ) (over : m createdAt < n) (most : n ≤ 
   pub others-kept : ProcessesKept m after
   others-kept = record {
     created = λ r h. let a = h .most in let u = new-process .last in record { least = h .least; most = omega arith };
-    block = λ r h. record-after r 1 (omega arith) ∙ old-record r 1 h (omega arith);
-    status = λ r h. rw (record-after r 0 (omega arith), old-record r 0 h (omega arith)) (omega arith);
+    block = λ r h. record-after r 1 (omega arith) ∙ old-record r 1 h (omega arith) (λ z. omega arith);
+    status = λ r h. rw (record-after r 0 (omega arith), old-record r 0 h (omega arith) (λ z. omega arith)) (omega arith);
+  }
+
+  pub mark-kept : 1 ≤ m createdAt → after failureAt ≡ m failureAt
+  mark-kept l = record-after 1 9 (omega arith) ∙ old-record 1 9 (record { least = omega arith; most = l }) (omega arith) (λ z. omega arith)
+
+-- a failing step
+module _ (m : Memory) (n : ℕ) where
+  fail-word : (r k : ℕ) → Unlike k 9 → update m failureAt n (recordAt r k) ≡ m (recordAt r k)
+  fail-word r k u = update-other m failureAt n (recordAt r k) (unlike-words r 1 k 9 u)
+
+  pub fail-count : update m failureAt n createdAt ≡ m createdAt
+  fail-count = fail-word 1 8 (omega arith)
+
+  pub fail-kept : ProcessesKept m (update m failureAt n)
+  fail-kept = record {
+    created = λ r c. let a = c .most in let e = fail-count in record { least = c .least; most = omega arith };
+    block = λ r c. fail-word r 1 (omega arith);
+    status = λ r c. rw (fail-word r 0 (omega arith)) (omega arith);
   }

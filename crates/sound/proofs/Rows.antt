@@ -12,12 +12,12 @@ use Rattle.table.specs.Table.{Table}
 use Rattle.machine.specs.Memory.{Memory, update}
 use Rattle.machine.specs.Layout.{statusAt, worksAt, holderAt, createdAt, failureAt}
 use Rattle.machine.specs.Outcomes.{Outcome, ok, fail, stuck, need}
-use Rattle.machine.specs.Entries.{Statement}
+use Rattle.machine.specs.Entries.{Statement, opener, processCall}
 use Rattle.machine.specs.Context.{contextOf}
 use Rattle.machine.specs.Statements.{Effect, effect, perform}
 use Rattle.machine.specs.Step.{Step, done, settled, inRange, answers, performs, proceeds, exists, turn, step}
 use Rattle.sound.specs.InUse.{Created}
-use Rattle.sound.specs.Rows.{next, Ready, Waiting, unstarted, held, waiting, Ended, before, now, Absent, Failing, CarriedOut, Row, row0, row1, row2, row3, row16, Changes, failureMark, nothing, givesUp, absent, others, Answers, RowsHold, SameFailure}
+use Rattle.sound.specs.Rows.{next, Ready, Waiting, unstarted, held, waiting, Ended, before, now, Absent, Failing, CarriedOut, Row, row0, row1, row2, row3, row16, Blocked, atGuards, Changes, failureMark, nothing, givesUp, endedBefore, endsNow, absent, others, Answers, RowsHold, SameFailure}
 use Rattle.sound.proofs.RowsOutcomes.{g-need, Near, same, n-need, n-pick-true, n-pick-false, near-is}
 use Rattle.sound.proofs.RowsListed.{failing-listed}
 use Rattle.sound.proofs.RowsStatements.{Leaves, gives, keeps, Reports, went, waited, ended, failed, strays, reports, statement-near, Gives, waits-near, ends-near}
@@ -59,20 +59,34 @@ module _ (T : Table) (m page : Memory) (p : ℕ) where
   data Stepped : Outcome Effect → Type 0 where
     going : {s d : Memory} → Ready T m page p → Stepped (ok (effect 0 s d))
     stays : {s : Memory} → Waiting T m page p → Changes T m page p 1 s page → Stepped (ok (effect 1 s page))
-    over : {s : Memory} → Ended T m page p → Stepped (ok (effect 2 s page))
+    over : {s : Memory} → Ended T m page p → Changes T m page p 2 s page → Stepped (ok (effect 2 s page))
     missing : Absent T m page p → Stepped (ok (effect 3 m page))
     fails : {n : ℕ} → Failing T m page p n → Stepped (fail n)
     astray : Stepped stuck
 
-  leaves-changes : (S : Statement) (s : Memory) → next T m page p ≡ S → Leaves T m page (contextOf m p) S s → Changes T m page p 1 s page
+  not-blocked-call : (a q c d : ℕ) → next T m page p ≡ processCall a q c d → Blocked T m page p → ⊥
+  not-blocked-call a q c d e (atGuards {k = k} r h w g) = let u : opener k ≡ processCall a q c d = sym h ∙ e in let z : _≡_ {A = ℕ} 0 1 = cc in absurd (omega arith)
+
+  not-blocked-status : (m (statusAt p) ≡ 2 → ⊥) → Blocked T m page p → ⊥
+  not-blocked-status n (atGuards r h w g) = n (r .started)
+
+  not-blocked-held : (m (holderAt (m (worksAt p))) ≡ 0 → ⊥) → (m (holderAt (m (worksAt p))) ≡ p → ⊥) → Blocked T m page p → ⊥
+  not-blocked-held a b (atGuards r h w g) = go (r .free)
+    where
+      go : (m (holderAt (m (worksAt p))) ≡ 0) ⊎ (m (holderAt (m (worksAt p))) ≡ p) → ⊥
+      go (inl e) = a e
+      go (inr e) = b e
+
+  leaves-changes : Ready T m page p → (S : Statement) (s : Memory) → next T m page p ≡ S → Leaves T m page (contextOf m p) S s → Changes T m page p 1 s page
   unfolding contextOf
-  leaves-changes _ _ e (gives w) = givesUp e w
-  leaves-changes _ _ e keeps = nothing
+  leaves-changes r _ _ e (gives w g) = givesUp (atGuards r e w g)
+  leaves-changes r _ _ e keeps = nothing (not-blocked-call _ _ _ _ e)
 
   stepped-reports : Ready T m page p → (o : Outcome Effect) → Reports T m page (contextOf m p) (next T m page p) o → Stepped o
+  unfolding contextOf
   stepped-reports r _ went = going r
-  stepped-reports r _ (waited w l) = stays (waiting r w) (leaves-changes _ _ refl l)
-  stepped-reports r _ (ended e) = over (now r e)
+  stepped-reports r _ (waited w l) = stays (waiting r w) (leaves-changes r _ _ refl l)
+  stepped-reports r _ (ended e) = over (now r e) (endsNow r e)
   stepped-reports r _ (failed h) = fails (record { ready = r; fails = h })
   stepped-reports r _ strays = astray
 
@@ -86,7 +100,7 @@ module _ (T : Table) (m page : Memory) (p : ℕ) where
       g-need Stepped astray _ _
       (cases (either (eqb (m (holderAt (m (worksAt p)))) 0) (eqb (m (holderAt (m (worksAt p)))) p))
       (λ e. rw e (performs-view (record { exists = c; started = s; free = free (either-some _ _ e) })))
-      (λ e. let n = either-none _ _ e in rw e (stays (held c s (eqb-false _ 0 (n .0)) (eqb-false _ p (n .1))) nothing)))
+      (λ e. let n = either-none _ _ e in rw e (stays (held c s (eqb-false _ 0 (n .0)) (eqb-false _ p (n .1))) (nothing (not-blocked-held (eqb-false _ 0 (n .0)) (eqb-false _ p (n .1)))))))
     where
       free : (eqb (m (holderAt (m (worksAt p)))) 0 ≡ true) ⊎ (eqb (m (holderAt (m (worksAt p)))) p ≡ true) → (m (holderAt (m (worksAt p))) ≡ 0) ⊎ (m (holderAt (m (worksAt p))) ≡ p)
       free (inl h) = inl (eqb-true _ 0 h)
@@ -96,9 +110,9 @@ module _ (T : Table) (m page : Memory) (p : ℕ) where
   unfolding exists answers need
   exists-view c =
       cases (eqb (m (statusAt p)) 3)
-      (λ e. rw e (over (before c (eqb-true _ 3 e))))
+      (λ e. rw e (over (before c (eqb-true _ 3 e)) (endedBefore c (eqb-true _ 3 e))))
       (λ e. rw e (cases (eqb (m (statusAt p)) 1)
-      (λ h. rw h (stays (unstarted c (eqb-true _ 1 h)) nothing))
+      (λ h. rw h (stays (unstarted c (eqb-true _ 1 h)) (nothing (not-blocked-status (λ z. let y : m (statusAt p) ≡ 1 = eqb-true (m (statusAt p)) 1 h in omega arith)))))
       (λ h. rw h (cases (eqb (m (statusAt p)) 2)
       (λ k. rw k (proceeds-view c (eqb-true _ 2 k)))
       (λ k. rw k astray)))))
@@ -196,7 +210,7 @@ module _ (T : Table) (m page : Memory) (p : ℕ) where
       unfolding settled
       given-row n s d u _ (going r) e = let z0 : 0 ≡ n = cc in rw (← z0) (row0 (carried r (record { state = s; devices = d; is = rw z0 u })))
       given-row n s d u _ (stays w c) e = let z0 : 1 ≡ n = cc in rw (← z0) (row1 w)
-      given-row n s d u _ (over w) e = let z0 : 2 ≡ n = cc in rw (← z0) (row2 w)
+      given-row n s d u _ (over w k) e = let z0 : 2 ≡ n = cc in rw (← z0) (row2 w)
       given-row n s d u _ (missing w) e = let z0 : 3 ≡ n = cc in rw (← z0) (row3 w)
       given-row n s d u _ (fails {n = k} h) e = let z0 : k ≡ n = cc in row16 (rw z0 at h)
       given-row n s d u _ astray e = let z0 : _≡_ {A = ℕ} 0 1 = cc in absurd (omega arith)
@@ -204,7 +218,7 @@ module _ (T : Table) (m page : Memory) (p : ℕ) where
       exact-zero : CarriedOut T m page p → (o : Outcome Effect) → Stepped o → turn T m page p ≡ o → Answers T m page p 0
       exact-zero c _ (going {s = s} {d = d} r) e = answer-of 0 s d (same e)
       exact-zero c _ (stays w h) e = absurd (c .noWait w)
-      exact-zero c _ (over w) e = absurd (c .noEnd w)
+      exact-zero c _ (over w k) e = absurd (c .noEnd w)
       exact-zero c _ (missing w) e = absurd (w .none (c .ready .exists))
       exact-zero c _ (fails {n = k} h) e = absurd (c .noFailure k h)
       exact-zero c _ astray e = absurd (turn-free e)
@@ -218,13 +232,17 @@ module _ (T : Table) (m page : Memory) (p : ℕ) where
 
       changed : (n : ℕ) (s d : Memory) (o : Outcome Effect) → Stepped o → settled m page o ≡ done n s d → Changes T m page p n s d
       unfolding settled
-      changed n s d _ (going r) e = let z0 : 0 ≡ n = cc in others (inl (sym z0))
+      changed n s d _ (going r) e = let z0 : 0 ≡ n = cc in rw (← z0) (others r)
       changed n s d _ (stays {s = s'} w c) e =
           let a : 1 ≡ n = cc in
           let b : s' ≡ s = cc in
           let g : page ≡ d = cc in
           rw (← a, ← b, ← g) c
-      changed n s d _ (over w) e = let z0 : 2 ≡ n = cc in others (inr (sym z0))
+      changed n s d _ (over {s = s'} w k) e =
+          let a : 2 ≡ n = cc in
+          let b : s' ≡ s = cc in
+          let g : page ≡ d = cc in
+          rw (← a, ← b, ← g) k
       changed n s d _ (missing w) e =
           let a : 3 ≡ n = cc in
           let b : m ≡ s = cc in

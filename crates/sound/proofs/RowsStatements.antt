@@ -167,13 +167,13 @@ module _ (T : Table) (m page : Memory) (x : Context) where
 
   -- the state that a waiting statement leaves: a blocked when or cycle gives up the variables worked on
   pub data Leaves : Statement → Memory → Type 0 where
-    gives : {k : Opener} → waits k ≡ true → Leaves (opener k) (update m (holderAt (x .works)) 0)
-    keeps : {S : Statement} → Leaves S m
+    gives : {k : Opener} → waits k ≡ true → GuardsFalse T m page x (x .statement + 1) → Leaves (opener k) (update m (holderAt (x .works)) 0)
+    keeps : {a q c d : ℕ} → Leaves (processCall a q c d) m
 
   pub data Reports (S : Statement) : Outcome Effect → Type 0 where
     went : {s d : Memory} → Reports S (ok (effect 0 s d))
     waited : {s : Memory} → StatementWaits T m page x S → Leaves S s → Reports S (ok (effect 1 s page))
-    ended : {s : Memory} → StatementEnds T m page x S → Reports S (ok (effect 2 s page))
+    ended : StatementEnds T m page x S → Reports S (ok (effect 2 (update (update m (statusAt (x .process)) 3) (holderAt (x .process)) 0) page))
     failed : {f : ℕ} → StatementFails T m page x f S → Reports S (fail f)
     strays : Reports S stuck
 
@@ -288,7 +288,7 @@ module _ (T : Table) (m page : Memory) (x : Context) where
   chosen-reports k _ entered = goto-reports _ _ _
   chosen-reports k _ (skipped h) =
       cases (waits k)
-      (λ e. rw e (waited (blocked e h) (gives e)))
+      (λ e. rw e (waited (blocked e h) (gives e h)))
       (λ e. rw e (goto-reports _ _ _))
   chosen-reports k _ astray = strays
 

@@ -1,6 +1,6 @@
 -- The processes created (11.4; 01, A run, for demand 3): process 1, and one more for each create carried out, of the module that its
 -- variable's type names. Each stays one, of its module. Assumes nothing.
-use Prim.Native.Nat.{ℕ, _+_, _≤_}
+use Prim.Native.Nat.{ℕ, _+_, _≤_, _<_}
 use mathlib.Core.Path.{_≡_}
 use mathlib.Core.Bool.{Bool, true, false}
 use mathlib.Core.List.{List, [], _∷_}
@@ -8,7 +8,7 @@ use lib.Dec.{eqb}
 use Rattle.basics.specs.Choice.{pick, both}
 use Rattle.table.specs.Table.{Table}
 use Rattle.machine.specs.Memory.{Memory, memoryOf}
-use Rattle.machine.specs.Layout.{statusAt, moduleAt, createdAt}
+use Rattle.machine.specs.Layout.{statusAt, moduleAt, createdAt, failureAt}
 use Rattle.machine.specs.Entries.{processType, typeAt, Statement, skip, assign, localCall, processCall, create, start, opener, arm, endArms, write, blockEnd, noStatement, stmtAt}
 use Rattle.machine.specs.Context.{contextOf}
 use Rattle.sound.specs.InUse.{Created}
@@ -68,3 +68,5 @@ module _ (T : Table) (m page : Memory) (p n : ℕ) (s : Memory) where
   pub record CreatedKept : Type 0 where
     pub creating : Creating
     pub kept : ProcessesKept m s
+    -- a step that does not fail leaves the failure mark as it was
+    pub mark : n < 16 → s failureAt ≡ m failureAt

@@ -1,5 +1,5 @@
 -- Demand 3, one statement about a begin and a list of run calls (01, A run, for demand 3; Agreement). Assumes nothing.
-use Prim.Native.Nat.{ℕ, _+_}
+use Prim.Native.Nat.{ℕ, _+_, _<_}
 use mathlib.Core.Path.{_≡_}
 use mathlib.Core.List.{List, _++_}
 use Rattle.table.specs.Table.{Table, tableOf}
@@ -44,6 +44,8 @@ module _ (verdict : List ℕ → ℕ) where
     pub handed : Handed verdict (first verdict h) (h .calls)
     pub holds : Every (StepHolds (tableOf 1 (h .table))) (steps verdict h)
     pub lasting : Lasting (steps verdict h)
+    -- as long as no step has failed the mark is 0, so that the rows hold
+    pub unfailed : (es fs : List Seen) → es ++ fs ≡ steps verdict h → Every (λ e. e .answer < 16) es → memoryOf (finally (first verdict h) es) failureAt ≡ 0
     -- the calls leave the state that the last step left
     pub last : finally (first verdict h) (steps verdict h) ≡ stateAfter verdict (first verdict h) (h .calls)
     -- at the start process 1, which runs block 0, is the one created; after the first steps, es, there is one more for each create that

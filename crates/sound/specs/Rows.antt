@@ -195,13 +195,19 @@ module _ (T : Table) (m page : Memory) (p : ℕ) where
     row3 : Absent → Row 3
     row16 : {n : ℕ} → Failing n → Row n
 
+  -- it stands, free to go on, at a when or cycle every guard of which was evaluated and is false
+  pub data Blocked : Type 0 where
+    atGuards : {k : Opener} → Ready → next ≡ opener k → waits k ≡ true → GuardsFalse T m page (contextOf m p) (contextOf m p .statement + 1) → Blocked
+
   -- what a step changes: a failing one the run's failure mark only, a waiting one nothing but the holder that a blocked when or cycle gives up
   pub data Changes : ℕ → Memory → Memory → Type 0 where
     failureMark : {n : ℕ} → Failing n → Changes n (update m failureAt n) page
-    nothing : Changes 1 m page
-    givesUp : {k : Opener} → next ≡ opener k → waits k ≡ true → Changes 1 (update m (holderAt (m (worksAt p))) 0) page
+    nothing : (Blocked → ⊥) → Changes 1 m page
+    givesUp : Blocked → Changes 1 (update m (holderAt (m (worksAt p))) 0) page
+    endedBefore : Created m p → m (statusAt p) ≡ 3 → Changes 2 m page
+    endsNow : Ready → StatementEnds T m page (contextOf m p) next → Changes 2 (update (update m (statusAt p) 3) (holderAt p) 0) page
     absent : Changes 3 m page
-    others : {n : ℕ} {s d : Memory} → (n ≡ 0) ⊎ (n ≡ 2) → Changes n s d
+    others : {s d : Memory} → Ready → Changes 0 s d
 
   -- the step answers n
   pub record Answers (n : ℕ) : Type 0 where
