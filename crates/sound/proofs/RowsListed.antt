@@ -5,7 +5,7 @@ use Rattle.table.specs.Table.{Table}
 use Rattle.machine.specs.Memory.{Memory}
 use Rattle.machine.specs.Context.{Context}
 use Rattle.machine.specs.Entries.{Statement}
-use Rattle.sound.specs.Rows.{NodeFails, result, inverted, divisor, index, device, transferred, inRecord, inArray, inIndex, inVariable, inUnary, inTransfer, inLeft, inRight, ArgumentsFail, thisArgument, laterArgument, GuardsFail, thisGuard, laterGuard, StatementFails, target, source, localArgument, localArea, callee, calleeEmpty, callArgument, callArea, createe, limit, startee, starteeEmpty, startedTwice, startArgument, guard, address, datum, location, Failing}
+use Rattle.sound.specs.Conditions.{NodeFails, result, inverted, divisor, index, device, transferred, inRecord, inArray, inIndex, inVariable, inUnary, inTransfer, inLeft, inRight, ArgumentsFail, thisArgument, laterArgument, GuardsFail, thisGuard, laterGuard, StatementFails, target, source, localArgument, localArea, callee, calleeEmpty, callArgument, callArea, createe, limit, startee, starteeEmpty, startedTwice, startArgument, guard, address, datum, location}
 
 pub record Listed (n : ℕ) : Type 0 where
   pub least : 16 ≤ n

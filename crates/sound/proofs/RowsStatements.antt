@@ -19,7 +19,7 @@ use Rattle.machine.specs.Operands.{operand}
 use Rattle.machine.specs.Calls.{valueArgument, varArgument, argument, argumentWords, arguments, topAfter, call, returns, return}
 use Rattle.machine.specs.Processes.{onProcess, onReference}
 use Rattle.machine.specs.Statements.{Effect, effect, onArms, onOpener, Choice, enters, skips, endOf, goTo, goOn, wait, moved, doAssign, doLocalCall, free, doProcessCall, doCreate, doStart, choose, chosen, doOpener, doEnd, doWrite, doBlockEnd, perform}
-use Rattle.sound.specs.Rows.{Selects, Yields, NodeFails, ArgumentsFail, thisArgument, laterArgument, GuardsFail, thisGuard, laterGuard, GuardsFalse, none, more, AreaFull, Serves, StatementFails, target, source, localArgument, localArea, callee, calleeEmpty, callArgument, callArea, createe, limit, startee, starteeEmpty, startedTwice, startArgument, guard, address, datum, location, StatementWaits, blocked, busy, StatementEnds, ownBlock}
+use Rattle.sound.specs.Conditions.{Selects, Yields, NodeFails, ArgumentsFail, thisArgument, laterArgument, GuardsFail, thisGuard, laterGuard, GuardsFalse, none, more, AreaFull, Serves, StatementFails, target, source, localArgument, localArea, callee, calleeEmpty, callArgument, callArea, createe, limit, startee, starteeEmpty, startedTwice, startArgument, guard, address, datum, location, StatementWaits, blocked, busy, StatementEnds, ownBlock}
 use Rattle.sound.proofs.RowsOutcomes.{g-then, g-need, g-where, g-place, g-value, g-word, g-module, Near, same, lost, n-fails, n-then, n-need, n-pass, n-where, n-place-fails, n-place, n-value-fails, n-word-fails, n-word}
 use Rattle.sound.proofs.RowsNodes.{Met, is-ok, is-fail, is-stuck, met-fail, node-fails, fails-near}
 

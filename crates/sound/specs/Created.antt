@@ -12,7 +12,8 @@ use Rattle.machine.specs.Layout.{statusAt, moduleAt, createdAt, failureAt}
 use Rattle.machine.specs.Entries.{processType, typeAt, Statement, skip, assign, localCall, processCall, create, start, opener, arm, endArms, write, blockEnd, noStatement, stmtAt}
 use Rattle.machine.specs.Context.{contextOf}
 use Rattle.sound.specs.InUse.{Created}
-use Rattle.sound.specs.Rows.{Selects, next}
+use Rattle.sound.specs.Conditions.{Selects}
+use Rattle.sound.specs.Rows.{next}
 use Rattle.sound.specs.Histories.{Seen}
 
 -- ---- creates carried out

@@ -5,6 +5,9 @@ pub mod Histories
 pub mod Reached
 pub mod InUse
 pub mod Bindings
+pub mod Conditions
+pub mod Carried
 pub mod Rows
+pub mod OpenCalls
 pub mod Created
 pub mod Demand

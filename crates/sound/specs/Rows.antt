@@ -1,148 +1,18 @@
--- The rows of 'Step answers' (01) as conditions on table, state, device words and process, said by rules. The rules of failures say where
--- each failure arises, and which operand's failure is met first; that an operand has a value or a place is said by the evaluation.
--- The rows hold for a run that has not failed. Assumes nothing.
-use Prim.Native.Nat.{ℕ, suc, _+_, _<_}
+-- The rows of 'Step answers' (01) as conditions on table, state, device words and process. They hold for a run that has not failed.
+-- Assumes nothing.
+use Prim.Native.Nat.{ℕ, _+_}
 use mathlib.Core.Path.{_≡_}
-use mathlib.Core.Bool.{true, false}
+use mathlib.Core.Bool.{true}
 use mathlib.Core.Logic.{_⊎_}
-use mathlib.Core.List.{List}
-use lib.IntN.{ℤ, pos, negsuc, negℤ, _+ℤ_, _-ℤ_, _*ℤ_}
-use lib.Signed.{quotZ, remZ}
-use Rattle.words.specs.Numbers.{intOf, between}
-use Rattle.words.specs.Types.{inType}
-use Rattle.words.specs.Devices.{isDevice}
 use Rattle.table.specs.Table.{Table}
-use Rattle.table.specs.Entries.{argNode, firstVar}
 use Rattle.machine.specs.Memory.{Memory, update}
-use Rattle.machine.specs.Layout.{statusAt, topAt, worksAt, holderAt, depthAt, createdAt, failureAt}
-use Rattle.machine.specs.Outcomes.{ok, place, value, wordOf}
-use Rattle.machine.specs.Entries.{arrayType, processType, typeAt, Unary, minus, val, Binary, add, subtract, multiply, divide, modulus, field, element, retrieve, unary, binary, transfer, nodeAt}
-use Rattle.machine.specs.Entries.{Opener, waits, Statement, assign, localCall, processCall, create, start, opener, arm, endArms, write, blockEnd, stmtAt}
-use Rattle.machine.specs.Variables.{frameWords}
-use Rattle.machine.specs.Context.{Context, contextOf}
-use Rattle.machine.specs.Operands.{operand, outside}
-use Rattle.machine.specs.Calls.{argument, arguments}
+use Rattle.machine.specs.Layout.{statusAt, worksAt, holderAt, failureAt}
+use Rattle.machine.specs.Entries.{Opener, waits, Statement, opener, stmtAt}
+use Rattle.machine.specs.Context.{contextOf}
 use Rattle.machine.specs.Step.{done, step}
 use Rattle.sound.specs.InUse.{Created}
-
--- ---- operators
-
--- z is no integer from -32768 to 32767
-abbrev pub OutOfRange : ℤ → Type 0
-OutOfRange z = between (negsuc 32767) (pos 32767) z ≡ false
-
--- z is the result of an integer operator at the words u and v, whatever its range
-pub data Exact : Binary → ℕ → ℕ → ℤ → Type 0 where
-  sum : {u v : ℕ} → Exact add u v (intOf u +ℤ intOf v)
-  difference : {u v : ℕ} → Exact subtract u v (intOf u -ℤ intOf v)
-  product : {u v : ℕ} → Exact multiply u v (intOf u *ℤ intOf v)
-  quotient : {u v : ℕ} → (v ≡ 0 → ⊥) → Exact divide u v (quotZ (intOf u) (intOf v))
-  remainder : {u v : ℕ} → (v ≡ 0 → ⊥) → Exact modulus u v (remZ (intOf u) (intOf v))
-
--- an operator that has a divisor
-pub data Divides : Binary → Type 0 where
-  byDivide : Divides divide
-  byModulus : Divides modulus
-
-module _ (T : Table) (m page : Memory) (x : Context) where
-  -- node n selects the location a of type τ; it yields the value ws of type τ
-  abbrev pub Selects : ℕ → ℕ → ℕ → Type 0
-  Selects n a τ = operand T m page x n ≡ ok (place a τ)
-
-  abbrev pub Yields : ℕ → ℕ → List ℕ → Type 0
-  Yields n τ ws = operand T m page x n ≡ ok (value τ ws)
-
-  -- ---- THE FIRST FAILURE met at a node is f
-  pub data NodeFails : ℕ → ℕ → Type 0 where
-    -- 16: integer result out of range
-    result : {o : Binary} {n a b τ σ : ℕ} {us vs : List ℕ} {z : ℤ} → nodeAt T n ≡ binary o a b → Yields a τ us → Yields b σ vs
-        → Exact o (wordOf us) (wordOf vs) z → OutOfRange z → NodeFails 16 n
-    inverted : {n a τ : ℕ} {us : List ℕ} → nodeAt T n ≡ unary minus a → Yields a τ us → OutOfRange (negℤ (intOf (wordOf us))) → NodeFails 16 n
-    -- 17: divisor 0
-    divisor : {o : Binary} {n a b τ σ : ℕ} {us vs : List ℕ} → nodeAt T n ≡ binary o a b → Yields a τ us → Yields b σ vs
-        → Divides o → wordOf vs ≡ 0 → NodeFails 17 n
-    -- 18: index out of range
-    index : {n a k l τ ι σ low high ρ : ℕ} {ws : List ℕ} → nodeAt T n ≡ element a k → Selects a l τ → typeAt T τ ≡ arrayType ι σ low high
-        → Yields k ρ ws → outside low high (wordOf ws) ≡ true → NodeFails 18 n
-    -- 21: device address odd or outside -8192..-2
-    device : {n a τ : ℕ} {us : List ℕ} → nodeAt T n ≡ unary val a → Yields a τ us → isDevice (intOf (wordOf us)) ≡ false → NodeFails 21 n
-    -- 23: transferred word is no value of the type
-    transferred : {n a τ σ : ℕ} {us : List ℕ} → nodeAt T n ≡ transfer a τ → Yields a σ us → inType τ (wordOf us) ≡ false → NodeFails 23 n
-    -- an operand's failure is met first: the record of a field; the array variable before its index; the variable of a value
-    inRecord : {f n a i : ℕ} → nodeAt T n ≡ field a i → NodeFails f a → NodeFails f n
-    inArray : {f n a k : ℕ} → nodeAt T n ≡ element a k → NodeFails f a → NodeFails f n
-    inIndex : {f n a k l τ : ℕ} → nodeAt T n ≡ element a k → Selects a l τ → NodeFails f k → NodeFails f n
-    inVariable : {f n a : ℕ} → nodeAt T n ≡ retrieve a → NodeFails f a → NodeFails f n
-    -- the left operand before the right
-    inUnary : {o : Unary} {f n a : ℕ} → nodeAt T n ≡ unary o a → NodeFails f a → NodeFails f n
-    inTransfer : {f n a τ : ℕ} → nodeAt T n ≡ transfer a τ → NodeFails f a → NodeFails f n
-    inLeft : {o : Binary} {f n a b : ℕ} → nodeAt T n ≡ binary o a b → NodeFails f a → NodeFails f n
-    inRight : {o : Binary} {f n a b τ : ℕ} {us : List ℕ} → nodeAt T n ≡ binary o a b → Yields a τ us → NodeFails f b → NodeFails f n
-
-  -- of k arguments from i on, for the parameters from v on: in the order written
-  pub data ArgumentsFail : ℕ → ℕ → ℕ → ℕ → Type 0 where
-    thisArgument : {f k v i : ℕ} → NodeFails f (argNode T i) → ArgumentsFail f (suc k) v i
-    laterArgument : {f k v i : ℕ} {ws : List ℕ} → argument T m page x v i ≡ ok ws → ArgumentsFail f k (v + 1) (i + 1) → ArgumentsFail f (suc k) v i
-
-  -- of the guards of the arms from i on: in the order written, up to the first true one
-  pub data GuardsFail : ℕ → ℕ → Type 0 where
-    thisGuard : {f i g l : ℕ} → stmtAt T i ≡ arm g l → NodeFails f g → GuardsFail f i
-    laterGuard : {f i g l τ : ℕ} {ws : List ℕ} → stmtAt T i ≡ arm g l → Yields g τ ws → wordOf ws ≡ 0 → GuardsFail f l → GuardsFail f i
-
-  -- every guard of the arms from i on was evaluated and is false
-  pub data GuardsFalse : ℕ → Type 0 where
-    none : {i l : ℕ} → stmtAt T i ≡ endArms l → GuardsFalse i
-    more : {i g l τ : ℕ} {ws : List ℕ} → stmtAt T i ≡ arm g l → Yields g τ ws → wordOf ws ≡ 0 → GuardsFalse l → GuardsFalse i
-
-  -- the process's area has no room for a call of procedure q
-  abbrev pub AreaFull : ℕ → Type 0
-  AreaFull q = 256 < m (topAt (x .process)) + 4 + frameWords T q
-
-  -- process r can serve a call: it is started and nobody holds its variables
-  pub record Serves (r : ℕ) : Type 0 where
-    pub started : m (statusAt r) ≡ 1 → ⊥
-    pub unheld : m (holderAt r) ≡ 0
-
-  -- ---- THE FIRST FAILURE met in carrying out a statement is f
-  pub data StatementFails : ℕ → Statement → Type 0 where
-    -- an assignment selects, evaluates
-    target : {f a b : ℕ} → NodeFails f a → StatementFails f (assign a b)
-    source : {f a b i τ : ℕ} → Selects a i τ → NodeFails f b → StatementFails f (assign a b)
-    -- a local call evaluates arguments, then tests the area (22)
-    localArgument : {f q c d : ℕ} → ArgumentsFail f d (firstVar T q) c → StatementFails f (localCall q c d)
-    localArea : {q c d : ℕ} {ws : List ℕ} → arguments T m page x q c d ≡ ok ws → AreaFull q → StatementFails 22 (localCall q c d)
-    -- a process call tests its reference (19), waits, evaluates arguments, tests the area (22)
-    callee : {f a q c d : ℕ} → NodeFails f a → StatementFails f (processCall a q c d)
-    calleeEmpty : {a q c d i τ : ℕ} → Selects a i τ → m i ≡ 0 → StatementFails 19 (processCall a q c d)
-    callArgument : {f a q c d i τ : ℕ} → Selects a i τ → (m i ≡ 0 → ⊥) → Serves (m i) → ArgumentsFail f d (firstVar T q) c
-        → StatementFails f (processCall a q c d)
-    callArea : {a q c d i τ : ℕ} {ws : List ℕ} → Selects a i τ → (m i ≡ 0 → ⊥) → Serves (m i) → arguments T m page x q c d ≡ ok ws → AreaFull q
-        → StatementFails 22 (processCall a q c d)
-    -- create selects its variable, tests the limit (24)
-    createe : {f a : ℕ} → NodeFails f a → StatementFails f (create a)
-    limit : {a i τ : ℕ} → Selects a i τ → m createdAt ≡ 64 → StatementFails 24 (create a)
-    -- start tests its reference (19, then 20), then arguments
-    startee : {f a c d : ℕ} → NodeFails f a → StatementFails f (start a c d)
-    starteeEmpty : {a c d i τ : ℕ} → Selects a i τ → m i ≡ 0 → StatementFails 19 (start a c d)
-    startedTwice : {a c d i τ : ℕ} → Selects a i τ → (m i ≡ 0 → ⊥) → (m (statusAt (m i)) ≡ 1 → ⊥) → StatementFails 20 (start a c d)
-    startArgument : {f a c d i τ μ : ℕ} → Selects a i τ → (m i ≡ 0 → ⊥) → m (statusAt (m i)) ≡ 1 → typeAt T τ ≡ processType μ
-        → ArgumentsFail f d (firstVar T μ) c → StatementFails f (start a c d)
-    -- an opener tries its guards
-    guard : {f : ℕ} {k : Opener} → GuardsFail f (x .statement + 1) → StatementFails f (opener k)
-    -- write evaluates address, then value, then tests the address (21)
-    address : {f a b : ℕ} → NodeFails f a → StatementFails f (write a b)
-    datum : {f a b τ : ℕ} {us : List ℕ} → Yields a τ us → NodeFails f b → StatementFails f (write a b)
-    location : {a b τ σ : ℕ} {us vs : List ℕ} → Yields a τ us → Yields b σ vs → isDevice (intOf (wordOf us)) ≡ false → StatementFails 21 (write a b)
-
-  -- a statement waits: every guard of a when or cycle is false; a process call's target is unstarted or held
-  pub data StatementWaits : Statement → Type 0 where
-    blocked : {k : Opener} → waits k ≡ true → GuardsFalse (x .statement + 1) → StatementWaits (opener k)
-    busy : {a q c d i τ : ℕ} → Selects a i τ → (m i ≡ 0 → ⊥) → (m (statusAt (m i)) ≡ 1) ⊎ (m (holderAt (m i)) ≡ 0 → ⊥)
-        → StatementWaits (processCall a q c d)
-
-  -- a statement ends the process's own block
-  pub data StatementEnds : Statement → Type 0 where
-    ownBlock : m (depthAt (x .process)) ≡ 0 → StatementEnds blockEnd
+use Rattle.sound.specs.Conditions.{GuardsFalse, StatementFails, StatementWaits, StatementEnds}
+use Rattle.sound.specs.Carried.{Carries}
 
 -- ---- the rows, for process p
 
@@ -180,16 +50,14 @@ module _ (T : Table) (m page : Memory) (p : ℕ) where
     pub ready : Ready
     pub fails : StatementFails T m page (contextOf m p) n next
 
-  -- 0: one statement was carried out and no other row applies
-  pub record CarriedOut : Type 0 where
+  -- 0: one statement was carried out, with state s and device words d left
+  pub record CarriedOut (s d : Memory) : Type 0 where
     pub ready : Ready
-    pub noWait : Waiting → ⊥
-    pub noEnd : Ended → ⊥
-    pub noFailure : (n : ℕ) → Failing n → ⊥
+    pub carries : Carries T m page (contextOf m p) next s d
 
   -- ROW n
   pub data Row : ℕ → Type 0 where
-    row0 : CarriedOut → Row 0
+    row0 : {s d : Memory} → CarriedOut s d → Row 0
     row1 : Waiting → Row 1
     row2 : Ended → Row 2
     row3 : Absent → Row 3
@@ -199,7 +67,8 @@ module _ (T : Table) (m page : Memory) (p : ℕ) where
   pub data Blocked : Type 0 where
     atGuards : {k : Opener} → Ready → next ≡ opener k → waits k ≡ true → GuardsFalse T m page (contextOf m p) (contextOf m p .statement + 1) → Blocked
 
-  -- what a step changes: a failing one the run's failure mark only, a waiting one nothing but the holder that a blocked when or cycle gives up
+  -- what a step changes: a failing one the run's failure mark only, a waiting one nothing but the holder that a blocked when or cycle gives
+  -- up, one that ends the process's own block its status and the holder of its variables, one that is carried out what its statement says
   pub data Changes : ℕ → Memory → Memory → Type 0 where
     failureMark : {n : ℕ} → Failing n → Changes n (update m failureAt n) page
     nothing : (Blocked → ⊥) → Changes 1 m page
@@ -207,7 +76,7 @@ module _ (T : Table) (m page : Memory) (p : ℕ) where
     endedBefore : Created m p → m (statusAt p) ≡ 3 → Changes 2 m page
     endsNow : Ready → StatementEnds T m page (contextOf m p) next → Changes 2 (update (update m (statusAt p) 3) (holderAt p) 0) page
     absent : Changes 3 m page
-    others : {s d : Memory} → Ready → Changes 0 s d
+    carried : {s d : Memory} → CarriedOut s d → Changes 0 s d
 
   -- the step answers n
   pub record Answers (n : ℕ) : Type 0 where
@@ -219,6 +88,8 @@ module _ (T : Table) (m page : Memory) (p : ℕ) where
   pub record RowsHold : Type 0 where
     pub given : (n : ℕ) → Answers n → Row n
     pub exactly : (n : ℕ) → Row n → Answers n
+    -- no two rows apply
+    pub apart : (n k : ℕ) → Row n → Row k → n ≡ k
     pub changes : (n : ℕ) (s d : Memory) → step T m page p ≡ done n s d → Changes n s d
 
   -- that of a run that has failed: the same number, and nothing changes
