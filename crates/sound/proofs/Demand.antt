@@ -9,7 +9,6 @@ use borrow.Author.Tests.{eqb-true, eqb-false, eq-eqb}
 use Rattle.basics.specs.Choice.{cases}
 use Rattle.basics.proofs.Bools.{zero-test}
 use Rattle.table.specs.Table.{Table, tableOf}
-use mathlib.Core.Logic.{inl, inr}
 use Rattle.machine.specs.Memory.{Memory, memoryOf, update}
 use Rattle.machine.specs.Layout.{moduleAt, createdAt, failureAt}
 use native.Mathlib.Omega.{arith}
@@ -22,7 +21,7 @@ use Rattle.sound.specs.Reached.{Reached, WordTable, StepLaws, BeginLaw}
 use Rattle.sound.specs.Histories.{Seen, asked, told, finally, Threaded, Every, Lasting, Calls, begunResult, History, first, steps}
 use Rattle.sound.specs.InUse.{ValuesHold}
 use Rattle.sound.specs.Created.{creations, ProcessesKept}
-use Rattle.sound.specs.Rows.{Changes, failureMark, nothing, givesUp, endedBefore, endsNow, absent, others}
+use Rattle.sound.specs.Rows.{Changes, failureMark, nothing, givesUp, endedBefore, endsNow, absent, carried}
 use Rattle.sound.specs.Demand.{StepHolds, Demand3}
 use Rattle.sound.proofs.HistoriesBegin.{word-table, begin-reached, begin-block, begin-created, begin-mark}
 use Rattle.sound.proofs.Histories.{StepOf, state-memory, At, at-memory, follows, served, handed, same-told, begun-at, at-begin}
@@ -67,7 +66,7 @@ changes-mark T m page p _ _ _ h (givesUp b) = absurd (omega arith)
 changes-mark T m page p _ _ _ h absent = absurd (omega arith)
 changes-mark T m page p _ _ _ h (endedBefore c e) = absurd (omega arith)
 changes-mark T m page p _ _ _ h (endsNow r e) = absurd (omega arith)
-changes-mark T m page p _ s d h (others r) = absurd (omega arith)
+changes-mark T m page p _ s d h (carried c) = absurd (omega arith)
 
 -- a step of a failed run: its number, and the mark stays
 failed-step : (T : Table) (e : Seen) → StepHolds T e → (f : ℕ) → 16 ≤ f → memoryOf (e .before) failureAt ≡ f → (e .answer ≡ f) × (memoryOf (e .after) failureAt ≡ f)

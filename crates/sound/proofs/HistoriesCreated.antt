@@ -26,10 +26,10 @@ use Rattle.machine.specs.Step.{done, settled, inRange, answers, performs, proce
 use Rattle.sound.specs.Rows.{next}
 use Rattle.sound.specs.Histories.{Seen, finally, Threaded, Every}
 use Rattle.sound.specs.Created.{isCreate, createsOne, creations, NewProcess, ProcessesKept, Creating, same, creates, CreatedKept}
-use Rattle.sound.proofs.RowsOutcomes.{g-then, g-need, g-where, g-pick, g-place, g-value, g-word, g-module}
+use Rattle.sound.proofs.RowsOutcomes.{g-test, g-then, g-need, g-where, g-pick, g-place, g-value, g-word, g-module}
 use Rattle.sound.proofs.RowsListed.{statement-listed}
 use Rattle.sound.proofs.RowsStatements.{g-arms, g-opener, g-end, Reports, went, waited, ended, failed, strays, reports}
-use Rattle.sound.proofs.HistoriesOperands.{g-test, place-fits, value-long}
+use Rattle.sound.proofs.HistoriesOperands.{place-fits, value-long}
 use Rattle.sound.proofs.HistoriesSized.{room}
 use Rattle.sound.proofs.HistoriesRecords.{location-end, Still, still, still-record, still-status, still-store, still-standing, new-process, others-kept, mark-kept, fail-count, fail-kept}
 
@@ -88,7 +88,7 @@ module _ (T : Table) (m page : Memory) (x : Context) where
   unfolding doEnd
   end-keeps =
       g-end Keeping none T (stmtCount T) (x .statement) _
-      (λ j l. g-opener Keeping none (stmtAt T l) _ (λ k. cases (repeats k) (λ e. rw e (goto-keeps m _ (still m))) (λ e. rw e (goto-keeps m _ (still m)))))
+      (λ j l h. g-opener Keeping none (stmtAt T l) _ (λ k u. cases (repeats k) (λ e. rw e (goto-keeps m _ (still m))) (λ e. rw e (goto-keeps m _ (still m)))))
 
   write-keeps : (a b : ℕ) → Keeping (doWrite T m page x a b)
   unfolding doWrite
@@ -228,7 +228,7 @@ module _ (T : Table) (m page : Memory) (x : Context) where
 
   -- its failure is a listed one
   fails-listed : (S : Statement) (o : Outcome Effect) → Reports T m page x S o → (n : ℕ) → o ≡ fail n → 16 ≤ n
-  fails-listed S _ went n e = let y : _≡_ {A = ℕ} 0 1 = cc in absurd (omega arith)
+  fails-listed S _ (went h) n e = let y : _≡_ {A = ℕ} 0 1 = cc in absurd (omega arith)
   fails-listed S _ (waited w l) n e = let y : _≡_ {A = ℕ} 0 1 = cc in absurd (omega arith)
   fails-listed S _ (ended h) n e = let y : _≡_ {A = ℕ} 0 1 = cc in absurd (omega arith)
   fails-listed S _ (failed {f = f} h) n e = let y : f ≡ n = cc in rw y at (statement-listed T m page x f S h .least)

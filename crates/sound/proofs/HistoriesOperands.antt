@@ -25,13 +25,8 @@ use Rattle.machine.specs.Entries.{Node, constant, whole, field, element, retrie
 use Rattle.machine.specs.Context.{Context}
 use Rattle.machine.specs.Variables.{belongs, offsetOf, fits}
 use Rattle.machine.specs.Operands.{simple, truth, given, deviceWord, unaryValue, ordered, integral, logical, binaryValue, placeAt, fieldPlace, elementPlace, moduleVariable, frameVariable, wholePlace, nodeOperand, operand}
-use Rattle.sound.proofs.RowsOutcomes.{g-need, g-where, g-pick, g-place, g-value, g-word, g-record, g-array}
+use Rattle.sound.proofs.RowsOutcomes.{g-test, g-need, g-where, g-pick, g-place, g-value, g-word, g-record, g-array}
 use Rattle.sound.proofs.RowsNodes.{operand-is}
-
-pub g-test : {B : Type 0} (P : Outcome B → Type 0) → P stuck → (b : Bool) (o : Outcome B) → (b ≡ true → P o) → P (need b o)
-unfolding need
-g-test P l true o h = h refl
-g-test P l false o h = l
 
 pick-both : (a b : Bool) → pick a b false ≡ true → (a ≡ true) × (b ≡ true)
 pick-both true b e = (refl, e)

@@ -15,7 +15,7 @@ use Rattle.types.specs.Match.{matches}
 use Rattle.sizes.specs.Sizes.{wordsOf}
 use Rattle.machine.specs.Memory.{Memory, update, within, store, clear, zeros}
 use Rattle.machine.specs.Layout.{location, recordAt, statusAt, topAt, worksAt, holderAt, depthAt, createdAt, failureAt}
-use Rattle.machine.specs.Outcomes.{Outcome, ok, fail, stuck, andThen, place, value, wordOf}
+use Rattle.machine.specs.Outcomes.{Outcome, ok, fail, stuck, andThen, place, wordOf}
 use Rattle.machine.specs.Entries.{typeAt, Opener, waits, repeats, Statement, skip, assign, localCall, processCall, create, start, opener, arm, endArms, write, blockEnd, noStatement, stmtAt}
 use Rattle.machine.specs.Context.{Context, contextOf}
 use Rattle.machine.specs.Variables.{frameWords, fits}
@@ -26,9 +26,9 @@ use Rattle.machine.specs.Statements.{Effect, effect, Choice, enters, skips, goT
 use Rattle.machine.specs.Step.{done, settled, inRange, answers, performs, proceeds, exists, turn, step}
 use Rattle.machine.specs.Run.{begin}
 use Rattle.sound.specs.Reached.{Sized, Kept}
-use Rattle.sound.proofs.RowsOutcomes.{g-then, g-need, g-where, g-pick, g-place, g-value, g-word, g-module}
+use Rattle.sound.proofs.RowsOutcomes.{g-test, g-then, g-need, g-where, g-pick, g-place, g-value, g-word, g-module}
 use Rattle.sound.proofs.RowsStatements.{g-arms, g-opener, g-end}
-use Rattle.sound.proofs.HistoriesOperands.{g-test, matching-words, device-word, place-fits, value-long}
+use Rattle.sound.proofs.HistoriesOperands.{matching-words, device-word, place-fits, value-long}
 
 -- ---- writes
 
@@ -223,7 +223,7 @@ module _ (T : Table) (m page : Memory) (x : Context) (hm : Sized 17664 m) (hp : 
   unfolding doEnd
   end-in =
       g-end Inside none T (stmtCount T) (x .statement) _
-      (λ j l. g-opener Inside none (stmtAt T l) _ (λ k. cases (repeats k) (λ e. rw e (goto-in m _ hm)) (λ e. rw e (goto-in m _ hm))))
+      (λ j l h. g-opener Inside none (stmtAt T l) _ (λ k u. cases (repeats k) (λ e. rw e (goto-in m _ hm)) (λ e. rw e (goto-in m _ hm))))
 
   not-true : (b : Bool) → not b ≡ false → b ≡ true
   not-true true e = refl

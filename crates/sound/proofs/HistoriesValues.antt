@@ -23,7 +23,7 @@ use Rattle.machine.specs.Variables.{offsetOf}
 use Rattle.machine.specs.Processes.{refers}
 use Rattle.machine.specs.Step.{inRange}
 use Rattle.machine.specs.Values.{someBelow, typeHolds, holdsAt, nowhere, holds, partIn, partAt, part, partOfVariable, partOfBlock}
-use Rattle.machine.specs.Rule.{isCreated, owns, lives, moduleHolds, modulesHold, frameHolds, framesHold, calls, chain, startedOk, processOk, rule}
+use Rattle.machine.specs.Rule.{isCreated, owns, lives, moduleHolds, modulesHold, frameHolds, framesHold, chain, startedOk, processOk, rule}
 use Rattle.sound.specs.Claims.{Small}
 use Rattle.sound.specs.InUse.{Created, Reference, empty, names, HoldsValue, simple, reference, eachField, eachElement, Part, itself, ofField, ofElement, Call, innermost, caller, Of, moduleVariable, callVariable, InUse, ofModule, ofCall, Bound, ValuesHold}
 

@@ -17,10 +17,9 @@ use Rattle.machine.specs.Context.{contextOf}
 use Rattle.machine.specs.Statements.{Effect, effect, perform}
 use Rattle.machine.specs.Step.{Step, done, settled, inRange, answers, performs, proceeds, exists, turn, step}
 use Rattle.sound.specs.InUse.{Created}
-use Rattle.sound.specs.Rows.{next, Ready, Waiting, unstarted, held, waiting, Ended, before, now, Absent, Failing, CarriedOut, Row, row0, row1, row2, row3, row16, Blocked, atGuards, Changes, failureMark, nothing, givesUp, endedBefore, endsNow, absent, others, Answers, RowsHold, SameFailure}
+use Rattle.sound.specs.Rows.{next, Ready, Waiting, unstarted, held, waiting, Ended, before, now, Absent, Failing, CarriedOut, Row, row0, row1, row2, row3, row16, Blocked, atGuards, Changes, failureMark, nothing, givesUp, endedBefore, endsNow, absent, carried, Answers, RowsHold, SameFailure}
 use Rattle.sound.proofs.RowsOutcomes.{g-need, Near, same, n-need, n-pick-true, n-pick-false, near-is}
-use Rattle.sound.proofs.RowsListed.{failing-listed}
-use Rattle.sound.proofs.RowsStatements.{Leaves, gives, keeps, Reports, went, waited, ended, failed, strays, reports, statement-near, Gives, waits-near, ends-near}
+use Rattle.sound.proofs.RowsStatements.{Leaves, gives, keeps, Reports, went, waited, ended, failed, strays, reports, statement-near, carries-near, Gives, waits-near, ends-near}
 
 either-l : (a b : Bool) → a ≡ true → either a b ≡ true
 unfolding either
@@ -57,7 +56,7 @@ module _ (T : Table) (m page : Memory) (p : ℕ) where
   -- ---- what a step comes to has its row
 
   data Stepped : Outcome Effect → Type 0 where
-    going : {s d : Memory} → Ready T m page p → Stepped (ok (effect 0 s d))
+    going : {s d : Memory} → CarriedOut T m page p s d → Stepped (ok (effect 0 s d))
     stays : {s : Memory} → Waiting T m page p → Changes T m page p 1 s page → Stepped (ok (effect 1 s page))
     over : {s : Memory} → Ended T m page p → Changes T m page p 2 s page → Stepped (ok (effect 2 s page))
     missing : Absent T m page p → Stepped (ok (effect 3 m page))
@@ -84,7 +83,7 @@ module _ (T : Table) (m page : Memory) (p : ℕ) where
 
   stepped-reports : Ready T m page p → (o : Outcome Effect) → Reports T m page (contextOf m p) (next T m page p) o → Stepped o
   unfolding contextOf
-  stepped-reports r _ went = going r
+  stepped-reports r _ (went h) = going (record { ready = r; carries = h })
   stepped-reports r _ (waited w l) = stays (waiting r w) (leaves-changes r _ _ refl l)
   stepped-reports r _ (ended e) = over (now r e) (endsNow r e)
   stepped-reports r _ (failed h) = fails (record { ready = r; fails = h })
@@ -169,6 +168,9 @@ module _ (T : Table) (m page : Memory) (p : ℕ) where
     near-fails : (n : ℕ) → Failing T m page p n → Near (fail n) (turn T m page p)
     near-fails n h = near-turn z (h .ready .exists) (near-performs (h .ready) (statement-near T m page (contextOf m p) n _ (h .fails)))
 
+    near-carries : (s d : Memory) → CarriedOut T m page p s d → Near (ok (effect 0 s d)) (turn T m page p)
+    near-carries s d h = near-turn z (h .ready .exists) (near-performs (h .ready) (carries-near T m page (contextOf m p) _ s d (h .carries)))
+
     module _ (free : step T m page p ≡ Step.stuck → ⊥) where
       turn-free : turn T m page p ≡ Outcome.stuck → ⊥
       unfolding step settled
@@ -198,33 +200,17 @@ module _ (T : Table) (m page : Memory) (p : ℕ) where
           go : {s d s' d' : Memory} → done n s d ≡ done k s' d' → n ≡ k
           go e = cc
 
-      carried : Ready T m page p → Answers T m page p 0 → CarriedOut T m page p
-      carried r a = record {
-        ready = r;
-        noWait = λ h. let e = one-answer 1 0 (waits-answers h) a in absurd (omega (arith, e));
-        noEnd = λ h. let e = one-answer 2 0 (ends-answers h) a in absurd (omega (arith, e));
-        noFailure = λ n h. let e = one-answer n 0 (row-answers n h) a in let l = failing-listed T m page p n h .least in absurd (omega (arith, e));
-      }
-
-      given-row : (n : ℕ) (s d : Memory) → step T m page p ≡ done n s d → (o : Outcome Effect) → Stepped o → settled m page o ≡ done n s d → Row T m page p n
+      given-row : (n : ℕ) (s d : Memory) (o : Outcome Effect) → Stepped o → settled m page o ≡ done n s d → Row T m page p n
       unfolding settled
-      given-row n s d u _ (going r) e = let z0 : 0 ≡ n = cc in rw (← z0) (row0 (carried r (record { state = s; devices = d; is = rw z0 u })))
-      given-row n s d u _ (stays w c) e = let z0 : 1 ≡ n = cc in rw (← z0) (row1 w)
-      given-row n s d u _ (over w k) e = let z0 : 2 ≡ n = cc in rw (← z0) (row2 w)
-      given-row n s d u _ (missing w) e = let z0 : 3 ≡ n = cc in rw (← z0) (row3 w)
-      given-row n s d u _ (fails {n = k} h) e = let z0 : k ≡ n = cc in row16 (rw z0 at h)
-      given-row n s d u _ astray e = let z0 : _≡_ {A = ℕ} 0 1 = cc in absurd (omega arith)
-
-      exact-zero : CarriedOut T m page p → (o : Outcome Effect) → Stepped o → turn T m page p ≡ o → Answers T m page p 0
-      exact-zero c _ (going {s = s} {d = d} r) e = answer-of 0 s d (same e)
-      exact-zero c _ (stays w h) e = absurd (c .noWait w)
-      exact-zero c _ (over w k) e = absurd (c .noEnd w)
-      exact-zero c _ (missing w) e = absurd (w .none (c .ready .exists))
-      exact-zero c _ (fails {n = k} h) e = absurd (c .noFailure k h)
-      exact-zero c _ astray e = absurd (turn-free e)
+      given-row n s d _ (going c) e = let z0 : 0 ≡ n = cc in rw (← z0) (row0 c)
+      given-row n s d _ (stays w c) e = let z0 : 1 ≡ n = cc in rw (← z0) (row1 w)
+      given-row n s d _ (over w k) e = let z0 : 2 ≡ n = cc in rw (← z0) (row2 w)
+      given-row n s d _ (missing w) e = let z0 : 3 ≡ n = cc in rw (← z0) (row3 w)
+      given-row n s d _ (fails {n = k} h) e = let z0 : k ≡ n = cc in row16 (rw z0 at h)
+      given-row n s d _ astray e = let z0 : _≡_ {A = ℕ} 0 1 = cc in absurd (omega arith)
 
       exact-row : (n : ℕ) → Row T m page p n → Answers T m page p n
-      exact-row _ (row0 c) = exact-zero c _ (turn-view z) refl
+      exact-row _ (row0 {s = s} {d = d} c) = answer-of 0 s d (near-carries s d c)
       exact-row _ (row1 h) = waits-answers h
       exact-row _ (row2 h) = ends-answers h
       exact-row _ (row3 h) = absent-answers h
@@ -232,7 +218,11 @@ module _ (T : Table) (m page : Memory) (p : ℕ) where
 
       changed : (n : ℕ) (s d : Memory) (o : Outcome Effect) → Stepped o → settled m page o ≡ done n s d → Changes T m page p n s d
       unfolding settled
-      changed n s d _ (going r) e = let z0 : 0 ≡ n = cc in rw (← z0) (others r)
+      changed n s d _ (going {s = s'} {d = d'} c) e =
+          let a : 0 ≡ n = cc in
+          let b : s' ≡ s = cc in
+          let g : d' ≡ d = cc in
+          rw (← a, ← b, ← g) (carried c)
       changed n s d _ (stays {s = s'} w c) e =
           let a : 1 ≡ n = cc in
           let b : s' ≡ s = cc in
@@ -259,8 +249,9 @@ module _ (T : Table) (m page : Memory) (p : ℕ) where
       pub rows-hold : RowsHold T m page p
       unfolding step
       rows-hold = record {
-        given = λ n a. given-row n (a .state) (a .devices) (a .is) (turn T m page p) (turn-view z) (a .is);
+        given = λ n a. given-row n (a .state) (a .devices) (turn T m page p) (turn-view z) (a .is);
         exactly = exact-row;
+        apart = λ n k a b. one-answer n k (exact-row n a) (exact-row k b);
         changes = λ n s d e. changed n s d (turn T m page p) (turn-view z) e;
       }
 

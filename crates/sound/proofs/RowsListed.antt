@@ -55,6 +55,3 @@ module _ (T : Table) (m page : Memory) (x : Context) where
   statement-listed f _ (address h) = node-listed f _ h
   statement-listed f _ (datum y h) = node-listed f _ h
   statement-listed _ _ (location y w h) = omega arith
-
-pub failing-listed : (T : Table) (m page : Memory) (p n : ℕ) → Failing T m page p n → Listed n
-failing-listed T m page p n h = statement-listed T m page _ n _ (h .fails)

@@ -20,10 +20,13 @@ module _ {B : Type 0} (P : Outcome B → Type 0) (lost : P stuck) where
   g-then (fail n) k f g = f n refl
   g-then stuck k f g = lost
 
-  pub g-need : (b : Bool) (o : Outcome B) → P o → P (need b o)
+  pub g-test : (b : Bool) (o : Outcome B) → (b ≡ true → P o) → P (need b o)
   unfolding need
-  g-need true o h = h
-  g-need false o h = lost
+  g-test true o h = h refl
+  g-test false o h = lost
+
+  pub g-need : (b : Bool) (o : Outcome B) → P o → P (need b o)
+  g-need b o h = g-test b o (λ e. h)
 
   pub g-where : (b : Bool) (n : ℕ) (o : Outcome B) → (b ≡ true → P (fail n)) → (b ≡ false → P o) → P (failWhere b n o)
   unfolding failWhere

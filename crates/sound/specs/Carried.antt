@@ -1,6 +1,6 @@
 -- What a statement that is carried out does, kind by kind (9 to 13; 01, A step): row 0 of 'Step answers'. Each rule gives the state and the
 -- device words that are left; words that it does not name stay as they were. Assumes nothing.
-use Prim.Native.Nat.{ℕ, zero, suc, _+_}
+use Prim.Native.Nat.{ℕ, suc, _+_}
 use mathlib.Core.Path.{_≡_}
 use mathlib.Core.Bool.{true, false}
 use mathlib.Core.List.{List, [], _∷_, _++_}
@@ -25,6 +25,11 @@ pub data Inside : Statement → Type 0 where
   nextArm : {g l : ℕ} → Inside (arm g l)
   lastEnd : {l : ℕ} → Inside (endArms l)
 
+-- the links of the arms from i on lead to the end at j, whose opener is o
+pub data LeadsTo (T : Table) : ℕ → ℕ → ℕ → Type 0 where
+  theEnd : {i o : ℕ} → stmtAt T i ≡ endArms o → LeadsTo T i i o
+  pastArm : {i j o g l : ℕ} → stmtAt T i ≡ arm g l → LeadsTo T l j o → LeadsTo T i j o
+
 module _ (T : Table) (m page : Memory) (x : Context) where
   -- the words that k arguments from i on pass to the parameters from v on (11.3, 12.1): for a value parameter the words that its
   -- argument yields, for a var parameter the location that its argument selects
@@ -44,11 +49,6 @@ module _ (T : Table) (m page : Memory) (x : Context) where
   pub data FirstTrue : ℕ → ℕ → Type 0 where
     thisArm : {i g l τ : ℕ} {ws : List ℕ} → stmtAt T i ≡ arm g l → Yields T m page x g τ ws → (wordOf ws ≡ 0 → ⊥) → FirstTrue i i
     laterArm : {i j g l τ : ℕ} {ws : List ℕ} → stmtAt T i ≡ arm g l → Yields T m page x g τ ws → wordOf ws ≡ 0 → FirstTrue l j → FirstTrue i j
-
-  -- the links of the arms from i on lead to the end at j, whose opener is o
-  pub data LeadsTo : ℕ → ℕ → ℕ → Type 0 where
-    theEnd : {i o : ℕ} → stmtAt T i ≡ endArms o → LeadsTo i i o
-    pastArm : {i j o g l : ℕ} → stmtAt T i ≡ arm g l → LeadsTo l j o → LeadsTo i j o
 
   -- state s, and the process goes on at statement c; with the statement after this one
   abbrev pub goingTo : Memory → ℕ → Memory
@@ -85,12 +85,12 @@ module _ (T : Table) (m page : Memory) (x : Context) where
     enters : {k : Opener} {j : ℕ} → FirstTrue (x .statement + 1) j
         → Carries (opener k) (goingTo (pick (waits k) (update m (holderAt (x .works)) (x .process)) m) (j + 1)) page
     -- 11.7, 11.8: an if or while passes its end where every guard is false
-    passes : {k : Opener} {j o : ℕ} → waits k ≡ false → GuardsFalse T m page x (x .statement + 1) → LeadsTo (x .statement + 1) j o
+    passes : {k : Opener} {j o : ℕ} → waits k ≡ false → GuardsFalse T m page x (x .statement + 1) → LeadsTo T (x .statement + 1) j o
         → Carries (opener k) (goingTo m (j + 1)) page
     -- 11.7 to 11.10: an arm or end that is reached from inside goes past the end (if, when) or back to the opener (while, cycle)
-    leaves : {S : Statement} {j o : ℕ} {k : Opener} → Inside S → LeadsTo (x .statement) j o → stmtAt T o ≡ opener k → repeats k ≡ false
+    leaves : {S : Statement} {j o : ℕ} {k : Opener} → Inside S → LeadsTo T (x .statement) j o → stmtAt T o ≡ opener k → repeats k ≡ false
         → Carries S (goingTo m (j + 1)) page
-    again : {S : Statement} {j o : ℕ} {k : Opener} → Inside S → LeadsTo (x .statement) j o → stmtAt T o ≡ opener k → repeats k ≡ true
+    again : {S : Statement} {j o : ℕ} {k : Opener} → Inside S → LeadsTo T (x .statement) j o → stmtAt T o ≡ opener k → repeats k ≡ true
         → Carries S (goingTo m o) page
     -- 12.3: write assigns the value to the device word that the address names
     writes : {a b τ σ : ℕ} {us vs : List ℕ} → Yields T m page x a τ us → Yields T m page x b σ vs → isDevice (intOf (wordOf us)) ≡ true

@@ -10,13 +10,12 @@ use Rattle.types.specs.Match.{elements, matches}
 use Rattle.sizes.specs.Sizes.{wordsOf, offsetIn}
 use Rattle.machine.specs.Memory.{Memory, wordsAt, store}
 use Rattle.machine.specs.Layout.{statusAt, frameAt, depthAt}
-use Rattle.machine.specs.Outcomes.{Outcome, ok, fail, stuck, Operand, place, value}
+use Rattle.machine.specs.Outcomes.{Outcome, ok, fail, Operand, place, value}
 use Rattle.machine.specs.Entries.{recordType, arrayType, typeAt}
 use Rattle.machine.specs.Processes.{refers}
-use Rattle.machine.specs.Operands.{operand}
 use Rattle.machine.specs.Values.{holds, part}
 use Rattle.machine.specs.Rule.{isCreated, lives, rule}
-use Rattle.machine.specs.Step.{Step, done, step}
+use Rattle.machine.specs.Step.{Step, done}
 
 -- ---- values and places
 

@@ -13,17 +13,15 @@ use Rattle.words.specs.Types.{inType}
 use Rattle.words.specs.Devices.{isDevice}
 use Rattle.table.specs.Table.{Table}
 use Rattle.table.specs.Entries.{argNode, firstVar}
-use Rattle.machine.specs.Memory.{Memory, update}
-use Rattle.machine.specs.Layout.{statusAt, topAt, worksAt, holderAt, depthAt, createdAt, failureAt}
+use Rattle.machine.specs.Memory.{Memory}
+use Rattle.machine.specs.Layout.{statusAt, topAt, holderAt, depthAt, createdAt}
 use Rattle.machine.specs.Outcomes.{ok, place, value, wordOf}
 use Rattle.machine.specs.Entries.{arrayType, processType, typeAt, Unary, minus, val, Binary, add, subtract, multiply, divide, modulus, field, element, retrieve, unary, binary, transfer, nodeAt}
 use Rattle.machine.specs.Entries.{Opener, waits, Statement, assign, localCall, processCall, create, start, opener, arm, endArms, write, blockEnd, stmtAt}
 use Rattle.machine.specs.Variables.{frameWords}
-use Rattle.machine.specs.Context.{Context, contextOf}
+use Rattle.machine.specs.Context.{Context}
 use Rattle.machine.specs.Operands.{operand, outside}
 use Rattle.machine.specs.Calls.{argument, arguments}
-use Rattle.machine.specs.Step.{done, step}
-use Rattle.sound.specs.InUse.{Created}
 
 -- ---- operators
 
