@@ -180,6 +180,11 @@ module _ (T : Table) (m page : Memory) (p : ℕ) where
       unfolding step settled
       answer-of n s d h = record { state = s; devices = d; is = rw (near-is h turn-free) }
 
+      -- a statement that is carried out leaves what its rule says, and nothing else
+      pub carried-step : (s d : Memory) → CarriedOut T m page p s d → step T m page p ≡ done 0 s d
+      unfolding step settled
+      carried-step s d c = rw (near-is (near-carries s d c) turn-free)
+
       row-answers : (n : ℕ) → Failing T m page p n → Answers T m page p n
       unfolding step settled
       row-answers n h = record { state = update m failureAt n; devices = page; is = rw (near-is (near-fails n h) turn-free) }
@@ -210,7 +215,7 @@ module _ (T : Table) (m page : Memory) (p : ℕ) where
       given-row n s d _ astray e = let z0 : _≡_ {A = ℕ} 0 1 = cc in absurd (omega arith)
 
       exact-row : (n : ℕ) → Row T m page p n → Answers T m page p n
-      exact-row _ (row0 {s = s} {d = d} c) = answer-of 0 s d (near-carries s d c)
+      exact-row _ (row0 {s = s} {d = d} c) = record { state = s; devices = d; is = carried-step s d c }
       exact-row _ (row1 h) = waits-answers h
       exact-row _ (row2 h) = ends-answers h
       exact-row _ (row3 h) = absent-answers h
