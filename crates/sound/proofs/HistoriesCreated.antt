@@ -1,34 +1,34 @@
 -- A step creates a process exactly if it carries out a create, and keeps those created before (11.4). Assumes nothing.
 use Prim.Native.Nat.{ℕ, _+_, _-_, _≤_, _<_}
-use mathlib.Core.Path.{_≡_, refl, sym, ap, _∙_}
-use mathlib.Core.Bool.{Bool, true, false, not}
+use mathlib.Core.Path.{_≡_, refl, ap, _∙_}
+use mathlib.Core.Bool.{true, false}
 use mathlib.Core.List.{List, [], _∷_, _++_}
 use native.Mathlib.Omega.{arith}
 use lib.Dec.{eqb}
 use lib.ListN.{length, replicate, length-append, length-replicate}
-use borrow.Author.Tests.{eqb-true, eqb-false, ne-eqb, leb-true, ltb-true, ltb-false}
+use borrow.Author.Tests.{eqb-true, ne-eqb, leb-true, ltb-true, ltb-false, not-false}
 use Rattle.basics.specs.Choice.{pick, cases, either}
 use Rattle.basics.proofs.Bools.{both-l, both-r, both-i, both-false-l, both-false-r}
 use Rattle.table.specs.Table.{Table}
-use Rattle.table.specs.Entries.{stmtCount}
-use Rattle.types.specs.Match.{matches}
 use Rattle.machine.specs.Memory.{Memory, memoryOf, update}
-use Rattle.machine.specs.Layout.{location, statusAt, topAt, worksAt, holderAt, depthAt, createdAt, failureAt}
+use Rattle.machine.specs.Layout.{location, statusAt, statementAt, topAt, worksAt, holderAt, createdAt, failureAt}
 use Rattle.machine.specs.Outcomes.{Outcome, ok, fail, stuck, andThen, place}
-use Rattle.machine.specs.Entries.{processType, typeAt, Opener, waits, repeats, Statement, skip, assign, localCall, processCall, create, start, opener, arm, endArms, write, blockEnd, noStatement, stmtAt}
+use Rattle.machine.specs.Entries.{processType, typeAt, waits, Statement, create}
 use Rattle.machine.specs.Context.{Context, contextOf}
 use Rattle.machine.specs.Variables.{frameWords, fits}
 use Rattle.machine.specs.Operands.{operand}
-use Rattle.machine.specs.Calls.{arguments, frame, topAfter, pushed, call, popped, returns, return}
+use Rattle.machine.specs.Calls.{arguments, frame, topAfter, pushed, call, popped}
 use Rattle.machine.specs.Processes.{onProcess, onReference, refers, started}
-use Rattle.machine.specs.Statements.{Effect, effect, Choice, enters, skips, goTo, goOn, wait, moved, doAssign, doLocalCall, free, doProcessCall, doCreate, doStart, chosen, doOpener, doEnd, doWrite, doBlockEnd, perform}
+use Rattle.machine.specs.Statements.{Effect, effect, goTo, goOn, wait, moved, doLocalCall, free, doProcessCall, doStart, perform}
 use Rattle.machine.specs.Step.{done, settled, inRange, answers, performs, proceeds, exists, turn, step}
+use Rattle.sound.specs.Conditions.{ownBlock}
+use Rattle.sound.specs.Carried.{Inside, nextArm, lastEnd, Carries, skips, assigns, callsLocal, callsProcess, starts, enters, passes, leaves, again, writes, returnsLocal, returnsProcess}
 use Rattle.sound.specs.Rows.{next}
 use Rattle.sound.specs.Histories.{Seen, finally, Threaded, Every}
 use Rattle.sound.specs.Created.{isCreate, createsOne, creations, NewProcess, ProcessesKept, Creating, same, creates, CreatedKept}
-use Rattle.sound.proofs.RowsOutcomes.{g-test, g-then, g-need, g-where, g-pick, g-place, g-value, g-word, g-module}
+use Rattle.sound.proofs.RowsOutcomes.{g-test, g-then, g-need, g-where, g-pick, g-place, g-module}
 use Rattle.sound.proofs.RowsListed.{statement-listed}
-use Rattle.sound.proofs.RowsStatements.{g-arms, g-opener, g-end, Reports, went, waited, ended, failed, strays, reports}
+use Rattle.sound.proofs.RowsStatements.{Leaves, gives, Reports, went, waited, ended, failed, strays, reports}
 use Rattle.sound.proofs.HistoriesOperands.{place-fits, value-long}
 use Rattle.sound.proofs.HistoriesSized.{room}
 use Rattle.sound.proofs.HistoriesRecords.{location-end, Still, still, still-record, still-status, still-store, still-standing, new-process, others-kept, mark-kept, fail-count, fail-kept}
@@ -46,20 +46,16 @@ module _ (T : Table) (m page : Memory) (x : Context) where
     fails : {n : ℕ} → Within (fail n)
     none : Within stuck
 
-  goto-keeps : (s : Memory) (c : ℕ) → Still m s → Keeping (goTo T m page x s c)
-  unfolding goTo
-  goto-keeps s c h = keeps (still-record m s h (x .process) 2 c (omega arith))
-
-  goon-keeps : (s : Memory) → Still m s → Keeping (goOn T m page x s)
-  unfolding goOn
-  goon-keeps s h = goto-keeps s _ h
-
-  wait-keeps : (s : Memory) → Still m s → Keeping (wait T m page x s)
-  unfolding wait
-  wait-keeps s h = keeps h
-
   holder-still : (q v : ℕ) → Still m (update m (holderAt q) v)
   holder-still q v = still-record m m (still m) q 6 v (omega arith)
+
+  goes-still : (s : Memory) (c : ℕ) → Still m s → Still m (update s (statementAt (x .process)) c)
+  goes-still s c h = still-record m s h (x .process) 2 c (omega arith)
+
+  keeping-still : (o : Outcome Effect) → Keeping o → (s d : Memory) → o ≡ ok (effect 0 s d) → Still m s
+  keeping-still _ (keeps {s = u} h) s d e = let y : u ≡ s = cc in rw y at h
+  keeping-still _ Keeping.fails s d e = let y : _≡_ {A = ℕ} 0 1 = cc in absurd (omega arith)
+  keeping-still _ Keeping.none s d e = let y : _≡_ {A = ℕ} 0 1 = cc in absurd (omega arith)
 
   moved-keeps : (o : Outcome Memory) → Within o → Keeping (moved T m page x o)
   unfolding moved andThen
@@ -67,62 +63,16 @@ module _ (T : Table) (m page : Memory) (x : Context) where
   moved-keeps _ fails = fails
   moved-keeps _ none = none
 
-  assign-keeps : (a b : ℕ) → Keeping (doAssign T m page x a b)
-  unfolding doAssign
-  assign-keeps a b =
-      g-place Keeping none (operand T m page x a) _ (λ f e. fails)
-      (λ i τ e. g-value Keeping none (operand T m page x b) _ (λ f q. fails)
-      (λ σ ws q. g-test Keeping none (matches T τ σ) _ (λ h.
-      goon-keeps _ (still-store m m (still m) i ws (room T i τ σ ws (place-fits T m page x a i τ e) (value-long T m page x b σ ws q) h)))))
-
-  chosen-keeps : (k : Opener) (c : Choice) → Keeping (chosen T m page x k c)
-  unfolding chosen
-  chosen-keeps k (enters i) = cases (waits k) (λ e. rw e (goto-keeps _ _ (holder-still _ _))) (λ e. rw e (goto-keeps m _ (still m)))
-  chosen-keeps k (skips i) = cases (waits k) (λ e. rw e (wait-keeps _ (holder-still _ _))) (λ e. rw e (goto-keeps m _ (still m)))
-
-  opener-keeps : (k : Opener) → Keeping (doOpener T m page x k)
-  unfolding doOpener
-  opener-keeps k = g-arms Keeping none (stmtAt T (x .statement + 1)) _ _ (λ g l e. g-then Keeping none _ _ (λ f q. fails) (λ c q. chosen-keeps k c)) (λ l e. none)
-
-  end-keeps : Keeping (doEnd T m page x)
-  unfolding doEnd
-  end-keeps =
-      g-end Keeping none T (stmtCount T) (x .statement) _
-      (λ j l h. g-opener Keeping none (stmtAt T l) _ (λ k u. cases (repeats k) (λ e. rw e (goto-keeps m _ (still m))) (λ e. rw e (goto-keeps m _ (still m)))))
-
-  write-keeps : (a b : ℕ) → Keeping (doWrite T m page x a b)
-  unfolding doWrite
-  write-keeps a b =
-      g-word Keeping none (operand T m page x a) 0 _ (λ f e. fails)
-      (λ τ us e. g-word Keeping none (operand T m page x b) 0 _ (λ f q. fails)
-      (λ σ vs q. g-where Keeping none _ 21 _ (λ h. fails)
-      (λ h. keeps (still-record m m (still m) (x .process) 2 _ (omega arith)))))
-
   popped-still : (s : Memory) (c : ℕ) → Still m s → Still m (popped T m page x s c)
   unfolding popped
   popped-still s c h = still-standing m s (x .process) _ _ _ _ _ h
-
-  returns-within : (c : ℕ) (U : Statement) → Within (returns T m page x c U)
-  unfolding returns
-  returns-within c skip = none
-  returns-within c (assign a b) = none
-  returns-within c (localCall q i d) = is-still (popped-still m c (still m))
-  returns-within c (processCall a q i d) = is-still (popped-still _ c (holder-still _ 0))
-  returns-within c (create a) = none
-  returns-within c (start a i d) = none
-  returns-within c (opener k) = none
-  returns-within c (arm g l) = none
-  returns-within c (endArms l) = none
-  returns-within c (write a b) = none
-  returns-within c blockEnd = none
-  returns-within c noStatement = none
 
   -- what statement S comes to
   data Comes (S : Statement) : Outcome Effect → Type 0 where
     keeps : {a : ℕ} {s d : Memory} → isCreate S ≡ false → Still m s → Comes S (ok (effect a s d))
     makes : {s d : Memory} (a i τ μ : ℕ) → S ≡ create a → operand T m page x a ≡ ok (place i τ) → typeAt T τ ≡ processType μ
         → NewProcess s (m createdAt + 1) μ i → ProcessesKept m s → s failureAt ≡ m failureAt → Comes S (ok (effect 0 s d))
-    fails : {n : ℕ} → Comes S (fail n)
+    fails : {n : ℕ} → 16 ≤ n → Comes S (fail n)
     none : Comes S stuck
 
   -- started processes, of 64
@@ -147,7 +97,7 @@ module _ (T : Table) (m page : Memory) (x : Context) where
         (λ ws e. moved-keeps _ (within-call m q (x .works) ws (still m))))
 
     process-keeps : (a q c d : ℕ) → Keeping (doProcessCall T m page x a q c d)
-    unfolding doProcessCall onProcess onReference
+    unfolding doProcessCall onProcess onReference wait
     process-keeps a q c d =
         g-place Keeping none (operand T m page x a) _ (λ f e. fails)
         (λ i τ e. g-module Keeping none (typeAt T τ) _ (λ μ t. g-need Keeping none _ _
@@ -155,15 +105,11 @@ module _ (T : Table) (m page : Memory) (x : Context) where
         (cases (free m (m i))
         (λ k. rw k (g-then Keeping none (arguments T m page x q c d) _ (λ f u. fails)
         (λ ws u. moved-keeps _ (within-call _ q (m i) ws (holder-still (m i) _)))))
-        (λ k. rw k (wait-keeps m (still m))))))))
+        (λ k. rw k (keeps (still m))))))))
 
     refers-most : (μ r : ℕ) → refers m μ r ≡ true → r ≤ 64
     unfolding refers
     refers-most μ r e = let h : r ≤ m createdAt = leb-true _ _ (both-r _ _ (both-l _ _ e)) in omega arith
-
-    not-false : (b : Bool) → not b ≡ false → b ≡ true
-    not-false true e = refl
-    not-false false e = sym e
 
     started-still : (r μ : ℕ) (ws : List ℕ) → r ≤ 64 → m (statusAt r) ≡ 1 → length ws ≤ 256 → Still m (started T m r μ ws)
     unfolding started
@@ -172,67 +118,55 @@ module _ (T : Table) (m page : Memory) (x : Context) where
         r 2 (omega arith)) r 6 r (omega arith))
 
     start-keeps : (a c d : ℕ) → Keeping (doStart T m page x a c d)
-    unfolding doStart onProcess onReference
+    unfolding doStart onProcess onReference goOn goTo
     start-keeps a c d =
         g-place Keeping none (operand T m page x a) _ (λ f e. fails)
         (λ i τ e. g-module Keeping none (typeAt T τ) _ (λ μ t.
         g-where Keeping none _ 19 _ (λ z. fails) (λ z. g-test Keeping none _ _ (λ r.
         g-where Keeping none _ 20 _ (λ u. fails) (λ u. g-then Keeping none (arguments T m page x μ c d) _ (λ f k. fails)
         (λ ws k. g-test Keeping none _ _ (λ w.
-        goon-keeps _ (started-still (m i) μ ws (refers-most μ (m i) r) (eqb-true _ 1 (not-false _ u)) (leb-true _ _ w)))))))))
-
-    block-keeps : Keeping (doBlockEnd T m page x)
-    unfolding doBlockEnd return
-    block-keeps =
-        cases (eqb (m (depthAt (x .process))) 0)
-        (λ e. rw e (keeps (still-record m _ (still-status m m (still m) (x .process) 3 (omega arith)) (x .process) 6 0 (omega arith))))
-        (λ e. rw e (moved-keeps _ (returns-within _ _)))
+        keeps (goes-still _ _ (started-still (m i) μ ws (refers-most μ (m i) r) (eqb-true _ 1 (not-false _ u)) (leb-true _ _ w))))))))))
 
     place-area : (a i τ : ℕ) → operand T m page x a ≡ ok (place i τ) → i < 16384
     unfolding fits
     place-area a i τ e = ltb-true _ _ (both-l _ _ (place-fits T m page x a i τ e))
 
-    create-comes : (a : ℕ) → Comes (create a) (doCreate T m page x a)
-    unfolding doCreate onProcess goOn goTo
-    create-comes a =
-        g-place (Comes (create a)) none (operand T m page x a) _ (λ f e. fails)
-        (λ i τ e. g-module (Comes (create a)) none (typeAt T τ) _ (λ μ t.
-        g-where (Comes (create a)) none _ 24 _ (λ z. fails)
-        (λ z.
-        let n : m createdAt ≡ 64 → ⊥ = eqb-false _ 64 z in
-        let u = place-area a i τ e in
-        makes a i τ μ refl e t
+    inside-keeps : (S : Statement) → Inside S → isCreate S ≡ false
+    unfolding isCreate
+    inside-keeps _ nextArm = refl
+    inside-keeps _ lastEnd = refl
+
+    carries-comes : (S : Statement) (s d : Memory) → perform T m page x S ≡ ok (effect 0 s d) → Carries T m page x S s d → Comes S (ok (effect 0 s d))
+    unfolding perform isCreate
+    carries-comes _ _ _ e skips = keeps refl (goes-still m _ (still m))
+    carries-comes _ _ _ e (assigns {a = a} {b = b} {i = i} {τ = τ} {σ = σ} {ws = ws} y w h) =
+        keeps refl (goes-still _ _ (still-store m m (still m) i ws (room T i τ σ ws (place-fits T m page x a i τ y) (value-long T m page x b σ ws w) h)))
+    carries-comes _ _ _ e (callsLocal {q = q} {c = c} {d = d} p n) = keeps refl (keeping-still _ (local-keeps q c d) _ _ e)
+    carries-comes _ _ _ e (callsProcess {a = a} {q = q} {c = c} {d = d} y t z u p n) = keeps refl (keeping-still _ (process-keeps a q c d) _ _ e)
+    carries-comes _ _ _ e (Carries.creates {a = a} {i = i} {τ = τ} {μ = μ} y t n) =
+        let u = place-area a i τ y in
+        makes a i τ μ refl y t
         (new-process m (m createdAt + 1) μ i (x .statement + 1) (x .process) (omega arith) (omega arith) u)
         (others-kept m (m createdAt + 1) μ i (x .statement + 1) (x .process) (omega arith) (omega arith) u)
-        (mark-kept m (m createdAt + 1) μ i (x .statement + 1) (x .process) (omega arith) (omega arith) u some))))
+        (mark-kept m (m createdAt + 1) μ i (x .statement + 1) (x .process) (omega arith) (omega arith) u some)
+    carries-comes _ _ _ e (starts {a = a} {c = c} {d = d} y t z u p) = keeps refl (keeping-still _ (start-keeps a c d) _ _ e)
+    carries-comes _ _ _ e (enters {k = k} h) =
+        keeps refl (goes-still (pick (waits k) (update m (holderAt (x .works)) (x .process)) m) _ (cases (waits k) (λ u. rw u (holder-still _ _)) (λ u. rw u (still m))))
+    carries-comes _ _ _ e (passes w h l) = keeps refl (goes-still m _ (still m))
+    carries-comes S _ _ e (leaves n l u r) = keeps (inside-keeps S n) (goes-still m _ (still m))
+    carries-comes S _ _ e (again n l u r) = keeps (inside-keeps S n) (goes-still m _ (still m))
+    carries-comes _ _ _ e (writes y w h) = keeps refl (goes-still m _ (still m))
+    carries-comes _ _ _ e (returnsLocal n u) = keeps refl (popped-still m _ (still m))
+    carries-comes _ _ _ e (returnsProcess n u) = keeps refl (popped-still _ _ (holder-still _ 0))
 
-    keeping-comes : (S : Statement) (o : Outcome Effect) → isCreate S ≡ false → Keeping o → Comes S o
-    keeping-comes S _ e (Keeping.keeps h) = keeps e h
-    keeping-comes S _ e Keeping.fails = fails
-    keeping-comes S _ e Keeping.none = none
-
-    comes : (S : Statement) → Comes S (perform T m page x S)
-    unfolding perform isCreate
-    comes skip = keeping-comes skip _ refl (goon-keeps m (still m))
-    comes (assign a b) = keeping-comes (assign a b) _ refl (assign-keeps a b)
-    comes (localCall q c d) = keeping-comes (localCall q c d) _ refl (local-keeps q c d)
-    comes (processCall a q c d) = keeping-comes (processCall a q c d) _ refl (process-keeps a q c d)
-    comes (create a) = create-comes a
-    comes (start a c d) = keeping-comes (start a c d) _ refl (start-keeps a c d)
-    comes (opener k) = keeping-comes (opener k) _ refl (opener-keeps k)
-    comes (arm g l) = keeping-comes (arm g l) _ refl end-keeps
-    comes (endArms l) = keeping-comes (endArms l) _ refl end-keeps
-    comes (write a b) = keeping-comes (write a b) _ refl (write-keeps a b)
-    comes blockEnd = keeping-comes blockEnd _ refl block-keeps
-    comes noStatement = none
-
-  -- its failure is a listed one
-  fails-listed : (S : Statement) (o : Outcome Effect) → Reports T m page x S o → (n : ℕ) → o ≡ fail n → 16 ≤ n
-  fails-listed S _ (went h) n e = let y : _≡_ {A = ℕ} 0 1 = cc in absurd (omega arith)
-  fails-listed S _ (waited w l) n e = let y : _≡_ {A = ℕ} 0 1 = cc in absurd (omega arith)
-  fails-listed S _ (ended h) n e = let y : _≡_ {A = ℕ} 0 1 = cc in absurd (omega arith)
-  fails-listed S _ (failed {f = f} h) n e = let y : f ≡ n = cc in rw y at (statement-listed T m page x f S h .least)
-  fails-listed S _ strays n e = let y : _≡_ {A = ℕ} 0 1 = cc in absurd (omega arith)
+    comes : (S : Statement) (o : Outcome Effect) → perform T m page x S ≡ o → Reports T m page x S o → Comes S o
+    unfolding isCreate
+    comes S _ e (went h) = carries-comes S _ _ e h
+    comes _ _ e (waited w (gives u h)) = keeps refl (holder-still _ 0)
+    comes _ _ e (waited w Leaves.keeps) = keeps refl (still m)
+    comes _ _ e (ended (ownBlock u)) = keeps refl (still-record m _ (still-status m m (still m) (x .process) 3 (omega arith)) (x .process) 6 0 (omega arith))
+    comes S _ e (failed {f = f} h) = fails (statement-listed T m page x f S h .least)
+    comes S _ e strays = none
 
 -- ---- steps
 
@@ -261,18 +195,17 @@ module _ (T : Table) (m page : Memory) (p : ℕ) where
   unfolding answers
   answers-left a e = left (other-step a m e (still m))
 
-  comes-left : (S : Statement) (o : Outcome Effect) → next T m page p ≡ S → Comes T m page (contextOf m p) S o → ((n : ℕ) → o ≡ fail n → 16 ≤ n) → Left o
+  comes-left : (S : Statement) (o : Outcome Effect) → next T m page p ≡ S → Comes T m page (contextOf m p) S o → Left o
   unfolding createsOne isCreate
-  comes-left S _ z (Comes.keeps {a = a} e h) f = left (still-step a _ (both-false-r _ _ (rw z e)) h)
-  comes-left S _ z (Comes.makes a i τ μ e o t n k y) f = left {a = 0} (record { creating = creates a i τ μ (rw (z, e) (both-i _ _ refl refl)) (z ∙ e) o t n; kept = k; mark = λ l. y })
-  comes-left S _ z (Comes.fails {n = n}) f = fails (f n refl)
-  comes-left S _ z Comes.none f = none
+  comes-left S _ z (Comes.keeps {a = a} e h) = left (still-step a _ (both-false-r _ _ (rw z e)) h)
+  comes-left S _ z (Comes.makes a i τ μ e o t n k y) = left {a = 0} (record { creating = creates a i τ μ (rw (z, e) (both-i _ _ refl refl)) (z ∙ e) o t n; kept = k; mark = λ l. y })
+  comes-left S _ z (Comes.fails h) = fails h
+  comes-left S _ z Comes.none = none
 
   performs-left : p ≤ 64 → m (statusAt p) ≡ 2 → m createdAt ≤ 64 → 1 ≤ m createdAt → Left (performs T m page p)
   unfolding performs contextOf
   performs-left l b c y =
-      g-need Left none _ _ (comes-left _ _ refl (comes T m page (contextOf m p) l b c y (next T m page p))
-      (fails-listed T m page (contextOf m p) (next T m page p) _ (reports T m page (contextOf m p) (next T m page p))))
+      g-need Left none _ _ (comes-left _ _ refl (comes T m page (contextOf m p) l b c y (next T m page p) _ refl (reports T m page (contextOf m p) (next T m page p))))
 
   in-least : (a b n : ℕ) → inRange a b n ≡ true → a ≤ n
   unfolding inRange
