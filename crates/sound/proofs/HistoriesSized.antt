@@ -1,33 +1,33 @@
 -- A step writes inside the state and the page only. Assumes nothing.
 use Prim.Native.Nat.{ℕ, _+_, _-_, _%_, _≤_, _<_}
-use mathlib.Core.Path.{_≡_, refl, sym, _∙_}
-use mathlib.Core.Bool.{Bool, true, false, not}
+use mathlib.Core.Path.{_≡_, refl, _∙_}
+use mathlib.Core.Bool.{true}
 use mathlib.Core.List.{List, _++_}
 use native.Mathlib.Omega.{arith}
 use lib.Dec.{eqb, leb, ltb}
 use lib.ListN.{length, replicate, length-append, length-replicate}
-use borrow.Author.Tests.{eqb-false, ne-eqb, leb-true, ltb-true, ltb-false, le-ltb}
-use Rattle.basics.specs.Choice.{cases, either}
+use borrow.Author.Tests.{ne-eqb, leb-true, ltb-true, ltb-false, le-ltb}
+use Rattle.basics.specs.Choice.{pick, cases, either}
 use Rattle.basics.proofs.Bools.{both-l, both-r, both-false-r}
 use Rattle.table.specs.Table.{Table}
-use Rattle.table.specs.Entries.{stmtCount}
 use Rattle.types.specs.Match.{matches}
 use Rattle.sizes.specs.Sizes.{wordsOf}
 use Rattle.machine.specs.Memory.{Memory, update, within, store, clear, zeros}
-use Rattle.machine.specs.Layout.{location, recordAt, statusAt, topAt, worksAt, holderAt, depthAt, createdAt, failureAt}
+use Rattle.machine.specs.Layout.{location, recordAt, statusAt, statementAt, topAt, worksAt, holderAt, createdAt, failureAt}
 use Rattle.machine.specs.Outcomes.{Outcome, ok, fail, stuck, andThen, place, wordOf}
-use Rattle.machine.specs.Entries.{typeAt, Opener, waits, repeats, Statement, skip, assign, localCall, processCall, create, start, opener, arm, endArms, write, blockEnd, noStatement, stmtAt}
+use Rattle.machine.specs.Entries.{typeAt, waits, Statement}
 use Rattle.machine.specs.Context.{Context, contextOf}
 use Rattle.machine.specs.Variables.{frameWords, fits}
 use Rattle.machine.specs.Operands.{operand}
-use Rattle.machine.specs.Calls.{standing, arguments, frame, topAfter, pushed, call, popped, returns, return}
+use Rattle.machine.specs.Calls.{standing, arguments, frame, topAfter, pushed, call, popped}
 use Rattle.machine.specs.Processes.{onProcess, onReference, refers, created, started}
-use Rattle.machine.specs.Statements.{Effect, effect, Choice, enters, skips, goTo, goOn, wait, moved, doAssign, doLocalCall, free, doProcessCall, doCreate, doStart, chosen, doOpener, doEnd, doWrite, doBlockEnd, perform}
+use Rattle.machine.specs.Statements.{Effect, effect, goTo, goOn, wait, moved, doLocalCall, free, doProcessCall, doStart, perform}
 use Rattle.machine.specs.Step.{done, settled, inRange, answers, performs, proceeds, exists, turn, step}
 use Rattle.machine.specs.Run.{begin}
+use Rattle.sound.specs.Carried.{Carries, skips, assigns, callsLocal, callsProcess, creates, starts, enters, passes, leaves, again, writes, returnsLocal, returnsProcess}
 use Rattle.sound.specs.Reached.{Sized, Kept}
-use Rattle.sound.proofs.RowsOutcomes.{g-test, g-then, g-need, g-where, g-pick, g-place, g-value, g-word, g-module}
-use Rattle.sound.proofs.RowsStatements.{g-arms, g-opener, g-end}
+use Rattle.sound.proofs.RowsOutcomes.{g-test, g-then, g-need, g-where, g-pick, g-place, g-module}
+use Rattle.sound.proofs.RowsStatements.{gives, keeps, Reports, went, waited, ended, failed, strays, reports}
 use Rattle.sound.proofs.HistoriesOperands.{matching-words, device-word, place-fits, value-long}
 
 -- ---- writes
@@ -93,23 +93,11 @@ data Within : Outcome Memory → Type 0 where
 
 module _ (T : Table) (m page : Memory) (x : Context) (hm : Sized 17664 m) (hp : Sized 4096 page)
     (lp : x .process ≤ 64) (lw : x .works ≤ 64) (lc : m createdAt ≤ 64) where
-  goto-in : (s : Memory) (c : ℕ) → Sized 17664 s → Inside (goTo T m page x s c)
-  unfolding goTo
-  goto-in s c h = inside (record-sized s h (x .process) lp 2 c (omega arith)) hp
+  goes-in : (s : Memory) (c : ℕ) → Sized 17664 s → Sized 17664 (update s (statementAt (x .process)) c)
+  goes-in s c h = record-sized s h (x .process) lp 2 c (omega arith)
 
-  goon-in : (s : Memory) → Sized 17664 s → Inside (goOn T m page x s)
-  unfolding goOn
-  goon-in s h = goto-in s _ h
-
-  -- a place, and a value of a type that matches it
-  assign-in : (a b : ℕ) → Inside (doAssign T m page x a b)
-  unfolding doAssign
-  assign-in a b =
-      g-place Inside none (operand T m page x a) _ (λ f e. fails)
-      (λ i τ e. g-value Inside none (operand T m page x b) _ (λ f q. fails)
-      (λ σ ws q. g-test Inside none (matches T τ σ) _ (λ h.
-      let r = room T i τ σ ws (place-fits T m page x a i τ e) (value-long T m page x b σ ws q) h in
-      goon-in _ (store-sized 17664 m hm i ws (omega arith)))))
+  holder-in : (v : ℕ) → Sized 17664 (update m (holderAt (x .works)) v)
+  holder-in v = record-sized m hm (x .works) lw 6 v (omega arith)
 
   -- a frame that fits its area
   pushed-in : (s : Memory) (q r : ℕ) (ws : List ℕ) → Sized 17664 s → length ws ≤ frameWords T q → topAfter T m page x q ≤ 256 → Sized 17664 (pushed T m page x s q r ws)
@@ -136,21 +124,6 @@ module _ (T : Table) (m page : Memory) (x : Context) (hm : Sized 17664 m) (hp : 
   unfolding popped
   popped-in s c h = standing-sized s (x .process) _ _ _ _ _ h lp
 
-  returns-in : (c : ℕ) (U : Statement) → Within (returns T m page x c U)
-  unfolding returns
-  returns-in c skip = none
-  returns-in c (assign a b) = none
-  returns-in c (localCall q i d) = is-in (popped-in m c hm)
-  returns-in c (processCall a q i d) = is-in (popped-in _ c (record-sized m hm (x .works) lw 6 0 (omega arith)))
-  returns-in c (create a) = none
-  returns-in c (start a i d) = none
-  returns-in c (opener k) = none
-  returns-in c (arm g l) = none
-  returns-in c (endArms l) = none
-  returns-in c (write a b) = none
-  returns-in c blockEnd = none
-  returns-in c noStatement = none
-
   local-in : (q c d : ℕ) → Inside (doLocalCall T m page x q c d)
   unfolding doLocalCall
   local-in q c d = g-need Inside none _ _ (g-then Inside none (arguments T m page x q c d) _ (λ f e. fails) (λ ws e. moved-in _ (within-call m q (x .works) ws hm)))
@@ -159,12 +132,8 @@ module _ (T : Table) (m page : Memory) (x : Context) (hm : Sized 17664 m) (hp : 
   unfolding refers
   refers-in μ r e = let h : r ≤ m createdAt = leb-true _ _ (both-r _ _ (both-l _ _ e)) in omega arith
 
-  wait-in : (s : Memory) → Sized 17664 s → Inside (wait T m page x s)
-  unfolding wait
-  wait-in s h = inside h hp
-
   process-in : (a q c d : ℕ) → Inside (doProcessCall T m page x a q c d)
-  unfolding doProcessCall onProcess onReference
+  unfolding doProcessCall onProcess onReference wait
   process-in a q c d =
       g-place Inside none (operand T m page x a) _ (λ f e. fails)
       (λ i τ e. g-module Inside none (typeAt T τ) _ (λ μ t. g-need Inside none _ _
@@ -172,7 +141,7 @@ module _ (T : Table) (m page : Memory) (x : Context) (hm : Sized 17664 m) (hp : 
       cases (free m (m i))
       (λ k. rw k (g-then Inside none (arguments T m page x q c d) _ (λ f u. fails)
       (λ ws u. moved-in _ (within-call _ q (m i) ws (record-sized m hm (m i) (refers-in μ (m i) r) 6 _ (omega arith))))))
-      (λ k. rw k (wait-in m hm)))))))
+      (λ k. rw k (inside hm hp)))))))
 
   created-in : (n μ : ℕ) → n ≤ 64 → Sized 17664 (created m n μ)
   unfolding created
@@ -183,14 +152,6 @@ module _ (T : Table) (m page : Memory) (x : Context) (hm : Sized 17664 m) (hp : 
   unfolding fits
   place-in a i τ e = let h : i < 16384 = ltb-true _ _ (both-l _ _ (place-fits T m page x a i τ e)) in omega arith
 
-  create-in : (a : ℕ) → Inside (doCreate T m page x a)
-  unfolding doCreate onProcess
-  create-in a =
-      g-place Inside none (operand T m page x a) _ (λ f e. fails)
-      (λ i τ e. g-module Inside none (typeAt T τ) _ (λ μ t.
-      g-where Inside none _ 24 _ (λ z. fails)
-      (λ z. let n : m createdAt ≡ 64 → ⊥ = eqb-false _ 64 z in goon-in _ (update-sized 17664 _ (created-in (m createdAt + 1) μ (omega arith)) i _ (place-in a i τ e)))))
-
   started-in : (r μ : ℕ) (ws : List ℕ) → r ≤ 64 → length ws ≤ 256 → Sized 17664 (started T m r μ ws)
   unfolding started
   started-in r μ ws l w =
@@ -200,64 +161,44 @@ module _ (T : Table) (m page : Memory) (x : Context) (hm : Sized 17664 m) (hp : 
       (record-sized _ (record-sized _ (store-sized 17664 m hm (location r 0) ws (omega arith)) r l 0 2 (omega arith)) r l 6 r (omega arith)) l
 
   start-in : (a c d : ℕ) → Inside (doStart T m page x a c d)
-  unfolding doStart onProcess onReference
+  unfolding doStart onProcess onReference goOn goTo
   start-in a c d =
       g-place Inside none (operand T m page x a) _ (λ f e. fails)
       (λ i τ e. g-module Inside none (typeAt T τ) _ (λ μ t.
       g-where Inside none _ 19 _ (λ z. fails) (λ z. g-test Inside none _ _ (λ r.
       g-where Inside none _ 20 _ (λ u. fails) (λ u. g-then Inside none (arguments T m page x μ c d) _ (λ f k. fails)
-      (λ ws k. g-test Inside none _ _ (λ w. goon-in _ (started-in (m i) μ ws (refers-in μ (m i) r) (leb-true _ _ w)))))))))
+      (λ ws k. g-test Inside none _ _ (λ w. inside (goes-in _ _ (started-in (m i) μ ws (refers-in μ (m i) r) (leb-true _ _ w))) hp)))))))
 
-  chosen-in : (k : Opener) (c : Choice) → Inside (chosen T m page x k c)
-  unfolding chosen
-  chosen-in k (enters i) =
-      cases (waits k) (λ e. rw e (goto-in _ _ (record-sized m hm (x .works) lw 6 _ (omega arith)))) (λ e. rw e (goto-in m _ hm))
-  chosen-in k (skips i) =
-      cases (waits k) (λ e. rw e (wait-in _ (record-sized m hm (x .works) lw 6 _ (omega arith)))) (λ e. rw e (goto-in m _ hm))
+  is-inside : (o u : Outcome Effect) → Inside o → o ≡ u → Inside u
+  is-inside o u h e = rw e at h
 
-  opener-in : (k : Opener) → Inside (doOpener T m page x k)
-  unfolding doOpener
-  opener-in k = g-arms Inside none (stmtAt T (x .statement + 1)) _ _ (λ g l e. g-then Inside none _ _ (λ f q. fails) (λ c q. chosen-in k c)) (λ l e. none)
-
-  end-in : Inside (doEnd T m page x)
-  unfolding doEnd
-  end-in =
-      g-end Inside none T (stmtCount T) (x .statement) _
-      (λ j l h. g-opener Inside none (stmtAt T l) _ (λ k u. cases (repeats k) (λ e. rw e (goto-in m _ hm)) (λ e. rw e (goto-in m _ hm))))
-
-  not-true : (b : Bool) → not b ≡ false → b ≡ true
-  not-true true e = refl
-  not-true false e = sym e
-
-  write-in : (a b : ℕ) → Inside (doWrite T m page x a b)
-  unfolding doWrite
-  write-in a b =
-      g-word Inside none (operand T m page x a) 0 _ (λ f e. fails)
-      (λ τ us e. g-word Inside none (operand T m page x b) 0 _ (λ f q. fails)
-      (λ σ vs q. g-where Inside none _ 21 _ (λ h. fails)
-      (λ h. inside (record-sized m hm (x .process) lp 2 _ (omega arith)) (update-sized 4096 page hp _ _ (device-word (wordOf us) (not-true _ h))))))
-
-  block-in : Inside (doBlockEnd T m page x)
-  unfolding doBlockEnd return
-  block-in =
-      cases (eqb (m (depthAt (x .process))) 0)
-      (λ e. rw e (inside (record-sized _ (record-sized m hm (x .process) lp 0 3 (omega arith)) (x .process) lp 6 0 (omega arith)) hp))
-      (λ e. rw e (moved-in _ (returns-in _ _)))
-
-  perform-in : (S : Statement) → Inside (perform T m page x S)
+  carries-in : (S : Statement) (s d : Memory) → perform T m page x S ≡ ok (effect 0 s d) → Carries T m page x S s d → Inside (ok (effect 0 s d))
   unfolding perform
-  perform-in skip = goon-in m hm
-  perform-in (assign a b) = assign-in a b
-  perform-in (localCall q c d) = local-in q c d
-  perform-in (processCall a q c d) = process-in a q c d
-  perform-in (create a) = create-in a
-  perform-in (start a c d) = start-in a c d
-  perform-in (opener k) = opener-in k
-  perform-in (arm g l) = end-in
-  perform-in (endArms l) = end-in
-  perform-in (write a b) = write-in a b
-  perform-in blockEnd = block-in
-  perform-in noStatement = none
+  carries-in _ _ _ e skips = inside (goes-in m _ hm) hp
+  carries-in _ _ _ e (assigns {a = a} {b = b} {i = i} {τ = τ} {σ = σ} {ws = ws} y w h) =
+      let r = room T i τ σ ws (place-fits T m page x a i τ y) (value-long T m page x b σ ws w) h in
+      inside (goes-in _ _ (store-sized 17664 m hm i ws (omega arith))) hp
+  carries-in _ _ _ e (callsLocal {q = q} {c = c} {d = d} p n) = is-inside _ _ (local-in q c d) e
+  carries-in _ _ _ e (callsProcess {a = a} {q = q} {c = c} {d = d} y t z u p n) = is-inside _ _ (process-in a q c d) e
+  carries-in _ _ _ e (creates {a = a} {i = i} {τ = τ} {μ = μ} y t n) =
+      inside (goes-in _ _ (update-sized 17664 _ (created-in (m createdAt + 1) μ (omega arith)) i _ (place-in a i τ y))) hp
+  carries-in _ _ _ e (starts {a = a} {c = c} {d = d} y t z u p) = is-inside _ _ (start-in a c d) e
+  carries-in _ _ _ e (enters {k = k} h) =
+      inside (goes-in (pick (waits k) (update m (holderAt (x .works)) (x .process)) m) _ (cases (waits k) (λ u. rw u (holder-in _)) (λ u. rw u hm))) hp
+  carries-in _ _ _ e (passes w h l) = inside (goes-in m _ hm) hp
+  carries-in _ _ _ e (leaves n l u r) = inside (goes-in m _ hm) hp
+  carries-in _ _ _ e (again n l u r) = inside (goes-in m _ hm) hp
+  carries-in _ _ _ e (writes {us = us} y w h) = inside (goes-in m _ hm) (update-sized 4096 page hp _ _ (device-word (wordOf us) h))
+  carries-in _ _ _ e (returnsLocal n u) = inside (popped-in m _ hm) hp
+  carries-in _ _ _ e (returnsProcess n u) = inside (popped-in _ _ (holder-in 0)) hp
+
+  perform-in : (S : Statement) (o : Outcome Effect) → perform T m page x S ≡ o → Reports T m page x S o → Inside o
+  perform-in S _ e (went h) = carries-in S _ _ e h
+  perform-in _ _ e (waited w (gives u h)) = inside (holder-in 0) hp
+  perform-in _ _ e (waited w keeps) = inside hm hp
+  perform-in S _ e (ended h) = inside (record-sized _ (record-sized m hm (x .process) lp 0 3 (omega arith)) (x .process) lp 6 0 (omega arith)) hp
+  perform-in S _ e (failed h) = fails
+  perform-in S _ e strays = none
 
 -- ---- steps
 
@@ -272,7 +213,7 @@ module _ (T : Table) (m page : Memory) (p : ℕ) (hm : Sized 17664 m) (hp : Size
 
   performs-in : p ≤ 64 → m (worksAt p) ≤ 64 → m createdAt ≤ 64 → Inside (performs T m page p)
   unfolding performs contextOf
-  performs-in l w c = g-need Inside none _ _ (perform-in T m page (contextOf m p) hm hp l w c _)
+  performs-in l w c = g-need Inside none _ _ (perform-in T m page (contextOf m p) hm hp l w c _ _ refl (reports T m page (contextOf m p) _))
 
   exists-in : p ≤ 64 → m createdAt ≤ 64 → Inside (exists T m page p)
   unfolding exists proceeds

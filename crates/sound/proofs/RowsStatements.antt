@@ -28,7 +28,7 @@ use Rattle.sound.proofs.RowsNodes.{node-fails, fails-near}
 -- ---- arms
 
 module _ {B : Type 0} (P : Outcome B → Type 0) (none-there : P stuck) where
-  pub g-arms : (S : Statement) (F : ℕ → ℕ → Outcome B) (G : ℕ → Outcome B) → ((g l : ℕ) → S ≡ arm g l → P (F g l)) → ((l : ℕ) → S ≡ endArms l → P (G l)) → P (onArms S F G)
+  g-arms : (S : Statement) (F : ℕ → ℕ → Outcome B) (G : ℕ → Outcome B) → ((g l : ℕ) → S ≡ arm g l → P (F g l)) → ((l : ℕ) → S ≡ endArms l → P (G l)) → P (onArms S F G)
   unfolding onArms
   g-arms skip F G f g = none-there
   g-arms (assign a b) F G f g = none-there
@@ -43,7 +43,7 @@ module _ {B : Type 0} (P : Outcome B → Type 0) (none-there : P stuck) where
   g-arms blockEnd F G f g = none-there
   g-arms noStatement F G f g = none-there
 
-  pub g-opener : (S : Statement) (F : Opener → Outcome B) → ((k : Opener) → S ≡ opener k → P (F k)) → P (onOpener S F)
+  g-opener : (S : Statement) (F : Opener → Outcome B) → ((k : Opener) → S ≡ opener k → P (F k)) → P (onOpener S F)
   unfolding onOpener
   g-opener skip F f = none-there
   g-opener (assign a b) F f = none-there
@@ -58,7 +58,7 @@ module _ {B : Type 0} (P : Outcome B → Type 0) (none-there : P stuck) where
   g-opener blockEnd F f = none-there
   g-opener noStatement F f = none-there
 
-  pub g-end : (T : Table) (n i : ℕ) (F : ℕ → ℕ → Outcome B) → ((j o : ℕ) → LeadsTo T i j o → P (F j o)) → P (endOf T n i F)
+  g-end : (T : Table) (n i : ℕ) (F : ℕ → ℕ → Outcome B) → ((j o : ℕ) → LeadsTo T i j o → P (F j o)) → P (endOf T n i F)
   unfolding endOf
   g-end T zero i F f = none-there
   g-end T (suc n) i F f = g-arms (stmtAt T i) _ _ (λ g l e. g-need P none-there _ _ (g-end T n l F (λ j o h. f j o (pastArm e h)))) (λ l e. f i l (theEnd e))
