@@ -256,6 +256,7 @@ module _ (T : Table) (m page : Memory) (p : ℕ) where
       rows-hold = record {
         given = λ n a. given-row n (a .state) (a .devices) (turn T m page p) (turn-view z) (a .is);
         exactly = exact-row;
+        only = carried-step;
         apart = λ n k a b. one-answer n k (exact-row n a) (exact-row k b);
         changes = λ n s d e. changed n s d (turn T m page p) (turn-view z) e;
       }

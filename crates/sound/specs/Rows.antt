@@ -88,6 +88,8 @@ module _ (T : Table) (m page : Memory) (p : ℕ) where
   pub record RowsHold : Type 0 where
     pub given : (n : ℕ) → Answers n → Row n
     pub exactly : (n : ℕ) → Row n → Answers n
+    -- a statement that is carried out leaves what its rule says and nothing else
+    pub only : (s d : Memory) → CarriedOut s d → step T m page p ≡ done 0 s d
     -- no two rows apply
     pub apart : (n k : ℕ) → Row n → Row k → n ≡ k
     pub changes : (n : ℕ) (s d : Memory) → step T m page p ≡ done n s d → Changes n s d
