@@ -21,6 +21,7 @@ pub mod HistoriesOperands
 pub mod HistoriesRecords
 pub mod HistoriesSized
 pub mod HistoriesValues
+pub mod OpenCallsEntered
 pub mod OpenCallsListed
 pub mod Rows
 pub mod RowsListed
