@@ -23,6 +23,7 @@ pub mod HistoriesSized
 pub mod HistoriesValues
 pub mod OpenCallsEntered
 pub mod OpenCallsListed
+pub mod OpenCallsRecords
 pub mod Rows
 pub mod RowsListed
 pub mod RowsNodes
