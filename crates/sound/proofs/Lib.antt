@@ -22,6 +22,7 @@ pub mod HistoriesRecords
 pub mod HistoriesSized
 pub mod HistoriesValues
 pub mod OpenCallsEntered
+pub mod OpenCallsKept
 pub mod OpenCallsListed
 pub mod OpenCallsRecords
 pub mod Rows

@@ -85,6 +85,10 @@ module _ (T : Table) (m page : Memory) (p n : ℕ) (s : Memory) where
 
 -- ---- the words of the new frame
 
+pub frame-long : (T : Table) (m page : Memory) (x : Context) (q : ℕ) (ws : List ℕ) → length ws ≤ frameWords T q → length (frame T m page x q ws) ≡ 4 + frameWords T q
+unfolding frame frameOf
+frame-long T m page x q ws l = let e = frame-length (x .frame) (x .statement) (x .works) q ws (frameWords T q - length ws) in omega (arith, e)
+
 module _ (T : Table) (m page : Memory) (p : ℕ) (some : 1 ≤ p) (most : p ≤ 64) (s : Memory) (q r : ℕ) (ws : List ℕ)
     (short : length ws ≤ frameWords T q) (room : m (topAt p) + 4 + frameWords T q ≤ 256) where
   abbrev entered : Memory
@@ -123,8 +127,7 @@ module _ (T : Table) (m page : Memory) (p : ℕ) (some : 1 ≤ p) (most : p ≤ 
 
 -- ---- the call
 
-module _ (T : Table) (acc : Accepted T) (m page : Memory) (p n : ℕ) (some : 1 ≤ p) (most : p ≤ 64) (s : Memory) (q r c d : ℕ) (ws : List ℕ)
-    (there : q < blockCount T) (h : Passed T m page (contextOf m p) q c d ws) (room : m (topAt p) + 4 + frameWords T q ≤ 256) where
+module _ (T : Table) (acc : Accepted T) (m page : Memory) (p q c d : ℕ) (ws : List ℕ) (there : q < blockCount T) (h : Passed T m page (contextOf m p) q c d ws) where
   passed-length : length ws ≡ firstWords T q (params T q)
   unfolding firstWords
   passed-length = rw (← h .each) (passes-length T m page (contextOf m p) d (firstVar T q) c ws (h .words))
@@ -133,38 +136,39 @@ module _ (T : Table) (acc : Accepted T) (m page : Memory) (p n : ℕ) (some : 1 
   unfolding frameWords
   passed-short = let e = passed-length in let u = first-up T q (params T q) (vars T q) (params-vars T (acc .numbers) q there) in omega arith
 
-  -- where variable v stands
-  variable-is : (v : ℕ) → variableAt T m page p n s (m (topAt p)) q v ≡ location p (m (topAt p) + 4) + offsetOf T q v
-  variable-is v = sym (location-add p (m (topAt p) + 4) (offsetOf T q v))
+  module _ (n : ℕ) (some : 1 ≤ p) (most : p ≤ 64) (s : Memory) (r : ℕ) (room : m (topAt p) + 4 + frameWords T q ≤ 256) where
+    -- where variable v stands
+    variable-is : (v : ℕ) → variableAt T m page p n s (m (topAt p)) q v ≡ location p (m (topAt p) + 4) + offsetOf T q v
+    variable-is v = sym (location-add p (m (topAt p) + 4) (offsetOf T q v))
 
-  abbrev state : Memory
-  state = pushed T m page (contextOf m p) s q r ws
+    abbrev state : Memory
+    state = pushed T m page (contextOf m p) s q r ws
 
-  local-zero : (i k : ℕ) → i < vars T q → varMode T (firstVar T q + i) ≡ 0 → k < wordsOf T (varType T (firstVar T q + i))
-      → state (location p (m (topAt p) + 4) + (offsetOf T q (firstVar T q + i) + k)) ≡ 0
-  local-zero i k l e g =
-      let u = variable-in T q i l in
-      let w = plain-words T (firstVar T q + i) (λ z. omega arith) in
-      let o = offset-is T q i in
-      let f = passed-length in
-      let over : params T q ≤ i = cases (ltb i (params T q)) (λ z. let y = mode-parameter T (acc .numbers) q there i (ltb-true i (params T q) z) .0 in absurd (omega arith)) (λ z. ltb-false i (params T q) z) in
-      let t = first-up T q (params T q) i over in
-      entered-zero T m page p some most s q r ws passed-short room (offsetOf T q (firstVar T q + i) + k) (omega arith) (omega arith)
+    local-zero : (i k : ℕ) → i < vars T q → varMode T (firstVar T q + i) ≡ 0 → k < wordsOf T (varType T (firstVar T q + i))
+        → state (location p (m (topAt p) + 4) + (offsetOf T q (firstVar T q + i) + k)) ≡ 0
+    local-zero i k l e g =
+        let u = variable-in T q i l in
+        let w = plain-words T (firstVar T q + i) (λ z. omega arith) in
+        let o = offset-is T q i in
+        let f = passed-length in
+        let over : params T q ≤ i = cases (ltb i (params T q)) (λ z. let y = mode-parameter T (acc .numbers) q there i (ltb-true i (params T q) z) .0 in absurd (omega arith)) (λ z. ltb-false i (params T q) z) in
+        let t = first-up T q (params T q) i over in
+        entered-zero T m page p some most s q r ws passed-short room (offsetOf T q (firstVar T q + i) + k) (omega arith) (omega arith)
 
-  local-at : (i v k : ℕ) → v ≡ firstVar T q + i → i < vars T q → varMode T v ≡ 0 → k < wordsOf T (varType T v)
-      → state (variableAt T m page p n state (m (topAt p)) q v + k) ≡ 0
-  local-at i v k z l e g =
-      let a : location p (m (topAt p) + 4) + offsetOf T q v + k ≡ location p (m (topAt p) + 4) + (offsetOf T q v + k) = omega arith in
-      rw (variable-is v, a, z) (local-zero i k l (rw z at e) (rw z at g))
+    local-at : (i v k : ℕ) → v ≡ firstVar T q + i → i < vars T q → varMode T v ≡ 0 → k < wordsOf T (varType T v)
+        → state (variableAt T m page p n state (m (topAt p)) q v + k) ≡ 0
+    local-at i v k z l e g =
+        let a : location p (m (topAt p) + 4) + offsetOf T q v + k ≡ location p (m (topAt p) + 4) + (offsetOf T q v + k) = omega arith in
+        rw (variable-is v, a, z) (local-zero i k l (rw z at e) (rw z at g))
 
-  -- THE CALL ENTERS ITS PROCEDURE
-  pub call-enters : Enters T m page p n state (m (topAt p)) q c
-  unfolding firstWords
-  call-enters =
-      record {
-        parameters = λ i l.
-            rw (variable-is (firstVar T q + i), offset-is T q i)
-            (passes-get T m page p n state d (firstVar T q) c (location p (m (topAt p) + 4)) i ws (h .words)
-            (record { at = entered-argument T m page p some most s q r ws passed-short room }) (let e = h .each in omega arith));
-        locals = λ v k o e l. let a = o .least in let b = o .most in local-at (v - firstVar T q) v k (omega arith) (omega arith) e l;
-      }
+    -- THE CALL ENTERS ITS PROCEDURE
+    pub call-enters : Enters T m page p n state (m (topAt p)) q c
+    unfolding firstWords
+    call-enters =
+        record {
+          parameters = λ i l.
+              rw (variable-is (firstVar T q + i), offset-is T q i)
+              (passes-get T m page p n state d (firstVar T q) c (location p (m (topAt p) + 4)) i ws (h .words)
+              (record { at = entered-argument T m page p some most s q r ws passed-short room }) (let e = h .each in omega arith));
+          locals = λ v k o e l. let a = o .least in let b = o .most in local-at (v - firstVar T q) v k (omega arith) (omega arith) e l;
+        }

@@ -32,6 +32,9 @@ module _ (m : Memory) (p : ℕ) where
   pub in-created : inRange 1 (m createdAt) p ≡ true → Created m p
   in-created e = record { least = range-low 1 (m createdAt) p e; most = range-high 1 (m createdAt) p e }
 
+  pub not-created : inRange 1 (m createdAt) p ≡ false → Created m p → ⊥
+  not-created e h = no-true (sym e ∙ created-in h)
+
   -- the calls of a started process; of another there are none
   pub open-started : Created m p → m (statusAt p) ≡ 2 → openCalls m p ≡ callsFrom m p (m (depthAt p)) (m (frameAt p))
   unfolding openCalls

@@ -8,7 +8,6 @@ use lib.Dec.{eqb}
 use lib.ListN.{length}
 use borrow.Author.Tests.{eqb-true, eqb-false}
 use Rattle.basics.specs.Choice.{both, cases}
-use Rattle.basics.proofs.Bools.{no-true}
 use Rattle.table.specs.Table.{Table}
 use Rattle.machine.specs.Memory.{Memory, update, store}
 use Rattle.machine.specs.Layout.{recordAt, linkAt, statusAt, frameAt, depthAt, createdAt, callerFrame, calledBlock}
@@ -19,7 +18,7 @@ use Rattle.sound.specs.Bindings.{link, BindingsKept}
 use Rattle.sound.specs.OpenCalls.{OpenCall, callsFrom, openCalls}
 use Rattle.sound.proofs.HistoriesRecords.{unlike-words}
 use Rattle.sound.proofs.StoresMemory.{update-other, store-after, record-high, records-apart}
-use Rattle.sound.proofs.OpenCallsListed.{created-in, in-created, open-started, open-none}
+use Rattle.sound.proofs.OpenCallsListed.{in-created, not-created, open-started, open-none}
 
 -- the record of process r says the same of its calls
 pub record Words (m s : Memory) (r : ℕ) : Type 0 where
@@ -122,8 +121,9 @@ module _ (T : Table) (m s : Memory) (k : BindingsKept T m s) where
       let a = c .least in
       let b = c .most in
       words-calls r c (record { least = a; most = omega arith }) (h .words r a (n a)))
-      (λ i. open-none s r (λ c y. let a = c .least in let b = c .most in out i (record { least = a; most = omega arith }))
-      ∙ sym (open-none m r (λ c y. out i c)))
-    where
-      out : inRange 1 (m createdAt) r ≡ false → Created m r → ⊥
-      out i c = no-true (sym i ∙ created-in m r c)
+      (λ i. open-none s r (λ c y. let a = c .least in let b = c .most in not-created m r i (record { least = a; most = omega arith }))
+      ∙ sym (open-none m r (λ c y. not-created m r i c)))
+
+  -- all calls stay
+  pub all-calls : Alike m s 0 → (r : ℕ) → openCalls s r ≡ openCalls m r
+  all-calls h r = alike-calls 0 h r (λ l z. omega arith)
