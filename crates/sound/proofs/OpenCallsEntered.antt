@@ -2,7 +2,7 @@
 use Prim.Native.Nat.{ℕ, zero, suc, _+_, _-_, _≤_, _<_}
 use mathlib.Core.Path.{_≡_, refl, sym, _∙_}
 use mathlib.Core.Bool.{true}
-use mathlib.Core.List.{List, [], _∷_, _++_}
+use mathlib.Core.List.{List, [], _∷_}
 use native.Mathlib.Omega.{arith}
 use native.Mathlib.Nat.{not-suc-le-zero, add-zero}
 use lib.Dec.{ltb}
@@ -14,13 +14,12 @@ use Rattle.table.specs.Entries.{blockCount, varMode, varType, firstVar, params,
 use Rattle.types.specs.Match.{matches}
 use Rattle.sizes.specs.Sizes.{sumBelow, wordsOf}
 use Rattle.numbers.proofs.BlockPromise.{params-vars, mode-parameter}
-use Rattle.machine.specs.Memory.{Memory, wordsAt, store}
+use Rattle.machine.specs.Memory.{Memory, store}
 use Rattle.machine.specs.Layout.{location, linkAt, topAt, callerFrame, calledBlock}
 use Rattle.machine.specs.Variables.{firstWords, frameWords, offsetOf}
 use Rattle.machine.specs.Context.{Context, contextOf}
-use Rattle.machine.specs.Calls.{frame, topAfter, pushed}
+use Rattle.machine.specs.Calls.{frame, pushed}
 use Rattle.verdict.specs.Accepted.{Accepted}
-use Rattle.sound.specs.InUse.{Of}
 use Rattle.sound.specs.Conditions.{Yields}
 use Rattle.sound.specs.Carried.{Passes, noMore, byValue, byVariable, Passed}
 use Rattle.sound.specs.OpenCalls.{variableAt, Gets, stores, binds, Enters}

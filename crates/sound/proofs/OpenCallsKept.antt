@@ -18,11 +18,11 @@ use Rattle.machine.specs.Memory.{Memory, update, store}
 use Rattle.machine.specs.Layout.{location, recordAt, statusAt, moduleAt, statementAt, frameAt, topAt, worksAt, holderAt, depthAt, createdAt, failureAt, callerFrame, calledBlock}
 use Rattle.machine.specs.Outcomes.{Outcome, stuck, andThen, need, failWhere, placed, onPlace}
 use Rattle.machine.specs.Entries.{processType, typeAt, waits, Statement, skip, assign, localCall, processCall, create, start, opener, arm, endArms, write, blockEnd, noStatement}
-use Rattle.machine.specs.Variables.{frameWords, isProcedure, fits}
+use Rattle.machine.specs.Variables.{frameWords, fits}
 use Rattle.machine.specs.Context.{Context, contextOf}
 use Rattle.machine.specs.Calls.{standing, frame, pushed, popped}
 use Rattle.machine.specs.Processes.{onModule, onProcess, refers, onReference, created, started}
-use Rattle.machine.specs.Statements.{Effect, doLocalCall, doProcessCall, doStart, perform}
+use Rattle.machine.specs.Statements.{doLocalCall, doProcessCall, doStart, perform}
 use Rattle.machine.specs.Step.{Step, done, settled, inRange, performs, proceeds, exists, turn, step}
 use Rattle.verdict.specs.Accepted.{Accepted}
 use Rattle.sound.specs.Ruled.{Ruled}
@@ -43,7 +43,7 @@ use Rattle.sound.proofs.StoresMemory.{update-other}
 use Rattle.sound.proofs.StoresStanding.{stand-word, stand-depth, stand-frame}
 use Rattle.sound.proofs.OpenCallsListed.{created-in, in-created, not-created, open-started, open-none}
 use Rattle.sound.proofs.OpenCallsEntered.{frame-long, entered-caller, entered-block, passed-short, call-enters}
-use Rattle.sound.proofs.OpenCallsRecords.{Words, Alike, Unnoted, alike, alike-record, alike-own, alike-store, alike-standing, from-kept, words-calls, alike-calls, all-calls}
+use Rattle.sound.proofs.OpenCallsRecords.{Alike, alike, alike-record, alike-own, alike-store, alike-standing, from-kept, words-calls, alike-calls, all-calls}
 
 -- ---- what a statement that is not stuck has tested
 

@@ -1,13 +1,12 @@
 -- Calls that have not ended stay where the records of their processes and their links stay. Assumes nothing.
 use Prim.Native.Nat.{ℕ, zero, suc, _+_, _≤_, _<_}
-use mathlib.Core.Path.{_≡_, refl, sym, ap, _∙_}
-use mathlib.Core.Bool.{true, false}
-use mathlib.Core.List.{List, [], _∷_}
+use mathlib.Core.Path.{_≡_, refl, sym, _∙_}
+use mathlib.Core.List.{List}
 use native.Mathlib.Omega.{arith}
 use lib.Dec.{eqb}
 use lib.ListN.{length}
 use borrow.Author.Tests.{eqb-true, eqb-false}
-use Rattle.basics.specs.Choice.{both, cases}
+use Rattle.basics.specs.Choice.{cases}
 use Rattle.table.specs.Table.{Table}
 use Rattle.machine.specs.Memory.{Memory, update, store}
 use Rattle.machine.specs.Layout.{recordAt, linkAt, statusAt, frameAt, depthAt, createdAt, callerFrame, calledBlock}
@@ -15,7 +14,7 @@ use Rattle.machine.specs.Calls.{standing}
 use Rattle.machine.specs.Step.{inRange}
 use Rattle.sound.specs.InUse.{Created, Call, innermost, caller}
 use Rattle.sound.specs.Bindings.{link, BindingsKept}
-use Rattle.sound.specs.OpenCalls.{OpenCall, callsFrom, openCalls}
+use Rattle.sound.specs.OpenCalls.{callsFrom, openCalls}
 use Rattle.sound.proofs.HistoriesRecords.{unlike-words}
 use Rattle.sound.proofs.StoresMemory.{update-other, store-after, record-high, records-apart}
 use Rattle.sound.proofs.OpenCallsListed.{in-created, not-created, open-started, open-none}

@@ -2,7 +2,7 @@
 -- demand 3). Assumes nothing.
 use Prim.Native.Nat.{ℕ, zero, suc, _+_, _<_}
 use mathlib.Core.Path.{_≡_}
-use mathlib.Core.Bool.{Bool, true}
+use mathlib.Core.Bool.{true}
 use mathlib.Core.List.{List, [], _∷_}
 use lib.ListN.{length}
 use lib.Dec.{eqb}
@@ -15,7 +15,7 @@ use Rattle.machine.specs.Memory.{Memory, memoryOf, wordsAt}
 use Rattle.machine.specs.Layout.{location, statusAt, frameAt, topAt, depthAt, createdAt, callerFrame, calledBlock}
 use Rattle.machine.specs.Entries.{Statement, skip, assign, localCall, processCall, create, start, opener, arm, endArms, write, blockEnd, noStatement, stmtAt}
 use Rattle.machine.specs.Variables.{offsetOf}
-use Rattle.machine.specs.Context.{Context, contextOf}
+use Rattle.machine.specs.Context.{contextOf}
 use Rattle.machine.specs.Step.{inRange}
 use Rattle.sound.specs.InUse.{Of, Call}
 use Rattle.sound.specs.Conditions.{Selects, Yields}
