@@ -6,7 +6,7 @@ use mathlib.Core.List.{List, [], _∷_, _++_}
 use native.Mathlib.Omega.{arith}
 use lib.Dec.{eqb}
 use lib.ListN.{length, replicate, length-append, length-replicate}
-use borrow.Author.Tests.{eqb-true, eqb-false, ne-eqb, leb-true, ltb-true, ltb-false}
+use borrow.Author.Tests.{eqb-true, eqb-false, ne-eqb, leb-true, ltb-false}
 use Rattle.basics.specs.Choice.{pick, cases, either}
 use Rattle.basics.proofs.Bools.{both-l, both-r, both-i, both-false-l, both-false-r}
 use Rattle.table.specs.Table.{Table}
@@ -17,7 +17,7 @@ use Rattle.machine.specs.Layout.{location, statusAt, topAt, worksAt, holderAt, 
 use Rattle.machine.specs.Outcomes.{Outcome, ok, fail, stuck, andThen, place}
 use Rattle.machine.specs.Entries.{processType, typeAt, Opener, waits, repeats, Statement, skip, assign, localCall, processCall, create, start, opener, arm, endArms, write, blockEnd, noStatement, stmtAt}
 use Rattle.machine.specs.Context.{Context, contextOf}
-use Rattle.machine.specs.Variables.{frameWords, fits}
+use Rattle.machine.specs.Variables.{frameWords}
 use Rattle.machine.specs.Operands.{operand}
 use Rattle.machine.specs.Calls.{arguments, frame, topAfter, pushed, call, popped, returns, return}
 use Rattle.machine.specs.Processes.{onProcess, onReference, refers, started}
@@ -29,7 +29,7 @@ use Rattle.sound.specs.Created.{isCreate, createsOne, creations, NewProc
 use Rattle.sound.proofs.RowsOutcomes.{g-then, g-need, g-where, g-pick, g-place, g-value, g-word, g-module}
 use Rattle.sound.proofs.RowsListed.{statement-listed}
 use Rattle.sound.proofs.RowsStatements.{g-arms, g-opener, g-end, Reports, went, waited, ended, failed, strays, reports}
-use Rattle.sound.proofs.HistoriesOperands.{g-test, place-fits, value-long}
+use Rattle.sound.proofs.HistoriesOperands.{g-test, place-fits, place-area, value-long}
 use Rattle.sound.proofs.HistoriesSized.{room}
 use Rattle.sound.proofs.HistoriesRecords.{location-end, Still, still, still-record, still-status, still-store, still-standing, new-process, others-kept, mark-kept, fail-count, fail-kept}
 
@@ -188,10 +188,6 @@ module _ (T : Table) (m page : Memory) (x : Context) where
         (λ e. rw e (keeps (still-record m _ (still-status m m (still m) (x .process) 3 (omega arith)) (x .process) 6 0 (omega arith))))
         (λ e. rw e (moved-keeps _ (returns-within _ _)))
 
-    place-area : (a i τ : ℕ) → operand T m page x a ≡ ok (place i τ) → i < 16384
-    unfolding fits
-    place-area a i τ e = ltb-true _ _ (both-l _ _ (place-fits T m page x a i τ e))
-
     create-comes : (a : ℕ) → Comes (create a) (doCreate T m page x a)
     unfolding doCreate onProcess goOn goTo
     create-comes a =
@@ -200,7 +196,7 @@ module _ (T : Table) (m page : Memory) (x : Context) where
         g-where (Comes (create a)) none _ 24 _ (λ z. fails)
         (λ z.
         let n : m createdAt ≡ 64 → ⊥ = eqb-false _ 64 z in
-        let u = place-area a i τ e in
+        let u = place-area T m page x a i τ e in
         makes a i τ μ refl e t
         (new-process m (m createdAt + 1) μ i (x .statement + 1) (x .process) (omega arith) (omega arith) u)
         (others-kept m (m createdAt + 1) μ i (x .statement + 1) (x .process) (omega arith) (omega arith) u)

@@ -28,7 +28,7 @@ use Rattle.machine.specs.Run.{begin}
 use Rattle.sound.specs.Reached.{Sized, Kept}
 use Rattle.sound.proofs.RowsOutcomes.{g-then, g-need, g-where, g-pick, g-place, g-value, g-word, g-module}
 use Rattle.sound.proofs.RowsStatements.{g-arms, g-opener, g-end}
-use Rattle.sound.proofs.HistoriesOperands.{g-test, matching-words, device-word, place-fits, value-long}
+use Rattle.sound.proofs.HistoriesOperands.{g-test, matching-words, device-word, place-fits, place-area, value-long}
 
 -- ---- writes
 
@@ -180,8 +180,7 @@ module _ (T : Table) (m page : Memory) (x : Context) (hm : Sized 17664 m) (hp : 
       record-sized _ (record-sized _ (record-sized _ (clear-sized 17664 _ (clear-sized 17664 m hm _ _) _ _) n l 0 1 (omega arith)) n l 1 μ (omega arith)) 1 (omega arith) 8 n (omega arith)
 
   place-in : (a i τ : ℕ) → operand T m page x a ≡ ok (place i τ) → i < 17664
-  unfolding fits
-  place-in a i τ e = let h : i < 16384 = ltb-true _ _ (both-l _ _ (place-fits T m page x a i τ e)) in omega arith
+  place-in a i τ e = let h = place-area T m page x a i τ e in omega arith
 
   create-in : (a : ℕ) → Inside (doCreate T m page x a)
   unfolding doCreate onProcess

@@ -18,7 +18,7 @@ use Rattle.machine.specs.Memory.{Memory, update, store}
 use Rattle.machine.specs.Layout.{location, recordAt, statusAt, moduleAt, statementAt, frameAt, topAt, worksAt, holderAt, depthAt, createdAt, failureAt, callerFrame, calledBlock}
 use Rattle.machine.specs.Outcomes.{Outcome, stuck, andThen, need, failWhere, placed, onPlace}
 use Rattle.machine.specs.Entries.{processType, typeAt, waits, Statement, skip, assign, localCall, processCall, create, start, opener, arm, endArms, write, blockEnd, noStatement}
-use Rattle.machine.specs.Variables.{frameWords, fits}
+use Rattle.machine.specs.Variables.{frameWords}
 use Rattle.machine.specs.Context.{Context, contextOf}
 use Rattle.machine.specs.Calls.{standing, frame, pushed, popped}
 use Rattle.machine.specs.Processes.{onModule, onProcess, refers, onReference, created, started}
@@ -35,7 +35,7 @@ use Rattle.sound.specs.Created.{NewProcess}
 use Rattle.sound.specs.OpenCalls.{OpenCall, callsFrom, openCalls, outer, callsBy, callsAfter, Enters, CallsKept}
 use Rattle.sound.proofs.Ruled.{either-l, either-r, procedure-there, block-there, block-kind}
 use Rattle.sound.proofs.RowsListed.{statement-listed}
-use Rattle.sound.proofs.HistoriesOperands.{place-fits, value-long}
+use Rattle.sound.proofs.HistoriesOperands.{place-fits, place-area, value-long}
 use Rattle.sound.proofs.HistoriesRecords.{location-end, unlike-words, new-process, record-after, old-record}
 use Rattle.sound.proofs.HistoriesSized.{room}
 use Rattle.sound.proofs.StoresBlocks.{module-fits}
@@ -328,10 +328,6 @@ module _ (T : Table) (acc : Accepted T) (m page : Memory) (R : Ruled T m) (p : �
 
   -- ---- STATEMENT BY STATEMENT
 
-  place-area : (a i τ : ℕ) → Selects T m page (contextOf m p) a i τ → i < 16384
-  unfolding fits
-  place-area a i τ e = ltb-true _ _ (both-l _ _ (place-fits T m page (contextOf m p) a i τ e))
-
   fits-area : (q : ℕ) → (AreaFull T m page (contextOf m p) q → ⊥) → m (topAt p) + 4 + frameWords T q ≤ 256
   unfolding contextOf
   fits-area q h = cases (ltb 256 (m (topAt p) + 4 + frameWords T q)) (λ e. absurd (h (ltb-true 256 _ e))) (λ e. ltb-false 256 _ e)
@@ -359,7 +355,7 @@ module _ (T : Table) (acc : Accepted T) (m page : Memory) (R : Ruled T m) (p : �
       (processCall a q i d) (λ cs. refl) refl k
   by-carries _ _ _ (Carries.creates {a = a} {i = i} {τ = τ} {μ = μ} e t z) n k =
       let u = R .most in
-      plain (create a) _ (record { same = λ t cs. refl; none = refl }) (create-kept μ i _ (omega arith) (place-area a i τ e) k)
+      plain (create a) _ (record { same = λ t cs. refl; none = refl }) (create-kept μ i _ (omega arith) (place-area T m page (contextOf m p) a i τ e) k)
   by-carries _ _ _ (Carries.starts {a = a} {c = i} {d = d} {i = j} {τ = τ} {μ = μ} {ws = ws} e t z v P) n k =
       let h = start-refers T m page (contextOf m p) a i d j τ μ e t z n in
       let x = started-some μ (m j) h .0 in
@@ -422,16 +418,13 @@ module _ (T : Table) (acc : Accepted T) (m page : Memory) (R : Ruled T m) (p : �
   changes-calls _ s d z free (carried h) k = carried-step s d z free h k
 
   -- THE STEP: of a run that has not failed as its row says, of one that has failed nothing
-  pub step-calls : (n : ℕ) (s d : Memory) → step T m page p ≡ done n s d → (m failureAt ≡ 0 → Changes T m page p n s d) → ((m failureAt ≡ 0 → ⊥) → SameFailure T m page p)
+  pub step-calls : (n : ℕ) (s d : Memory) → step T m page p ≡ done n s d → (step T m page p ≡ Step.stuck → ⊥) → (m failureAt ≡ 0 → Changes T m page p n s d) → ((m failureAt ≡ 0 → ⊥) → SameFailure T m page p)
       → BindingsKept T m s → CallsKept T m page p n s
-  step-calls n s d e row failed k =
+  step-calls n s d e free row failed k =
       cases (eqb (m failureAt) 0)
-      (λ z. let y = eqb-true _ 0 z in changes-calls n s d y (λ q. going n s d (sym e ∙ q)) (row y) k)
+      (λ z. let y = eqb-true _ 0 z in changes-calls n s d y free (row y) k)
       (λ z. let y = eqb-false _ 0 z in same-calls (sym e ∙ failed y) y)
     where
-      going : (n : ℕ) (s d : Memory) → done n s d ≡ Step.stuck → ⊥
-      going n s d q = let y : _≡_ {A = ℕ} 0 1 = cc in absurd (omega arith)
-
       same-calls : done n s d ≡ done (m failureAt) m page → (m failureAt ≡ 0 → ⊥) → CallsKept T m page p n s
       same-calls q y =
           let a : n ≡ m failureAt = cc in
