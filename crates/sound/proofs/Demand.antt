@@ -21,12 +21,16 @@ use Rattle.sound.specs.Reached.{Reached, WordTable, StepLaws, BeginLaw}
 use Rattle.sound.specs.Histories.{Seen, asked, told, finally, Threaded, Every, Lasting, Calls, begunResult, History, first, steps}
 use Rattle.sound.specs.InUse.{ValuesHold}
 use Rattle.sound.specs.Created.{creations, ProcessesKept}
+use Rattle.sound.specs.OpenCalls.{openCalls, callsMade}
 use Rattle.sound.specs.Rows.{Changes, failureMark, nothing, givesUp, endedBefore, endsNow, absent, carried}
 use Rattle.sound.specs.Demand.{StepHolds, Demand3}
 use Rattle.sound.proofs.HistoriesBegin.{word-table, begin-reached, begin-block, begin-created, begin-mark}
 use Rattle.sound.proofs.Histories.{StepOf, state-memory, At, at-memory, follows, served, handed, same-told, begun-at, at-begin}
 use Rattle.sound.proofs.HistoriesCreated.{CreatedIn, step-created, created-count, created-kept, mark-zero}
 use Rattle.sound.proofs.HistoriesValues.{rule-values}
+use Rattle.sound.proofs.OpenCallsKept.{step-calls}
+use Rattle.sound.proofs.OpenCallsListed.{calls-listed, calls-made, begin-none}
+use Rattle.sound.proofs.Ruled.{ruled}
 use Rattle.sound.proofs.Rows.{rows-hold, same-failure}
 
 every-map : (P Q : Seen → Type 0) → ((e : Seen) → P e → Q e) → (es : List Seen) → Every P es → Every Q es
@@ -40,14 +44,18 @@ reached-values T m h = rule-values T m (h .words) (h .ruled)
 not-stuck : (a : ℕ) (s d : Memory) → done a s d ≡ Step.stuck → ⊥
 not-stuck a s d e = let z : _≡_ {A = ℕ} 0 1 = cc in absurd (omega arith)
 
-step-holds : (T : Table) → StepLaws T → (e : Seen) → StepOf T e → StepHolds T e
-step-holds T laws e h =
+step-holds : (T : Table) → Accepted T → StepLaws T → (e : Seen) → StepOf T e → StepHolds T e
+step-holds T acc laws e h =
     let free : step T (memoryOf (e .before)) (memoryOf (e .given)) (e .process) ≡ Step.stuck → ⊥ = λ q. not-stuck _ _ _ (sym (h .is) ∙ q) in
+    let bound = laws .bindings _ _ _ (h .start .ruled) (h .start .words) (h .devices .words) _ _ _ (h .is) in
     record {
       is = h .is;
       values = reached-values T _ (h .reached);
-      bindings = laws .bindings _ _ _ (h .start .ruled) (h .start .words) (h .devices .words) _ _ _ (h .is);
+      bindings = bound;
       created = step-created T _ _ _ _ _ _ (h .is);
+      calls =
+          step-calls T acc _ _ (ruled T _ (h .start .ruled)) _ _ _ _ (h .is) free
+          (λ z. rows-hold T _ _ _ z free .changes _ _ _ (h .is)) (λ n. same-failure T _ _ _ n free) bound;
       row = λ z. rows-hold T _ _ _ z free .given (e .answer) (record { state = memoryOf (e .after); devices = memoryOf (e .left); is = h .is });
       rows = λ z. rows-hold T _ _ _ z free;
       failed = λ n. same-failure T _ _ _ n free;
@@ -168,11 +176,16 @@ module _ (verdict : List ℕ → ℕ)
       stay : (es fs gs : List Seen) → es ++ (fs ++ gs) ≡ steps verdict h → ProcessesKept (memoryOf (finally (first verdict h) es)) (memoryOf (finally (first verdict h) (es ++ fs)))
       stay es fs gs e = created-kept (tableOf 1 (h .table)) (first verdict h) es fs gs (rw e t) (rw e each-creates)
 
+      unended-calls : (es fs : List Seen) → es ++ fs ≡ steps verdict h → (p : ℕ) → openCalls (memoryOf (finally (first verdict h) es)) p ≡ callsMade (tableOf 1 (h .table)) p [] es
+      unended-calls es fs e p =
+          calls-made (tableOf 1 (h .table)) p (first verdict h) es fs (rw e t) (rw e (every-map _ _ (λ e k. k .calls) _ every))
+          ∙ ap (λ cs. callsMade (tableOf 1 (h .table)) p cs es) (ap (λ (m : Memory). openCalls m p) first-memory ∙ begin-none (tableOf 1 (h .table)) p)
+
     -- THE THEOREM
     pub demand3 : Demand3 verdict h
     demand3 =
         let f = follows verdict (h .table) laws (first verdict h) (h .calls) at-first (h .fits) in
-        let every = every-map _ _ (step-holds (tableOf 1 (h .table)) laws) _ (f .course .every) in
+        let every = every-map _ _ (step-holds (tableOf 1 (h .table)) good laws) _ (f .course .every) in
         record {
           begins = reached-values _ _ (at-memory _ _ at-first);
           served = served verdict (h .table) laws (first verdict h) (h .calls) (begun-verdict (h .table) (h .slice) (h .begins)) at-first (h .fits);
@@ -187,5 +200,7 @@ module _ (verdict : List ℕ → ℕ)
           program = ap (λ (m : Memory). m (moduleAt 1)) first-memory ∙ begin-block (tableOf 1 (h .table));
           created = count-is (f .course .threaded) every;
           kept = stay (f .course .threaded) every;
+          unended = unended-calls (f .course .threaded) every;
+          listed = λ es fs e. calls-listed _ _;
           agrees = agree;
         }

@@ -49,7 +49,7 @@ unfolding sumBelow
 sum-first f g zero h = omega arith
 sum-first f g (suc k) h = let a = sum-first f g k h in let b = h k in omega arith
 
-words-first : (T : Table) (v k : ℕ) → wordsFrom T v (suc k) ≡ varWords T v + wordsFrom T (v + 1) k
+pub words-first : (T : Table) (v k : ℕ) → wordsFrom T v (suc k) ≡ varWords T v + wordsFrom T (v + 1) k
 words-first T v k =
     let e = sum-first (λ i. varWords T (v + i)) (λ i. varWords T (v + 1 + i)) k (λ i. ap (varWords T) (omega arith)) in
     rw add-zero at e
@@ -75,7 +75,7 @@ module _ (T : Table) (m : Memory) (p : ℕ) where
 pub record Stands (n : Memory) (a : ℕ) (ws : List ℕ) : Type 0 where
   pub at : (j : ℕ) → j < length ws → n (a + j) ≡ getD ws j 0
 
-stands-words : (us : List ℕ) (n : Memory) (a : ℕ) → Stands n a us → wordsAt n a (length us) ≡ us
+pub stands-words : (us : List ℕ) (n : Memory) (a : ℕ) → Stands n a us → wordsAt n a (length us) ≡ us
 unfolding wordsAt
 stands-words [] n a h = refl
 stands-words (u ∷ us) n a h =
@@ -84,10 +84,10 @@ stands-words (u ∷ us) n a h =
     rw (x, y)
 
 module _ (n : Memory) (a : ℕ) (us ws : List ℕ) (h : Stands n a (us ++ ws)) where
-  stands-front : Stands n a us
+  pub stands-front : Stands n a us
   stands-front = record { at = λ j l. let z = length-append us ws in h .at j (omega arith) ∙ List·getD-append us ws 0 j l }
 
-  stands-back : Stands n (a + length us) ws
+  pub stands-back : Stands n (a + length us) ws
   stands-back =
       record {
         at = λ j l.

@@ -40,7 +40,7 @@ use Rattle.sound.proofs.StoresProcesses.{chain-fits}
 use Rattle.sound.proofs.StoresValues.{part-end, part-most, owns-in}
 
 -- the call with its frame at f' and d' calls below it is one of the d calls from the frame at f on
-data Under (m : Memory) (p : ℕ) : ℕ → ℕ → ℕ → ℕ → Type 0 where
+pub data Under (m : Memory) (p : ℕ) : ℕ → ℕ → ℕ → ℕ → Type 0 where
   this : {d f : ℕ} → Under m p (suc d) f d f
   next : {d f d' f' : ℕ} → Under m p d (callerFrame m p f) d' f' → Under m p (suc d) f d' f'
 
@@ -48,15 +48,15 @@ under-caller : (m : Memory) (p d f d' f' : ℕ) → Under m p d f (suc d') f' �
 under-caller m p _ f d' _ this = next this
 under-caller m p _ f d' f' (next {d = d} u) = next (under-caller m p d (callerFrame m p f) d' f' u)
 
-call-under : (T : Table) (m : Memory) (p d f : ℕ) → Call T m p d f → Under m p (m (depthAt p)) (m (frameAt p)) d f
+pub call-under : (T : Table) (m : Memory) (p d f : ℕ) → Call T m p d f → Under m p (m (depthAt p)) (m (frameAt p)) d f
 call-under T m p d f (innermost c s e z) = rw (e, z) this
 call-under T m p d f (caller g c z) = rw z (under-caller m p _ _ d g (call-under T m p (suc d) g c))
 
-call-created : (T : Table) (m : Memory) (p d f : ℕ) → Call T m p d f → Created m p
+pub call-created : (T : Table) (m : Memory) (p d f : ℕ) → Call T m p d f → Created m p
 call-created T m p d f (innermost c s e z) = c
 call-created T m p d f (caller g c z) = call-created T m p (suc d) g c
 
-call-started : (T : Table) (m : Memory) (p d f : ℕ) → Call T m p d f → m (statusAt p) ≡ 2
+pub call-started : (T : Table) (m : Memory) (p d f : ℕ) → Call T m p d f → m (statusAt p) ≡ 2
 call-started T m p d f (innermost c s e z) = s
 call-started T m p d f (caller g c z) = call-started T m p (suc d) g c
 

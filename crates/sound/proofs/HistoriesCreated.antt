@@ -6,7 +6,7 @@ use mathlib.Core.List.{List, [], _∷_, _++_}
 use native.Mathlib.Omega.{arith}
 use lib.Dec.{eqb}
 use lib.ListN.{length, replicate, length-append, length-replicate}
-use borrow.Author.Tests.{eqb-true, ne-eqb, leb-true, ltb-true, ltb-false, not-false}
+use borrow.Author.Tests.{eqb-true, ne-eqb, leb-true, ltb-false, not-false}
 use Rattle.basics.specs.Choice.{pick, cases, either}
 use Rattle.basics.proofs.Bools.{both-l, both-r, both-i, both-false-l, both-false-r}
 use Rattle.table.specs.Table.{Table}
@@ -15,7 +15,7 @@ use Rattle.machine.specs.Layout.{location, statusAt, statementAt, topAt, worksA
 use Rattle.machine.specs.Outcomes.{Outcome, ok, fail, stuck, andThen, place}
 use Rattle.machine.specs.Entries.{processType, typeAt, waits, Statement, create}
 use Rattle.machine.specs.Context.{Context, contextOf}
-use Rattle.machine.specs.Variables.{frameWords, fits}
+use Rattle.machine.specs.Variables.{frameWords}
 use Rattle.machine.specs.Operands.{operand}
 use Rattle.machine.specs.Calls.{arguments, frame, topAfter, pushed, call, popped}
 use Rattle.machine.specs.Processes.{onProcess, onReference, refers, started}
@@ -29,7 +29,7 @@ use Rattle.sound.specs.Created.{isCreate, createsOne, creations, NewProc
 use Rattle.sound.proofs.RowsOutcomes.{g-test, g-then, g-need, g-where, g-pick, g-place, g-module}
 use Rattle.sound.proofs.RowsListed.{statement-listed}
 use Rattle.sound.proofs.RowsStatements.{Leaves, gives, Reports, went, waited, ended, failed, strays, reports}
-use Rattle.sound.proofs.HistoriesOperands.{place-fits, value-long}
+use Rattle.sound.proofs.HistoriesOperands.{place-fits, place-area, value-long}
 use Rattle.sound.proofs.HistoriesSized.{room}
 use Rattle.sound.proofs.HistoriesRecords.{location-end, Still, still, still-record, still-status, still-store, still-standing, new-process, others-kept, mark-kept, fail-count, fail-kept}
 
@@ -127,10 +127,6 @@ module _ (T : Table) (m page : Memory) (x : Context) where
         (λ ws k. g-test Keeping none _ _ (λ w.
         keeps (goes-still _ _ (started-still (m i) μ ws (refers-most μ (m i) r) (eqb-true _ 1 (not-false _ u)) (leb-true _ _ w))))))))))
 
-    place-area : (a i τ : ℕ) → operand T m page x a ≡ ok (place i τ) → i < 16384
-    unfolding fits
-    place-area a i τ e = ltb-true _ _ (both-l _ _ (place-fits T m page x a i τ e))
-
     inside-keeps : (S : Statement) → Inside S → isCreate S ≡ false
     unfolding isCreate
     inside-keeps _ nextArm = refl
@@ -144,7 +140,7 @@ module _ (T : Table) (m page : Memory) (x : Context) where
     carries-comes _ _ _ e (callsLocal {q = q} {c = c} {d = d} p n) = keeps refl (keeping-still _ (local-keeps q c d) _ _ e)
     carries-comes _ _ _ e (callsProcess {a = a} {q = q} {c = c} {d = d} y t z u p n) = keeps refl (keeping-still _ (process-keeps a q c d) _ _ e)
     carries-comes _ _ _ e (Carries.creates {a = a} {i = i} {τ = τ} {μ = μ} y t n) =
-        let u = place-area a i τ y in
+        let u = place-area T m page x a i τ y in
         makes a i τ μ refl y t
         (new-process m (m createdAt + 1) μ i (x .statement + 1) (x .process) (omega arith) (omega arith) u)
         (others-kept m (m createdAt + 1) μ i (x .statement + 1) (x .process) (omega arith) (omega arith) u)

@@ -162,6 +162,10 @@ module _ (T : Table) (m page : Memory) (x : Context) where
       go _ fails q = let y : _≡_ {A = ℕ} 0 1 = cc in absurd (omega arith)
       go _ none q = let y : _≡_ {A = ℕ} 0 1 = cc in absurd (omega arith)
 
+  pub place-area : (n a τ : ℕ) → operand T m page x n ≡ ok (place a τ) → a < 16384
+  unfolding fits
+  place-area n a τ e = ltb-true _ _ (both-l _ _ (place-fits n a τ e))
+
   pub value-long : (n τ : ℕ) (ws : List ℕ) → operand T m page x n ≡ ok (value τ ws) → length ws ≡ wordsOf T τ
   value-long n τ ws e = go _ (fine-operand n) e
     where

@@ -20,12 +20,12 @@ unfolding location
 location-end p k n l h = omega arith
 
 -- words i and k of records differ
-record Unlike (i k : ℕ) : Type 0 where
-  left : i < 20
-  right : k < 20
-  apart : i ≡ k → ⊥
+pub record Unlike (i k : ℕ) : Type 0 where
+  pub left : i < 20
+  pub right : k < 20
+  pub apart : i ≡ k → ⊥
 
-unlike-words : (p q i k : ℕ) → Unlike i k → recordAt p i ≡ recordAt q k → ⊥
+pub unlike-words : (p q i k : ℕ) → Unlike i k → recordAt p i ≡ recordAt q k → ⊥
 unfolding recordAt
 unlike-words p q i k u e = let a = u .left in let b = u .right in let n = u .apart in omega arith
 
@@ -96,7 +96,7 @@ module _ (m : Memory) (n μ i c p : ℕ) (over : m createdAt < n) (most : n ≤ 
   after = update (update (created m n μ) i n) (statementAt p) c
 
   -- the record words that the variable and the next statement leave
-  record-after : (r k : ℕ) → Unlike k 2 → after (recordAt r k) ≡ created m n μ (recordAt r k)
+  pub record-after : (r k : ℕ) → Unlike k 2 → after (recordAt r k) ≡ created m n μ (recordAt r k)
   record-after r k u =
       update-other _ _ c _ (unlike-words r p k 2 u)
       ∙ update-other _ i n _ (λ z. let a = record-high r k in omega arith)
@@ -129,7 +129,7 @@ module _ (m : Memory) (n μ i c p : ℕ) (over : m createdAt < n) (most : n ≤ 
   other-record r k a b l = (λ e. omega arith, λ e. omega arith, omega arith)
 
   -- the records of the others
-  old-record : (r k : ℕ) → Created m r → k < 20 → (k ≡ 8 → ⊥) → created m n μ (recordAt r k) ≡ m (recordAt r k)
+  pub old-record : (r k : ℕ) → Created m r → k < 20 → (k ≡ 8 → ⊥) → created m n μ (recordAt r k) ≡ m (recordAt r k)
   unfolding created
   old-record r k h l n8 =
       let a = h .most in
@@ -154,7 +154,7 @@ module _ (m : Memory) (n μ i c p : ℕ) (over : m createdAt < n) (most : n ≤ 
 
 -- a failing step
 module _ (m : Memory) (n : ℕ) where
-  fail-word : (r k : ℕ) → Unlike k 9 → update m failureAt n (recordAt r k) ≡ m (recordAt r k)
+  pub fail-word : (r k : ℕ) → Unlike k 9 → update m failureAt n (recordAt r k) ≡ m (recordAt r k)
   fail-word r k u = update-other m failureAt n (recordAt r k) (unlike-words r 1 k 9 u)
 
   pub fail-count : update m failureAt n createdAt ≡ m createdAt

@@ -21,6 +21,10 @@ pub mod HistoriesOperands
 pub mod HistoriesRecords
 pub mod HistoriesSized
 pub mod HistoriesValues
+pub mod OpenCallsEntered
+pub mod OpenCallsKept
+pub mod OpenCallsListed
+pub mod OpenCallsRecords
 pub mod Rows
 pub mod RowsListed
 pub mod RowsNodes

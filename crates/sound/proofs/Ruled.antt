@@ -67,7 +67,7 @@ module _ (T : Table) where
   unfolding liesIn
   lies-i b c x y = both-i _ _ (le-leb (firstStmt T b) c x) (lt-ltb c (nextFirst T b) y)
 
-  procedure-there : (q : ℕ) → isProcedure T q ≡ true → q < blockCount T
+  pub procedure-there : (q : ℕ) → isProcedure T q ≡ true → q < blockCount T
   unfolding isProcedure
   procedure-there q e = ltb-true q (blockCount T) (both-l _ _ e)
 

@@ -46,7 +46,7 @@ module _ (g c w q : ℕ) (ws : List ℕ) (z : ℕ) where
   unfoldable pub frameOf : List ℕ
   frameOf = g ∷ c ∷ w ∷ q ∷ ws ++ replicate z 0
 
-  frame-length : length frameOf ≡ 4 + (length ws + z)
+  pub frame-length : length frameOf ≡ 4 + (length ws + z)
   unfolding frameOf
   frame-length = simp (length-append, length-replicate) (omega arith)
 
@@ -54,10 +54,10 @@ module _ (g c w q : ℕ) (ws : List ℕ) (z : ℕ) where
   unfolding frameOf
   frame-rest j = let e : 4 + j ≡ suc (suc (suc (suc j))) = omega arith in rw e
 
-  frame-argument : (j : ℕ) → j < length ws → getD frameOf (4 + j) 0 ≡ getD ws j 0
+  pub frame-argument : (j : ℕ) → j < length ws → getD frameOf (4 + j) 0 ≡ getD ws j 0
   frame-argument j l = frame-rest j ∙ List·getD-append ws (replicate z 0) 0 j l
 
-  frame-zero : (j : ℕ) → length ws ≤ j → j < length ws + z → getD frameOf (4 + j) 0 ≡ 0
+  pub frame-zero : (j : ℕ) → length ws ≤ j → j < length ws + z → getD frameOf (4 + j) 0 ≡ 0
   frame-zero j l h =
       let e : length ws + (j - length ws) ≡ j = omega arith in
       frame-rest j ∙ rw (← e) (getD-append-add ws (replicate z 0) (j - length ws) 0 ∙ getD-replicate z (j - length ws) 0 0 (omega arith))

@@ -1,7 +1,7 @@
 -- Demand 3, one statement about a begin and a list of run calls (01, A run, for demand 3; Agreement). Assumes nothing.
 use Prim.Native.Nat.{ℕ, _+_, _<_}
 use mathlib.Core.Path.{_≡_}
-use mathlib.Core.List.{List, _++_}
+use mathlib.Core.List.{List, [], _++_}
 use Rattle.table.specs.Table.{Table, tableOf}
 use Rattle.machine.specs.Memory.{memoryOf}
 use Rattle.machine.specs.Layout.{moduleAt, createdAt, failureAt}
@@ -10,6 +10,7 @@ use Rattle.sound.specs.Histories.{Seen, asked, told, processes, answers,
 use Rattle.sound.specs.InUse.{ValuesHold}
 use Rattle.sound.specs.Bindings.{BindingsKept}
 use Rattle.sound.specs.Created.{creations, ProcessesKept, CreatedKept}
+use Rattle.sound.specs.OpenCalls.{openCalls, CallsListed, callsMade, CallsKept}
 use Rattle.sound.specs.Rows.{Row, RowsHold, SameFailure}
 
 -- OF A STEP
@@ -23,6 +24,9 @@ pub record StepHolds (T : Table) (e : Seen) : Type 0 where
   -- it creates a process, of the module that the variable's type names, exactly if it carries out a create; those created before stay,
   -- each of its module
   pub created : CreatedKept T (memoryOf (e .before)) (memoryOf (e .given)) (e .process) (e .answer) (memoryOf (e .after))
+  -- it makes a call exactly if it carries out one, each parameter of which gets its argument or is bound to what its argument selects; it
+  -- ends the innermost of its process exactly if it carries out a block's end; all others stay
+  pub calls : CallsKept T (memoryOf (e .before)) (memoryOf (e .given)) (e .process) (e .answer) (memoryOf (e .after))
   -- while the run has not failed, it advances, waits, ends, finds no such process or fails by a listed number exactly if its row's condition
   -- holds, and changes what the row says; afterwards it gives the same number and changes nothing
   pub row : memoryOf (e .before) failureAt ≡ 0 → Row T (memoryOf (e .before)) (memoryOf (e .given)) (e .process) (e .answer)
@@ -56,6 +60,12 @@ module _ (verdict : List ℕ → ℕ) where
     -- each that is created after the steps es stays so over the next ones, fs, of the same module, and its status does not fall
     pub kept : (es fs gs : List Seen) → es ++ (fs ++ gs) ≡ steps verdict h
         → ProcessesKept (memoryOf (finally (first verdict h) es)) (memoryOf (finally (first verdict h) (es ++ fs)))
+    -- after the steps es the calls of each process that have not ended are those that these made and no later one of them ended; at the
+    -- start there are none
+    pub unended : (es fs : List Seen) → es ++ fs ≡ steps verdict h
+        → (p : ℕ) → openCalls (memoryOf (finally (first verdict h) es)) p ≡ callsMade (tableOf 1 (h .table)) p [] es
+    -- the variables of calls in use are those of these calls
+    pub listed : (es fs : List Seen) → es ++ fs ≡ steps verdict h → CallsListed (tableOf 1 (h .table)) (memoryOf (finally (first verdict h) es))
     -- a run begun alike that names the same order and sees the same device words gives the same answers, states and device words,
     -- wherever the calls of the two begin and end
     pub agrees : (k : History verdict) → k .table ≡ h .table → asked (steps verdict k) ≡ asked (steps verdict h) → told (steps verdict k) ≡ told (steps verdict h)

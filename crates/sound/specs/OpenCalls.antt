@@ -2,7 +2,7 @@
 -- demand 3). Assumes nothing.
 use Prim.Native.Nat.{ℕ, zero, suc, _+_, _<_}
 use mathlib.Core.Path.{_≡_}
-use mathlib.Core.Bool.{Bool, true}
+use mathlib.Core.Bool.{true}
 use mathlib.Core.List.{List, [], _∷_}
 use lib.ListN.{length}
 use lib.Dec.{eqb}
@@ -15,7 +15,7 @@ use Rattle.machine.specs.Memory.{Memory, memoryOf, wordsAt}
 use Rattle.machine.specs.Layout.{location, statusAt, frameAt, topAt, depthAt, createdAt, callerFrame, calledBlock}
 use Rattle.machine.specs.Entries.{Statement, skip, assign, localCall, processCall, create, start, opener, arm, endArms, write, blockEnd, noStatement, stmtAt}
 use Rattle.machine.specs.Variables.{offsetOf}
-use Rattle.machine.specs.Context.{Context, contextOf}
+use Rattle.machine.specs.Context.{contextOf}
 use Rattle.machine.specs.Step.{inRange}
 use Rattle.sound.specs.InUse.{Of, Call}
 use Rattle.sound.specs.Conditions.{Selects, Yields}
@@ -88,15 +88,16 @@ module _ (T : Table) (m page : Memory) (p n : ℕ) (s : Memory) where
   abbrev pub variableAt : ℕ → ℕ → ℕ → ℕ
   variableAt f q v = location p (f + 4 + offsetOf T q v)
 
-  -- parameter v gets what argument i yields, or is bound to the location that it selects, at the call (11.3, 12.1)
-  pub data Gets (f q v i : ℕ) : Type 0 where
+  -- parameter v, whose words begin at location a, gets what argument i yields, or is bound to the location that it selects, at the call
+  -- (11.3, 12.1)
+  pub data Gets (a v i : ℕ) : Type 0 where
     stores : {σ : ℕ} {ws : List ℕ} → varMode T v ≡ 1 → Yields T m page (contextOf m p) (argNode T i) σ ws → matches T (varType T v) σ ≡ true
-        → wordsAt s (variableAt f q v) (wordsOf T (varType T v)) ≡ ws → Gets f q v i
-    binds : varMode T v ≡ 2 → Selects T m page (contextOf m p) (argNode T i) (s (variableAt f q v)) (varType T v) → Gets f q v i
+        → wordsAt s a (wordsOf T (varType T v)) ≡ ws → Gets a v i
+    binds : varMode T v ≡ 2 → Selects T m page (contextOf m p) (argNode T i) (s a) (varType T v) → Gets a v i
 
   -- the call of procedure q with its frame at f: each parameter gets its argument, from c on; each local is 0
   pub record Enters (f q c : ℕ) : Type 0 where
-    pub parameters : (i : ℕ) → i < params T q → Gets f q (firstVar T q + i) (c + i)
+    pub parameters : (i : ℕ) → i < params T q → Gets (variableAt f q (firstVar T q + i)) (firstVar T q + i) (c + i)
     pub locals : (v k : ℕ) → Of T q v → varMode T v ≡ 0 → k < wordsOf T (varType T v) → s (variableAt f q v + k) ≡ 0
 
   pub record CallsKept : Type 0 where
