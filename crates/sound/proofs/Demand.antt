@@ -46,6 +46,8 @@ step-holds T laws e h =
     let free : step T (memoryOf (e .before)) (memoryOf (e .given)) (e .process) ≡ Step.stuck → ⊥ = λ q. not-stuck _ _ _ (sym (h .is) ∙ q) in
     record {
       is = h .is;
+      listed = h .listed;
+      ruled = h .reached .ruled;
       values = reached-values T _ (h .reached);
       bindings = laws .bindings _ _ _ (h .start .ruled) (h .start .words) (h .devices .words) _ _ _ (h .is);
       created = step-created T _ _ _ _ _ _ (h .is);

@@ -16,6 +16,7 @@ use Rattle.machine.specs.Step.{done, step}
 use Rattle.machine.specs.Run.{Run, ran, onDone, before, run, begin}
 use Rattle.machine.specs.Rule.{rule}
 use Rattle.machine.specs.Public.{Called, called, refusal, finished, runLengths, beginRefusal, beginCall, runRefusal, runCall}
+use Rattle.sound.specs.Claims.{Listed}
 use Rattle.sound.specs.Reached.{Reached, Page, StepLaws, BeginLaw}
 use Rattle.sound.specs.Histories.{Seen, stateBytes, pageBytes, seen, trace, asked, told, processes, answers, finally, Threaded, Seeing, devicesAfter, Every, begunResult, begunState, result, stateLeft, pageLeft, answersLeft, Ask, callOf, refused, stepsOf, orderOf, writtenOf, history, order, written, Served, Devices, Handed, stateAfter, Fits, Calls, begunWith, steps}
 use Rattle.sound.proofs.HistoriesSized.{step-sized}
@@ -88,7 +89,7 @@ pub record StepOf (T : Table) (e : Seen) : Type 0 where
   pub devices : Page (memoryOf (e .given))
   pub is : step T (memoryOf (e .before)) (memoryOf (e .given)) (e .process) ≡ done (e .answer) (memoryOf (e .after)) (memoryOf (e .left))
   pub reached : Reached T (memoryOf (e .after))
-  pub byte : e .answer < 256
+  pub listed : Listed (e .answer)
 
 module _ (T : Table) (m page : Memory) (p : ℕ) (a : ℕ) (s d : Memory) (e : step T m page p ≡ done a s d) where
   trace-done : (q : List ℕ) → trace T (p ∷ q) m page ≡ seen p m page a s d ∷ trace T q s d
@@ -104,17 +105,17 @@ module _ (T : Table) (m page : Memory) (p : ℕ) (a : ℕ) (s d : Memory) (e : s
     unfolding told asked feed onDone seen
     feed-done r k = rw (state-memory T m h, page-memory page g, e, k)
 
-    step-of : a < 256 → StepOf T (seen p m page a s d)
+    step-of : Listed a → StepOf T (seen p m page a s d)
     unfolding seen
     step-of b = record {
       start = rw (state-memory T m h) h;
       devices = rw (page-memory page g) g;
       is = rw (state-memory T m h, page-memory page g, state-memory T s h', page-memory d g') e;
       reached = rw (state-memory T s h') h';
-      byte = b;
+      listed = b;
     }
 
-    one-step : a < 256 → Course T (StepOf T) (stateBytes m) (stateBytes s) (seen p m page a s d ∷ [])
+    one-step : Listed a → Course T (StepOf T) (stateBytes m) (stateBytes s) (seen p m page a s d ∷ [])
     unfolding Threaded Every finally seen
     one-step b = record {
       threaded = (refl, tt);
@@ -157,7 +158,7 @@ module _ (T : Table) (laws : StepLaws T) where
   }
 
   traced-more : (p : ℕ) (q : List ℕ) (m page : Memory) → Reached T m → Page page → (a : ℕ) (s d : Memory) → step T m page p ≡ done a s d
-      → a < 256 → Reached T s → Page d → Traced T q s d → Traced T (p ∷ q) m page
+      → Listed a → Reached T s → Page d → Traced T q s d → Traced T (p ∷ q) m page
   unfolding before processes answers seen Seeing devicesAfter
   traced-more p q m page h g a s d e b h' g' t = record {
     given = a ∷ t .given;
@@ -182,7 +183,7 @@ module _ (T : Table) (laws : StepLaws T) where
       let z = step-sized T m page p (h .sized) (g .sized) (u .answer) (u .state) (u .page) (u .is) in
       let h' : Reached T (u .state) = record { ruled = u .ruled; words = u .words; sized = z .state } in
       let g' : Page (u .page) = record { words = u .devices; sized = z .page } in
-      traced-more p q m page h g (u .answer) (u .state) (u .page) (u .is) (u .byte) h' g' (traced q (u .state) (u .page) h' g')
+      traced-more p q m page h g (u .answer) (u .state) (u .page) (u .is) (u .listed) h' g' (traced q (u .state) (u .page) h' g')
 
 -- ---- calls
 

@@ -1,12 +1,15 @@
 -- Demand 3, one statement about a begin and a list of run calls (01, A run, for demand 3; Agreement). Assumes nothing.
 use Prim.Native.Nat.{ℕ, _+_, _<_}
 use mathlib.Core.Path.{_≡_}
+use mathlib.Core.Bool.{true}
 use mathlib.Core.List.{List, _++_}
 use Rattle.table.specs.Table.{Table, tableOf}
 use Rattle.machine.specs.Memory.{memoryOf}
 use Rattle.machine.specs.Layout.{moduleAt, createdAt, failureAt}
 use Rattle.machine.specs.Step.{done, step}
+use Rattle.machine.specs.Rule.{rule}
 use Rattle.sound.specs.Histories.{Seen, asked, told, processes, answers, finally, Threaded, Every, Lasting, order, written, Served, Handed, stateAfter, History, first, steps}
+use Rattle.sound.specs.Claims.{Listed}
 use Rattle.sound.specs.InUse.{ValuesHold}
 use Rattle.sound.specs.Bindings.{BindingsKept}
 use Rattle.sound.specs.Created.{creations, ProcessesKept, CreatedKept}
@@ -16,6 +19,9 @@ use Rattle.sound.specs.Rows.{Row, RowsHold, SameFailure}
 pub record StepHolds (T : Table) (e : Seen) : Type 0 where
   -- it is not stuck: the written step gives this answer, state and device words
   pub is : step T (memoryOf (e .before)) (memoryOf (e .given)) (e .process) ≡ done (e .answer) (memoryOf (e .after)) (memoryOf (e .left))
+  -- its answer is a listed number, and the state after it meets the state rule
+  pub listed : Listed (e .answer)
+  pub ruled : rule T (memoryOf (e .after)) ≡ true
   -- after it every variable in use holds a value of its type, and every var parameter is bound to one that does
   pub values : ValuesHold T (memoryOf (e .after))
   -- it leaves every var parameter of a call that has not ended bound to what its argument selected
