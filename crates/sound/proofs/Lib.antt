@@ -27,6 +27,7 @@ pub mod RowsNodes
 pub mod RowsOutcomes
 pub mod RowsStatements
 pub mod Ruled
+pub mod StateRuleHolds
 pub mod Steps
 pub mod StepsBegin
 pub mod StepsDemand

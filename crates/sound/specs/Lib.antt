@@ -8,3 +8,4 @@ pub mod Bindings
 pub mod Rows
 pub mod Created
 pub mod Demand
+pub mod StateRule
