@@ -1,5 +1,5 @@
 -- Lists of run calls: the steps of a run are threaded, none is stuck, and what is told depends on what is asked alone. Assumes nothing.
-use Prim.Native.Nat.{ℕ, suc, _≤_, _<_}
+use Prim.Native.Nat.{ℕ, zero, suc, _≤_}
 use mathlib.Core.Path.{_≡_, refl, sym, ap, _∙_}
 use mathlib.Core.Bool.{Bool, true, false}
 use mathlib.Core.List.{List, [], _∷_, _++_}
@@ -12,7 +12,7 @@ use Rattle.basics.proofs.Bools.{both-l, both-r, no-true}
 use Rattle.words.specs.Memory.{Bytes}
 use Rattle.table.specs.Table.{Table, tableOf}
 use Rattle.machine.specs.Memory.{Memory, memoryOf, bytesOf}
-use Rattle.machine.specs.Step.{done, step}
+use Rattle.machine.specs.Step.{Step, done, step}
 use Rattle.machine.specs.Run.{Run, ran, onDone, before, run, begin}
 use Rattle.machine.specs.Rule.{rule}
 use Rattle.machine.specs.Public.{Called, called, refusal, finished, runLengths, beginRefusal, beginCall, runRefusal, runCall}
@@ -26,6 +26,21 @@ use Rattle.sound.proofs.HistoriesBytes.{bytes-memory, memory-bytes, len
 unfoldable pub feed : Table → List ℕ → List (ℕ × List ℕ) → List (ℕ × List ℕ × List ℕ)
 feed T s [] = []
 feed T s (x ∷ xs) = onDone (step T (memoryOf s) (memoryOf (x .1)) (x .0)) [] λ a m d. (a, stateBytes m, pageBytes d) ∷ feed T (stateBytes m) xs
+
+-- the first n told come from the first n asked
+feed-onward : (n : ℕ) (r : Step) (f g : List ℕ → List (ℕ × List ℕ × List ℕ)) → ((s : List ℕ) → take n (f s) ≡ g s)
+    → take (suc n) (onDone r [] λ a m d. (a, stateBytes m, pageBytes d) ∷ f (stateBytes m))
+    ≡ onDone r [] λ a m d. (a, stateBytes m, pageBytes d) ∷ g (stateBytes m)
+unfolding onDone
+feed-onward n (done a m d) f g h = ap (λ (l : List (ℕ × List ℕ × List ℕ)). (a, stateBytes m, pageBytes d) ∷ l) (h (stateBytes m))
+feed-onward n Step.stuck f g h = refl
+
+feed-take : (T : Table) (s : List ℕ) (n : ℕ) (xs : List (ℕ × List ℕ)) → take n (feed T s xs) ≡ feed T s (take n xs)
+unfolding feed
+feed-take T s zero xs = refl
+feed-take T s (suc n) [] = refl
+feed-take T s (suc n) (x ∷ xs) =
+    feed-onward n (step T (memoryOf s) (memoryOf (x .1)) (x .0)) (λ u. feed T u xs) (λ u. feed T u (take n xs)) (λ u. feed-take T u n xs)
 
 -- the bytes of a state that steps reach, and of a page
 pub state-memory : (T : Table) (m : Memory) → Reached T m → memoryOf (stateBytes m) ≡ m
@@ -388,13 +403,16 @@ module _ (verdict : List ℕ → ℕ) where
     served s (x ∷ xs) v h c =
         (λ e p l. call-served s x h v (c .0 .bytes) e p l, served (stateLeft (callOf verdict s x)) xs v (call-follows s x h (c .0) .next) (c .1))
 
-    -- AGREEMENT: two lists of calls from one state of which the same is asked tell the same, wherever the calls begin and end
-    pub same-told : (s : List ℕ) (xs ys : List Ask) → At (tableOf 1 t) s → Calls verdict t s xs → Calls verdict t s ys
-        → asked (history verdict s xs) ≡ asked (history verdict s ys) → told (history verdict s xs) ≡ told (history verdict s ys)
-    same-told s xs ys h c k e =
-        told-feed (tableOf 1 t) (StepOf (tableOf 1 t)) _ _ _ (follows s xs h c .course)
-        ∙ ap (feed (tableOf 1 t) s) e
-        ∙ sym (told-feed (tableOf 1 t) (StepOf (tableOf 1 t)) _ _ _ (follows s ys h k .course))
+    -- AGREEMENT: two lists of calls from one state of which the same is asked up to a step tell the same up to it, wherever the calls
+    -- begin and end
+    pub same-told : (s : List ℕ) (xs ys : List Ask) → At (tableOf 1 t) s → Calls verdict t s xs → Calls verdict t s ys → (n : ℕ)
+        → take n (asked (history verdict s xs)) ≡ take n (asked (history verdict s ys)) → take n (told (history verdict s xs)) ≡ take n (told (history verdict s ys))
+    same-told s xs ys h c k n e = up-to xs c ∙ ap (feed (tableOf 1 t) s) e ∙ sym (up-to ys k)
+      where
+        up-to : (zs : List Ask) → Calls verdict t s zs → take n (told (history verdict s zs)) ≡ feed (tableOf 1 t) s (take n (asked (history verdict s zs)))
+        up-to zs u =
+            ap (take n) (told-feed (tableOf 1 t) (StepOf (tableOf 1 t)) _ _ _ (follows s zs h u .course))
+            ∙ feed-take (tableOf 1 t) s n (asked (history verdict s zs))
 
     -- begin
     pub begun-at : (slice : List ℕ) → BeginLaw (tableOf 1 t) → begunResult (beginCall verdict t slice) ≡ 0 → begunWith verdict t slice ≡ stateBytes (begin (tableOf 1 t))

@@ -3,6 +3,7 @@ use Prim.Native.Nat.{ℕ, _+_, _<_}
 use mathlib.Core.Path.{_≡_}
 use mathlib.Core.Bool.{true}
 use mathlib.Core.List.{List, _++_}
+use lib.ListN.{take}
 use Rattle.table.specs.Table.{Table, tableOf}
 use Rattle.machine.specs.Memory.{memoryOf}
 use Rattle.machine.specs.Layout.{moduleAt, createdAt, failureAt}
@@ -62,6 +63,8 @@ module _ (verdict : List ℕ → ℕ) where
     -- each that is created after the steps es stays so over the next ones, fs, of the same module, and its status does not fall
     pub kept : (es fs gs : List Seen) → es ++ (fs ++ gs) ≡ steps verdict h
         → ProcessesKept (memoryOf (finally (first verdict h) es)) (memoryOf (finally (first verdict h) (es ++ fs)))
-    -- a run begun alike that names the same order and sees the same device words gives the same answers, states and device words,
-    -- wherever the calls of the two begin and end
-    pub agrees : (k : History verdict) → k .table ≡ h .table → asked (steps verdict k) ≡ asked (steps verdict h) → told (steps verdict k) ≡ told (steps verdict h)
+    -- a run begun alike begins with the same state; as far as it names the same order and sees the same device words, it gives the same
+    -- answers, states and device words, wherever the calls of the two begin and end
+    pub alike : (k : History verdict) → k .table ≡ h .table → first verdict k ≡ first verdict h
+    pub agrees : (k : History verdict) → k .table ≡ h .table → (n : ℕ) → take n (asked (steps verdict k)) ≡ take n (asked (steps verdict h))
+        → take n (told (steps verdict k)) ≡ take n (told (steps verdict h))
