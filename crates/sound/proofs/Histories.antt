@@ -207,17 +207,12 @@ module _ (s d out : List ℕ) where
   shape : Bool → ℕ → Run → Called
   shape b n r = pick b (finished r (called 10 s d out) out) (called n s d out)
 
-  shape-refused : (b : Bool) (n : ℕ) (r : Run) → pick (eqb (result (shape b n r)) 0) false true ≡ true → stateLeft (shape b n r) ≡ s
-  unfolding shape finished result stateLeft
+  shape-refused : (b : Bool) (n : ℕ) (r : Run) → pick (eqb (result (shape b n r)) 0) false true ≡ true
+      → shape b n r ≡ called (result (shape b n r)) s d out
+  unfolding shape finished result
   shape-refused true n (ran l m page) e = no-true e
   shape-refused true n Run.stuck e = refl
   shape-refused false n r e = refl
-
-  shape-page : (b : Bool) (n : ℕ) (r : Run) → pick (eqb (result (shape b n r)) 0) false true ≡ true → pageLeft (shape b n r) ≡ d
-  unfolding shape finished result pageLeft
-  shape-page true n (ran l m page) e = no-true e
-  shape-page true n Run.stuck e = refl
-  shape-page false n r e = refl
 
   shape-open : (b : Bool) (n : ℕ) (r : Run) → eqb n 0 ≡ b → pick (eqb (result (shape b n r)) 0) false true ≡ false → b ≡ true
   unfolding shape finished result
@@ -251,15 +246,20 @@ pub at-memory : (T : Table) (s : List ℕ) → At T s → Reached T (memoryOf s)
 at-memory T s h = rw (h .is, state-memory T (h .memory) (h .reached)) (h .reached)
 
 module _ (verdict : List ℕ → ℕ) where
-  refused-same : (s : List ℕ) (x : Ask) → refused verdict s x ≡ true → stateLeft (callOf verdict s x) ≡ s
+  -- a refused call leaves what it was lent
+  pub refused-call : (s : List ℕ) (x : Ask) → refused verdict s x ≡ true → callOf verdict s x ≡ called (result (callOf verdict s x)) s (x .page) (x .answers)
   unfolding refused callOf runCall shape
-  refused-same s x e = shape-refused s (x .page) (x .answers) (eqb (runRefusal verdict (x .table) s (x .page) (x .schedule) (x .answers)) 0) (runRefusal verdict (x .table) s (x .page) (x .schedule) (x .answers)) (run (tableOf 1 (x .table)) (x .schedule) (memoryOf s) (memoryOf (x .page))) e
+  refused-call s x e = shape-refused s (x .page) (x .answers) (eqb (runRefusal verdict (x .table) s (x .page) (x .schedule) (x .answers)) 0) (runRefusal verdict (x .table) s (x .page) (x .schedule) (x .answers)) (run (tableOf 1 (x .table)) (x .schedule) (memoryOf s) (memoryOf (x .page))) e
 
-  refused-page : (s : List ℕ) (x : Ask) → refused verdict s x ≡ true → pageLeft (callOf verdict s x) ≡ x .page
-  unfolding refused callOf runCall shape
-  refused-page s x e = shape-page s (x .page) (x .answers) (eqb (runRefusal verdict (x .table) s (x .page) (x .schedule) (x .answers)) 0) (runRefusal verdict (x .table) s (x .page) (x .schedule) (x .answers)) (run (tableOf 1 (x .table)) (x .schedule) (memoryOf s) (memoryOf (x .page))) e
+  pub refused-same : (s : List ℕ) (x : Ask) → refused verdict s x ≡ true → stateLeft (callOf verdict s x) ≡ s
+  unfolding stateLeft
+  refused-same s x e = ap stateLeft (refused-call s x e)
 
-  open-zero : (s : List ℕ) (x : Ask) → refused verdict s x ≡ false → eqb (runRefusal verdict (x .table) s (x .page) (x .schedule) (x .answers)) 0 ≡ true
+  pub refused-page : (s : List ℕ) (x : Ask) → refused verdict s x ≡ true → pageLeft (callOf verdict s x) ≡ x .page
+  unfolding pageLeft
+  refused-page s x e = ap pageLeft (refused-call s x e)
+
+  pub open-zero : (s : List ℕ) (x : Ask) → refused verdict s x ≡ false → eqb (runRefusal verdict (x .table) s (x .page) (x .schedule) (x .answers)) 0 ≡ true
   unfolding refused callOf runCall shape
   open-zero s x e = shape-open s (x .page) (x .answers) (eqb (runRefusal verdict (x .table) s (x .page) (x .schedule) (x .answers)) 0) (runRefusal verdict (x .table) s (x .page) (x .schedule) (x .answers)) (run (tableOf 1 (x .table)) (x .schedule) (memoryOf s) (memoryOf (x .page))) refl e
 
@@ -271,7 +271,7 @@ module _ (verdict : List ℕ → ℕ) where
       record { pages = eqb-true _ _ (both-l _ _ r); room = leb-true _ _ (both-r _ _ r) }
 
   -- a call that is not refused comes to its run
-  open-call : (s : List ℕ) (x : Ask) (l : List ℕ) (m d : Memory) → refused verdict s x ≡ false → run (tableOf 1 (x .table)) (x .schedule) (memoryOf s) (memoryOf (x .page)) ≡ ran l m d
+  pub open-call : (s : List ℕ) (x : Ask) (l : List ℕ) (m d : Memory) → refused verdict s x ≡ false → run (tableOf 1 (x .table)) (x .schedule) (memoryOf s) (memoryOf (x .page)) ≡ ran l m d
       → callOf verdict s x ≡ called 0 (stateBytes m) (pageBytes d) (l ++ drop (length l) (x .answers))
   unfolding callOf runCall finished stateBytes pageBytes
   open-call s x l m d e k = rw (open-zero s x e, k)

@@ -21,6 +21,7 @@ pub mod HistoriesOperands
 pub mod HistoriesRecords
 pub mod HistoriesSized
 pub mod HistoriesValues
+pub mod RefusalsHold
 pub mod Rows
 pub mod RowsListed
 pub mod RowsNodes

@@ -7,5 +7,7 @@ pub mod InUse
 pub mod Bindings
 pub mod Rows
 pub mod Created
+pub mod Cuts
 pub mod Demand
+pub mod Refusals
 pub mod StateRule
