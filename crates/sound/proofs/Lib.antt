@@ -1,3 +1,4 @@
+pub mod CutsAgree
 pub mod Demand
 pub mod Evaluation
 pub mod EvaluationArguments
