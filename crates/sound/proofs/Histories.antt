@@ -355,13 +355,14 @@ module _ (verdict : List ℕ → ℕ) where
         record {
           seeing = rw (e, k, back) (rw same at (r .seeing));
           left = rw (c, e, k, back) (sym (rw same at (r .leaving)));
+          state = sym (call-run s x m i h e k g .course .last);
         }
 
     call-devices : (s : List ℕ) (x : Ask) → At (tableOf 1 t) s → Fits verdict t s x → Devices verdict s x
     unfolding stepsOf Seeing devicesAfter
     call-devices s x h f =
         cases (refused verdict s x)
-        (λ e. record { seeing = rw e tt; left = rw (e, refused-page s x e) })
+        (λ e. record { seeing = rw e tt; left = rw (e, refused-page s x e); state = sym (call-refused s x h e .course .last) })
         (λ e.
         let l = open-lengths s x e .pages in
         run-devices s x (h .memory) (h .is) (h .reached) e (f .same e)
