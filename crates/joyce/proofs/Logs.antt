@@ -173,9 +173,9 @@ module _ (g : Log) where
       (subst (λ z. Served judge (g .table) z (asks (g .calls))) first-is (demand3 historyOf .served))
 
 -- THE THEOREM, of the calls that C makes: whoever keeps a log of them can rely on it
-pub log-holds : (g : Log) → LogHolds g
+pub calls-demand3 : (g : Log) → LogHolds g
 unfolding historyOf
-log-holds g = record {
+calls-demand3 g = record {
   run = historyOf g;
   table = refl;
   lent = refl;
