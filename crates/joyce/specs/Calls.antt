@@ -33,19 +33,27 @@ pub record Call : Type 0 where
   pub pageAfter : List ℕ
   pub answersAfter : List ℕ
 
--- it keeps the contract, is lent state s, and takes table t unless it is refused; a page is bytes
-pub record Follows (t s : List ℕ) (c : Call) : Type 0 where
+-- it is lent state s, and keeps the contract
+pub record Kept (s : List ℕ) (c : Call) : Type 0 where
   pub state : c .state ≡ s
-  pub kept : RunLeaves (c .ask .table) (c .state) (c .ask .page) (c .ask .schedule) (c .ask .answers) (c .result) (c .stateAfter) (c .pageAfter) (c .answersAfter)
+  pub contract : RunLeaves (c .ask .table) (c .state) (c .ask .page) (c .ask .schedule) (c .ask .answers) (c .result) (c .stateAfter) (c .pageAfter) (c .answersAfter)
+
+-- each call is lent the state that the last one left, the first s
+unfoldable pub Chained : List ℕ → List Call → Type 0
+Chained s [] = Unit
+Chained s (c ∷ cs) = Kept s c × Chained (c .stateAfter) cs
+
+-- P holds of each call
+unfoldable pub Each : (Call → Type 0) → List Call → Type 0
+Each P [] = Unit
+Each P (c ∷ cs) = P c × Each P cs
+
+-- it takes table t unless it is refused; a page is bytes
+pub record Fits (t : List ℕ) (c : Call) : Type 0 where
   pub same : c .result ≡ 0 → c .ask .table ≡ t
   pub bytes : Bytes (c .ask .page)
 
--- each call is lent the state that the last one left
-unfoldable pub Following : List ℕ → List ℕ → List Call → Type 0
-Following t s [] = Unit
-Following t s (c ∷ cs) = Follows t s c × Following t (c .stateAfter) cs
-
--- joyce_begin, which returned 0, with its table, the slice lent to it and the state in it afterwards; then any calls of joyce_run,
+-- A LOG: joyce_begin, which returned 0, with its table, the slice lent to it and the state in it afterwards; then any calls of joyce_run,
 -- refused ones among them
 pub record Log : Type 0 where
   pub table : List ℕ
@@ -54,7 +62,8 @@ pub record Log : Type 0 where
   pub calls : List Call
   pub bytes : Bytes table
   pub begins : BeginLeaves table slice 0 state
-  pub follows : Following table state calls
+  pub chained : Chained state calls
+  pub fits : Each (Fits table) calls
 
 -- ---- what is read off the calls of a log
 
@@ -98,10 +107,6 @@ pub record CallHolds (t : List ℕ) (c : Call) : Type 0 where
   -- where it returned another number, each slice is as it was
   pub unchanged : (c .result ≡ 0 → ⊥) → (c .stateAfter ≡ c .state) × ((c .pageAfter ≡ c .ask .page) × (c .answersAfter ≡ c .ask .answers))
 
-unfoldable pub CallsHold : List ℕ → List Call → Type 0
-CallsHold t [] = Unit
-CallsHold t (c ∷ cs) = CallHolds t c × CallsHold t cs
-
 pub record LogHolds (g : Log) : Type 0 where
   -- it is a run of demand 3, begun with its table, of what its calls were lent
   pub run : History (verdict 1)
@@ -115,7 +120,7 @@ pub record LogHolds (g : Log) : Type 0 where
   pub order : processes (made (g .calls)) ≡ named (g .calls)
   pub answers : answers (made (g .calls)) ≡ answered (g .calls)
   pub last : finally (g .state) (made (g .calls)) ≡ leaves (g .state) (g .calls)
-  pub calls : CallsHold (g .table) (g .calls)
+  pub calls : Each (CallHolds (g .table)) (g .calls)
   -- a log begun alike begins with the same state; as far as its calls name the same order and see the same device words, they give the same
   -- answers, states and device words, wherever the calls of the two begin and end
   pub alike : (k : Log) → k .table ≡ g .table → k .state ≡ g .state

@@ -64,7 +64,7 @@ module _ (verdict : List ℕ → ℕ) where
     pub kept : (es fs gs : List Seen) → es ++ (fs ++ gs) ≡ steps verdict h
         → ProcessesKept (memoryOf (finally (first verdict h) es)) (memoryOf (finally (first verdict h) (es ++ fs)))
     -- a run begun alike begins with the same state; as far as it names the same order and sees the same device words, it gives the same
-    -- answers, states and device words, wherever the calls of the two begin and end
+    -- answers, states and device words, wherever the calls of the two begin and end (of a host that cuts its calls: Cuts)
     pub alike : (k : History verdict) → k .table ≡ h .table → first verdict k ≡ first verdict h
     pub agrees : (k : History verdict) → k .table ≡ h .table → (n : ℕ) → take n (asked (steps verdict k)) ≡ take n (asked (steps verdict h))
         → take n (told (steps verdict k)) ≡ take n (told (steps verdict h))
