@@ -4,10 +4,10 @@ use mathlib.Core.Path.{_≡_, refl, sym, ap, _∙_}
 use mathlib.Core.List.{List, [], _∷_, _++_, append-nil}
 use lib.ListN.{length}
 use Rattle.words.specs.Memory.{Bytes}
-use Rattle.sound.specs.Histories.{result, stateLeft, pageLeft, Ask, callOf, written, writtenOf, stateAfter}
+use Rattle.sound.specs.Histories.{pageLeft, Ask, callOf}
 use Rattle.sound.specs.Cuts.{Piece, endToEnd, askOf, inTurn, pageAfter, AllReturn}
 use Rattle.sound.proofs.CutsAgree.{cuts}
-use Rattle.joyce.specs.Calls.{Call, Kept, Chained, Each, asks, answered, leaves}
+use Rattle.joyce.specs.Calls.{Call, Kept, Chained, Each, asks, answered}
 use Rattle.joyce.specs.Cuts.{Lent, HandedOn, schedules, pageLeaves, LeaveTheSame}
 use Rattle.joyce.proofs.Logs.{judge, result-is, state-is, page-is, written-is, written-are, leaves-is}
 

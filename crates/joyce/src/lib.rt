@@ -1,4 +1,5 @@
-// What C calls: see include/joyce.h. Each call is thin over the crates below, and its contract is restated whole.
+// What C calls: see include/joyce.h. Each call is thin over the crates below. Its contract is one equation for every input; those of begin
+// and run stand in specs/Calls.antt, where a log of calls cites them too.
 ghost use mathlib.Core.Path.{_≡_};
 ghost use Rattle.verdict.specs.Verdict.{verdict};
 ghost use Rattle.machine.specs.Public.{lookCall};

@@ -26,17 +26,13 @@ use Rattle.machine.specs.Memory.{memoryOf}
 use Rattle.machine.specs.Public.{refusal, look, called, finished, beginRefusal, beginCall, runRefusal, runCall, lookRefusal, lookCall}
 use Rattle.machine.proofs.Calling.{refused-none, refuses-none, begin-refused, run-refused, run-lengths, run-accepted, run-ruled}
 use Rattle.sound.specs.Histories.{stateBytes, pageBytes, begunResult, result}
-use Rattle.sound.specs.Refusals.{AllRight, Lowest, BeginResult, returned, RunResult, sees, looked, LookResult}
+use Rattle.sound.specs.Refusals.{Checked, accepts, refuses, AllRight, Lowest, BeginResult, returned, RunResult, sees, looked, LookResult, Results}
 use Rattle.sound.proofs.Histories.{Traced, traced}
 use Rattle.sound.proofs.HistoriesBegin.{word-table}
 use Rattle.sound.proofs.HistoriesBytes.{memory-small, memory-sized}
 use Rattle.sound.proofs.Steps.{step-laws}
 
 -- ---- the numbers that check gives
-
-data Checked (v : ℕ) : Type 0 where
-  accepts : v ≡ 0 → Checked v
-  refuses : 2 ≤ v → v ≤ 9 → Checked v
 
 pick-checked : (b : Bool) (v n : ℕ) → 2 ≤ n → n ≤ 9 → Checked v → Checked (pick b v n)
 pick-checked true v n l h c = c
@@ -113,8 +109,7 @@ module _ (table state : List ℕ) where
   unfolding beginCall begunResult
   begin-is = cases (eqb (beginRefusal (verdict 1) table state) 0) (λ e. rw e (sym (eqb-true _ 0 e))) (λ e. rw e)
 
-  -- THE THEOREM, of begin
-  pub begin-result : BeginResult (verdict 1) table state
+  begin-result : BeginResult (verdict 1) table state
   begin-result =
       let e : begunResult (beginCall (verdict 1) table state) ≡ refusal (eqb (length state) 35328) (verdict 1 table) true = begin-is ∙ begin-refusal in
       record {
@@ -149,8 +144,7 @@ module _ (table state page schedule answers : List ℕ) (bt : Bytes table) (bs :
       (λ e. ap result (open-run (eqb-true _ 0 e)) ∙ sym (eqb-true _ 0 e))
       (λ e. ap result (run-refused (verdict 1) table state page schedule answers (eqb-false _ 0 e)))
 
-  -- THE THEOREM, of run
-  pub run-result : RunResult (verdict 1) table state page schedule answers
+  run-result : RunResult (verdict 1) table state page schedule answers
   unfolding runRefusal
   run-result = record {
     is = run-is;
@@ -211,8 +205,7 @@ module _ (table state : List ℕ) (process variable place : ℕ) (bs : Bytes sta
     look-most (sees-none z f q) = omega arith
     look-most (sees-word z f q h) = h
 
-  -- THE THEOREM, of look
-  pub look-result : LookResult (verdict 1) table state process variable place
+  look-result : LookResult (verdict 1) table state process variable place
   unfolding lookRefusal
   look-result =
       let c = verdict-checked table in
@@ -222,3 +215,7 @@ module _ (table state : List ℕ) (process variable place : ℕ) (bs : Bytes sta
         success = look-success _ _ _ _ _ _ refl c looks;
         most = look-most _ _ _ _ _ _ refl c looks;
       }
+
+-- THE THEOREM
+pub results : Results (verdict 1)
+results = record { checks = verdict-checked; begins = begin-result; runs = run-result; looks = look-result }

@@ -7,11 +7,17 @@ use mathlib.Core.Logic.{_↔_}
 use mathlib.Core.List.{List}
 use lib.ListN.{length}
 use lib.Dec.{eqb}
+use Rattle.words.specs.Memory.{Bytes}
 use Rattle.table.specs.Table.{tableOf}
 use Rattle.machine.specs.Memory.{memoryOf}
 use Rattle.machine.specs.Rule.{rule}
 use Rattle.machine.specs.Public.{visible, begun, called, runLengths, beginRefusal, beginCall, runRefusal, runCall, lookCall}
 use Rattle.sound.specs.Histories.{begunResult, result}
+
+-- ---- the numbers that check gives
+pub data Checked (v : ℕ) : Type 0 where
+  accepts : v ≡ 0 → Checked v
+  refuses : 2 ≤ v → v ≤ 9 → Checked v
 
 -- ---- the rows, for a result r: are the lengths right, the verdict v on the table, does the state meet its rule
 module _ (lengths : Bool) (v : ℕ) (state : Bool) where
@@ -67,3 +73,10 @@ module _ (verdict : List ℕ → ℕ) (table state : List ℕ) where
       pub eleven : (looked ≡ 11) ↔ (AllRight (eqb (length state) 35328) (verdict table) ruled × (sees ≡ false))
       pub success : (65536 ≤ looked) ↔ (AllRight (eqb (length state) 35328) (verdict table) ruled × (sees ≡ true))
       pub most : looked < 65536 + 65536
+
+-- ALL FOUR CALLS, for every input: a table, a state and a page are bytes
+pub record Results (verdict : List ℕ → ℕ) : Type 0 where
+  pub checks : (table : List ℕ) → Checked (verdict table)
+  pub begins : (table state : List ℕ) → BeginResult verdict table state
+  pub runs : (table state page schedule answers : List ℕ) → Bytes table → Bytes state → Bytes page → RunResult verdict table state page schedule answers
+  pub looks : (table state : List ℕ) (process variable place : ℕ) → Bytes state → LookResult verdict table state process variable place
