@@ -1,1 +1,2 @@
+pub mod CallsCut
 pub mod Logs

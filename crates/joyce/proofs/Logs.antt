@@ -1,21 +1,20 @@
--- Demand 3 of the calls that C makes: whoever keeps a log of them can rely on it. Assumes nothing.
-use Prim.Native.Nat.{ℕ}
+-- Demand 3 of the calls that C makes. Assumes nothing.
+use Prim.Native.Nat.{ℕ, _≤_}
 use mathlib.Core.Path.{_≡_, refl, sym, ap, subst, _∙_}
 use mathlib.Core.Bool.{Bool, true, false}
 use mathlib.Core.List.{List, [], _∷_}
 use lib.Dec.{eqb}
 use lib.ListN.{length, take}
-use borrow.Author.Tests.{eqb-true}
+use borrow.Author.Tests.{eqb-true, ne-eqb}
 use Rattle.basics.specs.Choice.{pick}
 use Rattle.verdict.specs.Verdict.{verdict}
 use Rattle.machine.specs.Public.{called, beginCall}
-use Rattle.sound.specs.Histories as sound
-use Rattle.sound.specs.Histories.{begunResult, begunState, result, stateLeft, pageLeft, answersLeft, devicesAfter, stepsOf, Devices, Handed, callOf, refused, written, writtenOf, stateAfter, Calls, begunWith, History, first, steps, answers, finally}
-use Rattle.sound.specs.Demand.{Demand3}
+use Rattle.sound.specs.Histories.{begunResult, begunState, result, stateLeft, pageLeft, answersLeft, Devices, Handed, Served, callOf, refused, history, order, orderOf, written, writtenOf, stateAfter, Calls, begunWith, History, first, steps, processes, answers, finally}
+use Rattle.sound.proofs.Histories.{refused-call}
 use Rattle.sound.proofs.StepsDemand.{demand3}
-use Rattle.joyce.specs.Calls.{Call, Kept, Follows, Following, Log, asks, answered, leaves, Pages}
+use Rattle.joyce.specs.Calls.{Call, Kept, Chained, Each, Fits, Log, asks, named, answered, leaves, made, CallHolds, LogHolds}
 
-abbrev judge : List ℕ → ℕ
+abbrev pub judge : List ℕ → ℕ
 judge = verdict 1
 
 served : (b : Bool) → pick b false true ≡ false → b ≡ true
@@ -27,25 +26,22 @@ swapped true x y = refl
 swapped false x y = refl
 
 -- what a call that keeps the contract returns and leaves
-module _ (t s : List ℕ) (c : Call) (f : Follows t s c) where
+module _ (s : List ℕ) (c : Call) (f : Kept s c) where
   is : called (c .result) (c .stateAfter) (c .pageAfter) (c .answersAfter) ≡ callOf judge s (c .ask)
-  unfolding callOf Kept
-  is = rw (f .state) at (f .kept)
+  unfolding callOf
+  is = rw (f .state) at (f .contract)
 
-  result-is : result (callOf judge s (c .ask)) ≡ c .result
+  pub result-is : result (callOf judge s (c .ask)) ≡ c .result
   unfolding result
   result-is = rw (← is)
 
-  state-is : stateLeft (callOf judge s (c .ask)) ≡ c .stateAfter
+  pub state-is : stateLeft (callOf judge s (c .ask)) ≡ c .stateAfter
   unfolding stateLeft
   state-is = rw (← is)
 
-  page-is : pageLeft (callOf judge s (c .ask)) ≡ c .pageAfter
+  pub page-is : pageLeft (callOf judge s (c .ask)) ≡ c .pageAfter
   unfolding pageLeft
   page-is = rw (← is)
-
-  page-left : Devices judge s (c .ask) → c .pageAfter ≡ devicesAfter (c .ask .page) (stepsOf judge (c .state) (c .ask))
-  page-left h = rw (f .state) (sym page-is ∙ h .left)
 
   answers-are : answersLeft (callOf judge s (c .ask)) ≡ c .answersAfter
   unfolding answersLeft
@@ -58,36 +54,69 @@ module _ (t s : List ℕ) (c : Call) (f : Follows t s c) where
   taken : refused judge s (c .ask) ≡ false → c .result ≡ 0
   taken e = eqb-true (c .result) 0 (served (eqb (c .result) 0) (sym refused-is ∙ e))
 
-  written-is : writtenOf judge s (c .ask) ≡ pick (eqb (c .result) 0) (take (length (c .ask .schedule)) (c .answersAfter)) []
+  pub written-is : writtenOf judge s (c .ask) ≡ pick (eqb (c .result) 0) (take (length (c .ask .schedule)) (c .answersAfter)) []
   unfolding writtenOf
   written-is = rw (refused-is, answers-are) (swapped (eqb (c .result) 0) _ _)
 
 -- the calls of a log are those of a history of `sound`
-calls-fit : (t s : List ℕ) (cs : List Call) → Following t s cs → Calls judge t s (asks cs)
-unfolding Calls asks Following
-calls-fit t s [] h = tt
-calls-fit t s (c ∷ cs) (f, h) = (
-  record { same = λ e. f .same (taken t s c f e); bytes = f .bytes },
-  rw (state-is t s c f) (calls-fit t (c .stateAfter) cs h),
+calls-fit : (t s : List ℕ) (cs : List Call) → Chained s cs → Each (Fits t) cs → Calls judge t s (asks cs)
+unfolding Calls asks Chained Each
+calls-fit t s [] h k = tt
+calls-fit t s (c ∷ cs) (f, h) (g, k) = (
+  record { same = λ e. g .same (taken s c f e); bytes = g .bytes },
+  rw (state-is s c f) (calls-fit t (c .stateAfter) cs h k),
 )
 
-written-are : (t s : List ℕ) (cs : List Call) → Following t s cs → written judge s (asks cs) ≡ answered cs
-unfolding written answered asks Following
-written-are t s [] h = refl
-written-are t s (c ∷ cs) (f, h) = rw (written-is t s c f, state-is t s c f, written-are t (c .stateAfter) cs h)
+pub written-are : (s : List ℕ) (cs : List Call) → Chained s cs → written judge s (asks cs) ≡ answered cs
+unfolding written answered asks Chained
+written-are s [] h = refl
+written-are s (c ∷ cs) (f, h) = rw (written-is s c f, state-is s c f, written-are (c .stateAfter) cs h)
 
-leaves-is : (t s : List ℕ) (cs : List Call) → Following t s cs → stateAfter judge s (asks cs) ≡ leaves s cs
-unfolding stateAfter leaves asks Following
-leaves-is t s [] h = refl
-leaves-is t s (c ∷ cs) (f, h) =
-    ap (λ z. stateAfter judge z (asks cs)) (state-is t s c f) ∙ leaves-is t (c .stateAfter) cs h
+pub leaves-is : (s : List ℕ) (cs : List Call) → Chained s cs → stateAfter judge s (asks cs) ≡ leaves s cs
+unfolding stateAfter leaves asks Chained
+leaves-is s [] h = refl
+leaves-is s (c ∷ cs) (f, h) =
+    ap (λ z. stateAfter judge z (asks cs)) (state-is s c f) ∙ leaves-is (c .stateAfter) cs h
 
-pages-are : (t s : List ℕ) (cs : List Call) → Following t s cs → Handed judge s (asks cs) → Pages cs
-unfolding Handed Pages asks Following
-pages-are t s [] h k = tt
-pages-are t s (c ∷ cs) (f, h) (d, k) = (
-  page-left t s c f d,
-  pages-are t (c .stateAfter) cs h (subst (λ z. Handed judge z (asks cs)) (state-is t s c f) k),
+order-is : (s : List ℕ) (c : Call) → Kept s c → orderOf judge s (c .ask) ≡ pick (eqb (c .result) 0) (c .ask .schedule) []
+unfolding orderOf
+order-is s c f = rw (refused-is s c f) (swapped (eqb (c .result) 0) _ _)
+
+named-are : (s : List ℕ) (cs : List Call) → Chained s cs → order judge s (asks cs) ≡ named cs
+unfolding order named asks Chained
+named-are s [] h = refl
+named-are s (c ∷ cs) (f, h) = rw (order-is s c f, state-is s c f, named-are (c .stateAfter) cs h)
+
+made-are : (s : List ℕ) (cs : List Call) → Chained s cs → history judge s (asks cs) ≡ made cs
+unfolding history made asks Chained
+made-are s [] h = refl
+made-are s (c ∷ cs) (f, h) = rw (f .state, state-is s c f, made-are (c .stateAfter) cs h)
+
+-- each call
+module _ (t s : List ℕ) (c : Call) (f : Kept s c) where
+  left-alone : (c .result ≡ 0 → ⊥) → called (c .result) (c .stateAfter) (c .pageAfter) (c .answersAfter) ≡ called (result (callOf judge s (c .ask))) s (c .ask .page) (c .ask .answers)
+  left-alone n = is s c f ∙ refused-call judge s (c .ask) (refused-is s c f ∙ rw (ne-eqb (c .result) 0 n))
+
+  call-holds : Devices judge s (c .ask)
+      → (c .ask .table ≡ t → length (c .ask .page) ≡ 8192 → length (c .ask .schedule) ≤ length (c .ask .answers) → refused judge s (c .ask) ≡ false)
+      → CallHolds t c
+  unfolding stateLeft pageLeft answersLeft
+  call-holds d v = record {
+    state = rw (f .state) (sym (state-is s c f) ∙ d .state);
+    page = rw (f .state) (sym (page-is s c f) ∙ d .left);
+    served = λ e p l. taken s c f (v e p l);
+    unchanged = λ n.
+        (ap stateLeft (left-alone n) ∙ sym (f .state), (ap pageLeft (left-alone n), ap answersLeft (left-alone n)));
+  }
+
+calls-hold : (t s : List ℕ) (cs : List Call) → Chained s cs → Handed judge s (asks cs) → Served judge t s (asks cs) → Each (CallHolds t) cs
+unfolding Handed Served Each asks Chained
+calls-hold t s [] h k v = tt
+calls-hold t s (c ∷ cs) (f, h) (d, k) (u, v) = (
+  call-holds t s c f d u,
+  calls-hold t (c .stateAfter) cs h
+      (subst (λ z. Handed judge z (asks cs)) (state-is s c f) k)
+      (subst (λ z. Served judge t z (asks cs)) (state-is s c f) v),
 )
 
 module _ (g : Log) where
@@ -99,40 +128,64 @@ module _ (g : Log) where
   unfolding begunWith begunState
   first-is = rw (← g .begins)
 
-  -- THE HISTORY of a log
-  pub historyOf : History judge
+  -- the history of a log
+  historyOf : History judge
   historyOf = record {
     table = g .table;
     slice = g .slice;
     calls = asks (g .calls);
     bytes = g .bytes;
     begins = begins;
-    fits = rw (first-is) (calls-fit (g .table) (g .state) (g .calls) (g .follows));
+    fits = rw (first-is) (calls-fit (g .table) (g .state) (g .calls) (g .chained) (g .fits));
   }
 
-  -- its steps begin with the state that begin left, answer what the calls answered, and leave the state that the calls left
-  pub begins-so : first judge historyOf ≡ g .state
+  first-so : first judge historyOf ≡ g .state
   unfolding historyOf
-  begins-so = first-is
+  first-so = first-is
 
-  pub answers-so : answers (steps judge historyOf) ≡ answered (g .calls)
+  steps-so : steps judge historyOf ≡ made (g .calls)
+  unfolding historyOf
+  steps-so = ap (λ z. history judge z (asks (g .calls))) first-is ∙ made-are (g .state) (g .calls) (g .chained)
+
+  order-so : processes (steps judge historyOf) ≡ named (g .calls)
+  unfolding historyOf
+  order-so =
+      demand3 historyOf .named
+      ∙ (ap (λ z. order judge z (asks (g .calls))) first-is ∙ named-are (g .state) (g .calls) (g .chained))
+
+  answers-so : answers (steps judge historyOf) ≡ answered (g .calls)
   unfolding historyOf
   answers-so =
       demand3 historyOf .answered
-      ∙ (ap (λ z. written judge z (asks (g .calls))) first-is ∙ written-are (g .table) (g .state) (g .calls) (g .follows))
+      ∙ (ap (λ z. written judge z (asks (g .calls))) first-is ∙ written-are (g .state) (g .calls) (g .chained))
 
-  pub ends-so : finally (first judge historyOf) (steps judge historyOf) ≡ leaves (g .state) (g .calls)
+  last-so : finally (first judge historyOf) (steps judge historyOf) ≡ leaves (g .state) (g .calls)
   unfolding historyOf
-  ends-so =
+  last-so =
       demand3 historyOf .last
-      ∙ (ap (λ z. stateAfter judge z (asks (g .calls))) first-is ∙ leaves-is (g .table) (g .state) (g .calls) (g .follows))
+      ∙ (ap (λ z. stateAfter judge z (asks (g .calls))) first-is ∙ leaves-is (g .state) (g .calls) (g .chained))
 
-  pub pages-so : Pages (g .calls)
+  calls-so : Each (CallHolds (g .table)) (g .calls)
   unfolding historyOf
-  pages-so =
-      pages-are (g .table) (g .state) (g .calls) (g .follows)
+  calls-so =
+      calls-hold (g .table) (g .state) (g .calls) (g .chained)
       (subst (λ z. Handed judge z (asks (g .calls))) first-is (demand3 historyOf .handed))
+      (subst (λ z. Served judge (g .table) z (asks (g .calls))) first-is (demand3 historyOf .served))
 
--- DEMAND 3 of the calls: see crates/sound/specs/Demand.antt
-pub calls-demand3 : (g : Log) → Demand3 judge (historyOf g)
-calls-demand3 g = demand3 (historyOf g)
+-- THE THEOREM, of the calls that C makes: whoever keeps a log of them can rely on it
+pub calls-demand3 : (g : Log) → LogHolds g
+unfolding historyOf
+calls-demand3 g = record {
+  run = historyOf g;
+  table = refl;
+  lent = refl;
+  demand3 = demand3 (historyOf g);
+  begins = first-so g;
+  steps = steps-so g;
+  order = rw (← steps-so g) (order-so g);
+  answers = rw (← steps-so g) (answers-so g);
+  last = ap (finally (g .state)) (sym (steps-so g)) ∙ ap (λ z. finally z (steps judge (historyOf g))) (sym (first-so g)) ∙ last-so g;
+  calls = calls-so g;
+  alike = λ k e. sym (first-so k) ∙ demand3 (historyOf g) .alike (historyOf k) e ∙ first-so g;
+  agrees = λ k e n q. rw (← steps-so k, ← steps-so g) (demand3 (historyOf g) .agrees (historyOf k) e n (rw (← steps-so k, ← steps-so g) at q));
+}

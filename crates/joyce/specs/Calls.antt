@@ -1,5 +1,5 @@
--- What a caller of joyce_begin and joyce_run sees, call by call. Assumes nothing.
-use Prim.Native.Nat.{ℕ}
+-- What a caller of joyce_begin and joyce_run sees, call by call, and what holds of it. Assumes nothing.
+use Prim.Native.Nat.{ℕ, _≤_}
 use mathlib.Core.Path.{_≡_}
 use mathlib.Core.List.{List, [], _∷_, _++_}
 use lib.Dec.{eqb}
@@ -8,7 +8,21 @@ use Rattle.basics.specs.Choice.{pick}
 use Rattle.words.specs.Memory.{Bytes}
 use Rattle.verdict.specs.Verdict.{verdict}
 use Rattle.machine.specs.Public.{begun, called, beginCall, runCall}
-use Rattle.sound.specs.Histories.{Ask, devicesAfter, stepsOf}
+use Rattle.sound.specs.Histories.{Seen, asked, told, processes, answers, finally, devicesAfter, Ask, stepsOf, History, first, steps}
+use Rattle.sound.specs.Demand.{Demand3}
+
+-- ---- what the contracts say
+
+-- joyce_begin, lent table and state: it returns r and leaves after
+abbrev pub BeginLeaves : (table state : List ℕ) (r : ℕ) (after : List ℕ) → Type 0
+BeginLeaves table state r after = begun r after ≡ beginCall (verdict 1) table state
+
+-- joyce_run, lent five slices: it returns r and leaves the state, the page and the answers after
+abbrev pub RunLeaves : (table state page schedule answers : List ℕ) (r : ℕ) (stateAfter pageAfter answersAfter : List ℕ) → Type 0
+RunLeaves table state page schedule answers r stateAfter pageAfter answersAfter =
+    called r stateAfter pageAfter answersAfter ≡ runCall (verdict 1) table state page schedule answers
+
+-- ---- logs
 
 -- a call of joyce_run: what it is lent, its result, and what the slices hold afterwards
 pub record Call : Type 0 where
@@ -19,25 +33,27 @@ pub record Call : Type 0 where
   pub pageAfter : List ℕ
   pub answersAfter : List ℕ
 
--- what the contract of joyce_run says of it
-unfoldable pub Kept : Call → Type 0
-Kept c =
-    called (c .result) (c .stateAfter) (c .pageAfter) (c .answersAfter)
-    ≡ runCall (verdict 1) (c .ask .table) (c .state) (c .ask .page) (c .ask .schedule) (c .ask .answers)
-
--- it is lent state s, and takes table t unless it is refused; a page is bytes
-pub record Follows (t s : List ℕ) (c : Call) : Type 0 where
+-- it is lent state s, and keeps the contract
+pub record Kept (s : List ℕ) (c : Call) : Type 0 where
   pub state : c .state ≡ s
-  pub kept : Kept c
+  pub contract : RunLeaves (c .ask .table) (c .state) (c .ask .page) (c .ask .schedule) (c .ask .answers) (c .result) (c .stateAfter) (c .pageAfter) (c .answersAfter)
+
+-- each call is lent the state that the last one left, the first s
+unfoldable pub Chained : List ℕ → List Call → Type 0
+Chained s [] = Unit
+Chained s (c ∷ cs) = Kept s c × Chained (c .stateAfter) cs
+
+-- P holds of each call
+unfoldable pub Each : (Call → Type 0) → List Call → Type 0
+Each P [] = Unit
+Each P (c ∷ cs) = P c × Each P cs
+
+-- it takes table t unless it is refused; a page is bytes
+pub record Fits (t : List ℕ) (c : Call) : Type 0 where
   pub same : c .result ≡ 0 → c .ask .table ≡ t
   pub bytes : Bytes (c .ask .page)
 
--- each call is lent the state that the last one left
-unfoldable pub Following : List ℕ → List ℕ → List Call → Type 0
-Following t s [] = Unit
-Following t s (c ∷ cs) = Follows t s c × Following t (c .stateAfter) cs
-
--- joyce_begin, which returned 0, with its table, the slice lent to it and the state in it afterwards; then any calls of joyce_run,
+-- A LOG: joyce_begin, which returned 0, with its table, the slice lent to it and the state in it afterwards; then any calls of joyce_run,
 -- refused ones among them
 pub record Log : Type 0 where
   pub table : List ℕ
@@ -45,13 +61,21 @@ pub record Log : Type 0 where
   pub state : List ℕ
   pub calls : List Call
   pub bytes : Bytes table
-  pub begins : begun 0 state ≡ beginCall (verdict 1) table slice
-  pub follows : Following table state calls
+  pub begins : BeginLeaves table slice 0 state
+  pub chained : Chained state calls
+  pub fits : Each (Fits table) calls
 
--- what the calls were lent
+-- ---- what is read off the calls of a log
+
+-- what they were lent
 unfoldable pub asks : List Call → List Ask
 asks [] = []
 asks (c ∷ cs) = c .ask ∷ asks cs
+
+-- the order named: the schedules of those that returned 0, end to end
+unfoldable pub named : List Call → List ℕ
+named [] = []
+named (c ∷ cs) = pick (eqb (c .result) 0) (c .ask .schedule) [] ++ named cs
 
 -- the answers that they gave
 unfoldable pub answered : List Call → List ℕ
@@ -63,7 +87,42 @@ unfoldable pub leaves : List ℕ → List Call → List ℕ
 leaves s [] = s
 leaves s (c ∷ cs) = leaves (c .stateAfter) cs
 
--- each left the device words of its last step; those that it was lent where it did none
-unfoldable pub Pages : List Call → Type 0
-Pages [] = Unit
-Pages (c ∷ cs) = (c .pageAfter ≡ devicesAfter (c .ask .page) (stepsOf (verdict 1) (c .state) (c .ask))) × Pages cs
+-- the steps that they made
+abbrev pub stepsMade : Call → List Seen
+stepsMade c = stepsOf (verdict 1) (c .state) (c .ask)
+
+unfoldable pub made : List Call → List Seen
+made [] = []
+made (c ∷ cs) = stepsMade c ++ made cs
+
+-- ---- WHAT HOLDS of a log
+
+-- of a call in a log that began with table t
+pub record CallHolds (t : List ℕ) (c : Call) : Type 0 where
+  -- it left the state and the device words of its last step; those that it was lent where it made none
+  pub state : c .stateAfter ≡ finally (c .state) (stepsMade c)
+  pub page : c .pageAfter ≡ devicesAfter (c .ask .page) (stepsMade c)
+  -- with begin's table and right lengths it returned 0
+  pub served : c .ask .table ≡ t → length (c .ask .page) ≡ 8192 → length (c .ask .schedule) ≤ length (c .ask .answers) → c .result ≡ 0
+  -- where it returned another number, each slice is as it was
+  pub unchanged : (c .result ≡ 0 → ⊥) → (c .stateAfter ≡ c .state) × ((c .pageAfter ≡ c .ask .page) × (c .answersAfter ≡ c .ask .answers))
+
+pub record LogHolds (g : Log) : Type 0 where
+  -- it is a run of demand 3, begun with its table, of what its calls were lent
+  pub run : History (verdict 1)
+  pub table : run .table ≡ g .table
+  pub lent : run .calls ≡ asks (g .calls)
+  pub demand3 : Demand3 (verdict 1) run
+  -- which begins with the state that begin left, and has the steps that the calls made
+  pub begins : first (verdict 1) run ≡ g .state
+  pub steps : steps (verdict 1) run ≡ made (g .calls)
+  -- one for each number of the order named, its answer the byte written for it; the calls leave the state of the last
+  pub order : processes (made (g .calls)) ≡ named (g .calls)
+  pub answers : answers (made (g .calls)) ≡ answered (g .calls)
+  pub last : finally (g .state) (made (g .calls)) ≡ leaves (g .state) (g .calls)
+  pub calls : Each (CallHolds (g .table)) (g .calls)
+  -- a log begun alike begins with the same state; as far as its calls name the same order and see the same device words, they give the same
+  -- answers, states and device words, wherever the calls of the two begin and end
+  pub alike : (k : Log) → k .table ≡ g .table → k .state ≡ g .state
+  pub agrees : (k : Log) → k .table ≡ g .table → (n : ℕ) → take n (asked (made (k .calls))) ≡ take n (asked (made (g .calls)))
+      → take n (told (made (k .calls))) ≡ take n (told (made (g .calls)))

@@ -1,7 +1,9 @@
-// What C calls: see include/joyce.h. Each call is thin over the crates below, and its contract is restated whole.
+// What C calls: see include/joyce.h. Each call is thin over the crates below. Its contract is one equation for every input; those of begin
+// and run stand in specs/Calls.antt, where a log of calls cites them too.
 ghost use mathlib.Core.Path.{_≡_};
 ghost use Rattle.verdict.specs.Verdict.{verdict};
-ghost use Rattle.machine.specs.Public.{begun, called, beginCall, runCall, lookCall};
+ghost use Rattle.machine.specs.Public.{lookCall};
+ghost use Rattle.joyce.specs.Calls.{BeginLeaves, RunLeaves};
 
 // The verdict on a table of the small edition, for every input: 0, or the lowest of the refusals 2 to 9 that applies.
 #[no_mangle]
@@ -14,7 +16,7 @@ pub extern "C" fn joyce_check(table: &[u8]) -> u32
 // Makes the lent state that in which a run of the table begins, or refuses and changes nothing.
 #[no_mangle]
 pub extern "C" fn joyce_begin(table: &[u8], state: &mut [u8]) -> u32
-    ensures { λ r. ⌜ begun r (now (state .exit)) ≡ beginCall (verdict 1) (now (table .entry)) (now (state .entry)) ⌝ }
+    ensures { λ r. ⌜ BeginLeaves (now (table .entry)) (now (state .entry)) r (now (state .exit)) ⌝ }
 {
     states::begin(table, state)
 }
@@ -28,7 +30,7 @@ pub extern "C" fn joyce_run(
     schedule: &[u8],
     answers: &mut [u8],
 ) -> u32
-    ensures { λ r. ⌜ called r (now (state .exit)) (now (page .exit)) (now (answers .exit)) ≡ runCall (verdict 1) (now (table .entry)) (now (state .entry)) (now (page .entry)) (now (schedule .entry)) (now (answers .entry)) ⌝ }
+    ensures { λ r. ⌜ RunLeaves (now (table .entry)) (now (state .entry)) (now (page .entry)) (now (schedule .entry)) (now (answers .entry)) r (now (state .exit)) (now (page .exit)) (now (answers .exit)) ⌝ }
 {
     stepper::run(table, state, page, schedule, answers)
 }

@@ -3,7 +3,7 @@ use Prim.Native.Nat.{ℕ, _+_, _≤_, _<_}
 use mathlib.Core.Path.{_≡_, refl, sym, ap, _∙_}
 use mathlib.Core.Bool.{true}
 use mathlib.Core.List.{List, [], _∷_, _++_}
-use lib.ListN.{length}
+use lib.ListN.{length, take}
 use lib.Dec.{eqb}
 use borrow.Author.Tests.{eqb-true, eqb-false, eq-eqb}
 use Rattle.basics.specs.Choice.{cases}
@@ -50,6 +50,8 @@ step-holds T acc laws e h =
     let bound = laws .bindings _ _ _ (h .start .ruled) (h .start .words) (h .devices .words) _ _ _ (h .is) in
     record {
       is = h .is;
+      listed = h .listed;
+      ruled = h .reached .ruled;
       values = reached-values T _ (h .reached);
       bindings = bound;
       created = step-created T _ _ _ _ _ _ (h .is);
@@ -149,11 +151,12 @@ module _ (verdict : List ℕ → ℕ)
         begun-at verdict (k .table) (rw e laws) (k .slice) (rw e begin-law) (k .begins)
         ∙ rw e (sym (begun-at verdict (h .table) laws (h .slice) begin-law (h .begins)))
 
-    agree : (k : History verdict) → k .table ≡ h .table → asked (steps verdict k) ≡ asked (steps verdict h) → told (steps verdict k) ≡ told (steps verdict h)
-    agree k e q =
+    agree : (k : History verdict) → k .table ≡ h .table → (n : ℕ) → take n (asked (steps verdict k)) ≡ take n (asked (steps verdict h))
+        → take n (told (steps verdict k)) ≡ take n (told (steps verdict h))
+    agree k e n q =
         let s = same-first k e in
         let c : Calls verdict (h .table) (first verdict h) (k .calls) = rw (s, e) at (k .fits) in
-        rw s (same-told verdict (h .table) laws (first verdict h) (k .calls) (h .calls) at-first c (h .fits) (rw s at q))
+        rw s (same-told verdict (h .table) laws (first verdict h) (k .calls) (h .calls) at-first c (h .fits) n (rw s at q))
 
     first-memory : memoryOf (first verdict h) ≡ begin (tableOf 1 (h .table))
     first-memory =
@@ -201,6 +204,7 @@ module _ (verdict : List ℕ → ℕ)
           created = count-is (f .course .threaded) every;
           kept = stay (f .course .threaded) every;
           unended = unended-calls (f .course .threaded) every;
-          listed = λ es fs e. calls-listed _ _;
+          callsListed = λ es fs e. calls-listed _ _;
+          alike = same-first;
           agrees = agree;
         }

@@ -28,7 +28,7 @@ use Rattle.machine.specs.Step.{settled, inRange, answers, proceeds, exists, tur
 use Rattle.machine.specs.Step as steps
 use Rattle.machine.specs.Rule.{liesIn, rule}
 use Rattle.verdict.specs.Accepted.{Accepted}
-use Rattle.sound.specs.Claims.{PlaceLaws, Started, Small, Sound}
+use Rattle.sound.specs.Claims.{PlaceLaws, Started, Small, Listed, regular, failure, Sound}
 use Rattle.sound.specs.Ruled.{Ruled, Calling}
 use Rattle.sound.specs.Ruled as called
 use Rattle.sound.specs.Reached.{WordTable}
@@ -53,7 +53,7 @@ use Rattle.sound.proofs.Evaluation.{fills, performed}
 
 -- an outcome that leaves a state which meets the rule, or a listed failure
 data Kept (T : Table) : Outcome Effect → Type 0 where
-  kept : (a : ℕ) (n d : Memory) → a < 256 → rule T n ≡ true → Small n → Small d → Kept T (ok (effect a n d))
+  kept : (a : ℕ) (n d : Memory) → Listed a → rule T n ≡ true → Small n → Small d → Kept T (ok (effect a n d))
   failed : (n : ℕ) → 16 ≤ n → n ≤ 24 → Kept T (fail n)
 
 zeros-small : (n : ℕ) → SmallWords (replicate n 0)
@@ -128,14 +128,14 @@ module _ (T : Table) (acc : Accepted T) (inner : scoped T ≡ true) (L : PlaceLa
   call-kept : (q : ℕ) (ws : List ℕ) → owner T q ≡ owner T (blockOf m p) → (P : Pushable T m page p q ws) → Kept T (ok (effect 0 (pushed T m page (contextOf m p) m q (m (worksAt p)) ws) page))
   call-kept q ws own P =
       let k = stands T acc m p some made (R .process p some made) (S .started) in
-      kept 0 _ page (omega arith)
+      kept 0 _ page (regular (omega arith))
       (entered T _ _ (local-call-rule T acc L m page p S q ws (fills T m p q ws (P .bound)) (P .there) (P .procedure) (P .calling) (own ∙ sym (k .owned))) (call-is q ws P m (m (worksAt p))))
       (pushed-small q ws P m (m (worksAt p)) ms (ms .small (worksAt p))) ps
 
   serve-kept : (r q : ℕ) (ws : List ℕ) → refers m (owner T q) r ≡ true → (P : Pushable T m page p q ws) → Kept T (ok (effect 0 (pushed T m page (contextOf m p) (update m (holderAt r) p) q r ws) page))
   serve-kept r q ws e P =
       let two = refers-two (owner T q) r e in
-      kept 0 _ page (omega arith)
+      kept 0 _ page (regular (omega arith))
       (entered T _ _ (process-call-rule T acc L m page p S q ws (fills T m p q ws (P .bound)) (P .there) (P .procedure) (P .calling) r (omega arith) (refers-made (owner T q) r e) (sym (refers-module (owner T q) r e))) (call-is q ws P (update m (holderAt r) p) r))
       (pushed-small q ws P (update m (holderAt r) p) r (update-small m (holderAt r) p ms process-small) (refers-small (owner T q) r e)) ps
 
@@ -146,7 +146,7 @@ module _ (T : Table) (acc : Accepted T) (inner : scoped T ≡ true) (L : PlaceLa
       let μ = process-module T (acc .numbers) τ (l .type) k in
       let n : ℕ = m createdAt + 1 in
       let o = R .some in
-      kept 0 _ page (omega arith)
+      kept 0 _ page (regular (omega arith))
       (create-rule T acc L m p S (typeP T τ) τ a (m (statementAt p) + 1) room (μ .0) (μ .1) (l .alive) (reference-value T (created m n (typeP T τ)) n τ (typeP T τ) (at-process T τ k) (created-refers m n (typeP T τ) (omega arith) (omega arith))) on)
       (update-small _ (statementAt p) (m (statementAt p) + 1) (update-small _ a n (created-small m n (typeP T τ) (omega arith) (omega arith) ms (declared-small T W τ 1)) (omega arith)) (lies-small T W (blockOf m p) (m (statementAt p) + 1) on)) ps
 
@@ -165,30 +165,30 @@ module _ (T : Table) (acc : Accepted T) (inner : scoped T ≡ true) (L : PlaceLa
       let r = return-rule T acc L m page p S (m (depthAt p) - 1) z in
       let i = r .is in
       let q : r .state ≡ n = cc in
-      kept 0 n page (omega arith) (rw q at (r .ruled)) v ps
+      kept 0 n page (regular (omega arith)) (rw q at (r .ruled)) v ps
 
   -- EACH WAY TO GO ON keeps the rule
   performed-kept : (o : Outcome Effect) → Performed T m page p o → Kept T o
-  performed-kept _ (goes c l) = kept 0 _ page (omega arith) (goto-rule T acc L m p c S l) (update-small m (statementAt p) c ms (lies-small T W (blockOf m p) c l)) ps
+  performed-kept _ (goes c l) = kept 0 _ page (regular (omega arith)) (goto-rule T acc L m p c S l) (update-small m (statementAt p) c ms (lies-small T W (blockOf m p) c l)) ps
   performed-kept _ (holds-on c l) =
-      kept 0 _ page (omega arith) (enter-rule T acc L m p S c l)
+      kept 0 _ page (regular (omega arith)) (enter-rule T acc L m p S c l)
       (update-small _ (statementAt p) c (update-small m (holderAt (m (worksAt p))) p ms process-small) (lies-small T W (blockOf m p) c l)) ps
-  performed-kept _ gives-up = kept 1 _ page (omega arith) (wait-rule T acc L m p S) (update-small m (holderAt (m (worksAt p))) 0 ms (omega arith)) ps
+  performed-kept _ gives-up = kept 1 _ page (regular (omega arith)) (wait-rule T acc L m p S) (update-small m (holderAt (m (worksAt p))) 0 ms (omega arith)) ps
   performed-kept _ (assigns τ a ws on l v w) =
-      kept 0 _ page (omega arith) (assign-rule T acc L m p S τ a (m (statementAt p) + 1) ws (l .alive) v on)
+      kept 0 _ page (regular (omega arith)) (assign-rule T acc L m p S τ a (m (statementAt p) + 1) ws (l .alive) v on)
       (update-small _ (statementAt p) (m (statementAt p) + 1) (store-small m a ws ms (λ k g. w .words k)) (lies-small T W (blockOf m p) (m (statementAt p) + 1) on)) ps
   performed-kept _ (calls q ws own P) = call-kept q ws own P
   performed-kept _ (serves r q ws e t h P) = serve-kept r q ws e P
-  performed-kept _ waits = kept 1 m page (omega arith) (S .ruled) ms ps
+  performed-kept _ waits = kept 1 m page (regular (omega arith)) (S .ruled) ms ps
   performed-kept _ (creates τ a on l k room) = create-kept τ a on l k room
   performed-kept _ (starts r μ ws on e t there kind b len) =
-      kept 0 _ page (omega arith) (start-rule T acc L m p S r μ (m (statementAt p) + 1) ws e t (fills T m p μ ws b) on)
+      kept 0 _ page (regular (omega arith)) (start-rule T acc L m p S r μ (m (statementAt p) + 1) ws e t (fills T m p μ ws b) on)
       (update-small _ (statementAt p) (m (statementAt p) + 1) (started-small r μ ws e there kind (bound-small T m p (params T μ) (firstVar T μ) ws b)) (lies-small T W (blockOf m p) (m (statementAt p) + 1) on)) ps
   performed-kept _ (writes a v on x y d) =
-      kept 0 _ _ (omega arith) (goto-rule T acc L m p (m (statementAt p) + 1) S on)
+      kept 0 _ _ (regular (omega arith)) (goto-rule T acc L m p (m (statementAt p) + 1) S on)
       (update-small m (statementAt p) (m (statementAt p) + 1) ms (lies-small T W (blockOf m p) (m (statementAt p) + 1) on)) (update-small page _ v ps y)
   performed-kept _ (ends d) =
-      kept 2 _ page (omega arith) (end-rule T acc L m p (S .ruled) some made)
+      kept 2 _ page (regular (omega arith)) (end-rule T acc L m p (S .ruled) some made)
       (update-small _ (holderAt p) 0 (update-small m (statusAt p) 3 ms (omega arith)) (omega arith)) ps
   performed-kept _ (returns n d e v) = return-kept n d e v
   performed-kept _ (fails n l h) = failed n l h
@@ -200,7 +200,7 @@ module _ (T : Table) (acc : Accepted T) (inner : scoped T ≡ true) (L : PlaceLa
   Rm : Ruled T m
   Rm = ruled T m rm
 
-  answers-kept : (a : ℕ) → a < 256 → Kept T (answers T m page p a)
+  answers-kept : (a : ℕ) → Listed a → Kept T (answers T m page p a)
   unfolding answers
   answers-kept a l = kept a m page l rm ms ps
 
@@ -217,7 +217,7 @@ module _ (T : Table) (acc : Accepted T) (inner : scoped T ≡ true) (L : PlaceLa
       needs _ _ (range-i 1 (m createdAt) (m (worksAt p)) (k .some-works) (k .works))
       (cases (either (eqb (m (holderAt (m (worksAt p)))) 0) (eqb (m (holderAt (m (worksAt p)))) p))
       (λ e. rw e (needs _ _ (contexts T acc m p a b (Rm .process p a b) (S .started)) (performs-kept T acc inner L W m page p S ms ps)))
-      (λ e. rw e (answers-kept 1 (omega arith))))
+      (λ e. rw e (answers-kept 1 (regular (omega arith)))))
 
   exists-kept : 1 ≤ p → p ≤ m createdAt → Kept T (exists T m page p)
   unfolding exists
@@ -225,8 +225,8 @@ module _ (T : Table) (acc : Accepted T) (inner : scoped T ≡ true) (L : PlaceLa
       let r = Rm .process p a b in
       let low = r .low in
       let high = r .high in
-      cases (eqb (m (statusAt p)) 3) (λ e. rw e (answers-kept 2 (omega arith)))
-      (λ e. cases (eqb (m (statusAt p)) 1) (λ f. rw (e, f) (answers-kept 1 (omega arith)))
+      cases (eqb (m (statusAt p)) 3) (λ e. rw e (answers-kept 2 (regular (omega arith))))
+      (λ e. cases (eqb (m (statusAt p)) 1) (λ f. rw (e, f) (answers-kept 1 (regular (omega arith))))
       (λ f.
       let two : m (statusAt p) ≡ 2 = omega (arith, eqb-false (m (statusAt p)) 3 e, eqb-false (m (statusAt p)) 1 f) in
       rw (e, f)
@@ -240,15 +240,14 @@ module _ (T : Table) (acc : Accepted T) (inner : scoped T ≡ true) (L : PlaceLa
       (needs _ _ (range-i 1 64 (m createdAt) (Rm .some) (Rm .most))
       (cases (inRange 1 (m createdAt) p)
       (λ f. rw f (exists-kept (range-low 1 (m createdAt) p f) (range-high 1 (m createdAt) p f)))
-      (λ f. rw f (answers-kept 3 (omega arith))))))
+      (λ f. rw f (answers-kept 3 (regular (omega arith)))))))
       (λ e.
       let g = Rm .failed (eqb-false (m failureAt) 0 e) in
-      let h = g .1 in
-      rw e (needs _ _ (range-i 16 24 (m failureAt) (g .0) (g .1)) (answers-kept (m failureAt) (omega arith))))
+      rw e (needs _ _ (range-i 16 24 (m failureAt) (g .0) (g .1)) (answers-kept (m failureAt) (failure (g .0) (g .1)))))
 
   settled-sound : (o : Outcome Effect) → Kept T o → Sound T (settled m page o)
   unfolding settled
-  settled-sound _ (kept a n d l r s t) = record { answer = a; state = n; page = d; is = refl; ruled = r; words = s; devices = t; byte = l }
+  settled-sound _ (kept a n d l r s t) = record { answer = a; state = n; page = d; is = refl; ruled = r; words = s; devices = t; listed = l }
   settled-sound _ (failed n a b) =
       record {
         answer = n;
@@ -258,7 +257,7 @@ module _ (T : Table) (acc : Accepted T) (inner : scoped T ≡ true) (L : PlaceLa
         ruled = fail-rule T acc L m n rm a b;
         words = update-small m failureAt n ms (omega arith);
         devices = ps;
-        byte = omega arith;
+        listed = failure a b;
       }
 
   sound-step : Sound T (step T m page p)

@@ -1,5 +1,5 @@
 -- Lists of run calls: the steps of a run are threaded, none is stuck, and what is told depends on what is asked alone. Assumes nothing.
-use Prim.Native.Nat.{ℕ, suc, _≤_, _<_}
+use Prim.Native.Nat.{ℕ, zero, suc, _≤_}
 use mathlib.Core.Path.{_≡_, refl, sym, ap, _∙_}
 use mathlib.Core.Bool.{Bool, true, false}
 use mathlib.Core.List.{List, [], _∷_, _++_}
@@ -12,10 +12,11 @@ use Rattle.basics.proofs.Bools.{both-l, both-r, no-true}
 use Rattle.words.specs.Memory.{Bytes}
 use Rattle.table.specs.Table.{Table, tableOf}
 use Rattle.machine.specs.Memory.{Memory, memoryOf, bytesOf}
-use Rattle.machine.specs.Step.{done, step}
+use Rattle.machine.specs.Step.{Step, done, step}
 use Rattle.machine.specs.Run.{Run, ran, onDone, before, run, begin}
 use Rattle.machine.specs.Rule.{rule}
 use Rattle.machine.specs.Public.{Called, called, refusal, finished, runLengths, beginRefusal, beginCall, runRefusal, runCall}
+use Rattle.sound.specs.Claims.{Listed}
 use Rattle.sound.specs.Reached.{Reached, Page, StepLaws, BeginLaw}
 use Rattle.sound.specs.Histories.{Seen, stateBytes, pageBytes, seen, trace, asked, told, processes, answers, finally, Threaded, Seeing, devicesAfter, Every, begunResult, begunState, result, stateLeft, pageLeft, answersLeft, Ask, callOf, refused, stepsOf, orderOf, writtenOf, history, order, written, Served, Devices, Handed, stateAfter, Fits, Calls, begunWith}
 use Rattle.sound.proofs.HistoriesSized.{step-sized}
@@ -25,6 +26,21 @@ use Rattle.sound.proofs.HistoriesBytes.{bytes-memory, memory-bytes, len
 unfoldable pub feed : Table → List ℕ → List (ℕ × List ℕ) → List (ℕ × List ℕ × List ℕ)
 feed T s [] = []
 feed T s (x ∷ xs) = onDone (step T (memoryOf s) (memoryOf (x .1)) (x .0)) [] λ a m d. (a, stateBytes m, pageBytes d) ∷ feed T (stateBytes m) xs
+
+-- the first n told come from the first n asked
+feed-onward : (n : ℕ) (r : Step) (f g : List ℕ → List (ℕ × List ℕ × List ℕ)) → ((s : List ℕ) → take n (f s) ≡ g s)
+    → take (suc n) (onDone r [] λ a m d. (a, stateBytes m, pageBytes d) ∷ f (stateBytes m))
+    ≡ onDone r [] λ a m d. (a, stateBytes m, pageBytes d) ∷ g (stateBytes m)
+unfolding onDone
+feed-onward n (done a m d) f g h = ap (λ (l : List (ℕ × List ℕ × List ℕ)). (a, stateBytes m, pageBytes d) ∷ l) (h (stateBytes m))
+feed-onward n Step.stuck f g h = refl
+
+feed-take : (T : Table) (s : List ℕ) (n : ℕ) (xs : List (ℕ × List ℕ)) → take n (feed T s xs) ≡ feed T s (take n xs)
+unfolding feed
+feed-take T s zero xs = refl
+feed-take T s (suc n) [] = refl
+feed-take T s (suc n) (x ∷ xs) =
+    feed-onward n (step T (memoryOf s) (memoryOf (x .1)) (x .0)) (λ u. feed T u xs) (λ u. feed T u (take n xs)) (λ u. feed-take T u n xs)
 
 -- the bytes of a state that steps reach, and of a page
 pub state-memory : (T : Table) (m : Memory) → Reached T m → memoryOf (stateBytes m) ≡ m
@@ -88,7 +104,7 @@ pub record StepOf (T : Table) (e : Seen) : Type 0 where
   pub devices : Page (memoryOf (e .given))
   pub is : step T (memoryOf (e .before)) (memoryOf (e .given)) (e .process) ≡ done (e .answer) (memoryOf (e .after)) (memoryOf (e .left))
   pub reached : Reached T (memoryOf (e .after))
-  pub byte : e .answer < 256
+  pub listed : Listed (e .answer)
 
 module _ (T : Table) (m page : Memory) (p : ℕ) (a : ℕ) (s d : Memory) (e : step T m page p ≡ done a s d) where
   trace-done : (q : List ℕ) → trace T (p ∷ q) m page ≡ seen p m page a s d ∷ trace T q s d
@@ -104,17 +120,17 @@ module _ (T : Table) (m page : Memory) (p : ℕ) (a : ℕ) (s d : Memory) (e : s
     unfolding told asked feed onDone seen
     feed-done r k = rw (state-memory T m h, page-memory page g, e, k)
 
-    step-of : a < 256 → StepOf T (seen p m page a s d)
+    step-of : Listed a → StepOf T (seen p m page a s d)
     unfolding seen
     step-of b = record {
       start = rw (state-memory T m h) h;
       devices = rw (page-memory page g) g;
       is = rw (state-memory T m h, page-memory page g, state-memory T s h', page-memory d g') e;
       reached = rw (state-memory T s h') h';
-      byte = b;
+      listed = b;
     }
 
-    one-step : a < 256 → Course T (StepOf T) (stateBytes m) (stateBytes s) (seen p m page a s d ∷ [])
+    one-step : Listed a → Course T (StepOf T) (stateBytes m) (stateBytes s) (seen p m page a s d ∷ [])
     unfolding Threaded Every finally seen
     one-step b = record {
       threaded = (refl, tt);
@@ -157,7 +173,7 @@ module _ (T : Table) (laws : StepLaws T) where
   }
 
   traced-more : (p : ℕ) (q : List ℕ) (m page : Memory) → Reached T m → Page page → (a : ℕ) (s d : Memory) → step T m page p ≡ done a s d
-      → a < 256 → Reached T s → Page d → Traced T q s d → Traced T (p ∷ q) m page
+      → Listed a → Reached T s → Page d → Traced T q s d → Traced T (p ∷ q) m page
   unfolding before processes answers seen Seeing devicesAfter
   traced-more p q m page h g a s d e b h' g' t = record {
     given = a ∷ t .given;
@@ -182,7 +198,7 @@ module _ (T : Table) (laws : StepLaws T) where
       let z = step-sized T m page p (h .sized) (g .sized) (u .answer) (u .state) (u .page) (u .is) in
       let h' : Reached T (u .state) = record { ruled = u .ruled; words = u .words; sized = z .state } in
       let g' : Page (u .page) = record { words = u .devices; sized = z .page } in
-      traced-more p q m page h g (u .answer) (u .state) (u .page) (u .is) (u .byte) h' g' (traced q (u .state) (u .page) h' g')
+      traced-more p q m page h g (u .answer) (u .state) (u .page) (u .is) (u .listed) h' g' (traced q (u .state) (u .page) h' g')
 
 -- ---- calls
 
@@ -191,17 +207,12 @@ module _ (s d out : List ℕ) where
   shape : Bool → ℕ → Run → Called
   shape b n r = pick b (finished r (called 10 s d out) out) (called n s d out)
 
-  shape-refused : (b : Bool) (n : ℕ) (r : Run) → pick (eqb (result (shape b n r)) 0) false true ≡ true → stateLeft (shape b n r) ≡ s
-  unfolding shape finished result stateLeft
+  shape-refused : (b : Bool) (n : ℕ) (r : Run) → pick (eqb (result (shape b n r)) 0) false true ≡ true
+      → shape b n r ≡ called (result (shape b n r)) s d out
+  unfolding shape finished result
   shape-refused true n (ran l m page) e = no-true e
   shape-refused true n Run.stuck e = refl
   shape-refused false n r e = refl
-
-  shape-page : (b : Bool) (n : ℕ) (r : Run) → pick (eqb (result (shape b n r)) 0) false true ≡ true → pageLeft (shape b n r) ≡ d
-  unfolding shape finished result pageLeft
-  shape-page true n (ran l m page) e = no-true e
-  shape-page true n Run.stuck e = refl
-  shape-page false n r e = refl
 
   shape-open : (b : Bool) (n : ℕ) (r : Run) → eqb n 0 ≡ b → pick (eqb (result (shape b n r)) 0) false true ≡ false → b ≡ true
   unfolding shape finished result
@@ -235,15 +246,20 @@ pub at-memory : (T : Table) (s : List ℕ) → At T s → Reached T (memoryOf s)
 at-memory T s h = rw (h .is, state-memory T (h .memory) (h .reached)) (h .reached)
 
 module _ (verdict : List ℕ → ℕ) where
-  refused-same : (s : List ℕ) (x : Ask) → refused verdict s x ≡ true → stateLeft (callOf verdict s x) ≡ s
+  -- a refused call leaves what it was lent
+  pub refused-call : (s : List ℕ) (x : Ask) → refused verdict s x ≡ true → callOf verdict s x ≡ called (result (callOf verdict s x)) s (x .page) (x .answers)
   unfolding refused callOf runCall shape
-  refused-same s x e = shape-refused s (x .page) (x .answers) (eqb (runRefusal verdict (x .table) s (x .page) (x .schedule) (x .answers)) 0) (runRefusal verdict (x .table) s (x .page) (x .schedule) (x .answers)) (run (tableOf 1 (x .table)) (x .schedule) (memoryOf s) (memoryOf (x .page))) e
+  refused-call s x e = shape-refused s (x .page) (x .answers) (eqb (runRefusal verdict (x .table) s (x .page) (x .schedule) (x .answers)) 0) (runRefusal verdict (x .table) s (x .page) (x .schedule) (x .answers)) (run (tableOf 1 (x .table)) (x .schedule) (memoryOf s) (memoryOf (x .page))) e
 
-  refused-page : (s : List ℕ) (x : Ask) → refused verdict s x ≡ true → pageLeft (callOf verdict s x) ≡ x .page
-  unfolding refused callOf runCall shape
-  refused-page s x e = shape-page s (x .page) (x .answers) (eqb (runRefusal verdict (x .table) s (x .page) (x .schedule) (x .answers)) 0) (runRefusal verdict (x .table) s (x .page) (x .schedule) (x .answers)) (run (tableOf 1 (x .table)) (x .schedule) (memoryOf s) (memoryOf (x .page))) e
+  pub refused-same : (s : List ℕ) (x : Ask) → refused verdict s x ≡ true → stateLeft (callOf verdict s x) ≡ s
+  unfolding stateLeft
+  refused-same s x e = ap stateLeft (refused-call s x e)
 
-  open-zero : (s : List ℕ) (x : Ask) → refused verdict s x ≡ false → eqb (runRefusal verdict (x .table) s (x .page) (x .schedule) (x .answers)) 0 ≡ true
+  pub refused-page : (s : List ℕ) (x : Ask) → refused verdict s x ≡ true → pageLeft (callOf verdict s x) ≡ x .page
+  unfolding pageLeft
+  refused-page s x e = ap pageLeft (refused-call s x e)
+
+  pub open-zero : (s : List ℕ) (x : Ask) → refused verdict s x ≡ false → eqb (runRefusal verdict (x .table) s (x .page) (x .schedule) (x .answers)) 0 ≡ true
   unfolding refused callOf runCall shape
   open-zero s x e = shape-open s (x .page) (x .answers) (eqb (runRefusal verdict (x .table) s (x .page) (x .schedule) (x .answers)) 0) (runRefusal verdict (x .table) s (x .page) (x .schedule) (x .answers)) (run (tableOf 1 (x .table)) (x .schedule) (memoryOf s) (memoryOf (x .page))) refl e
 
@@ -255,7 +271,7 @@ module _ (verdict : List ℕ → ℕ) where
       record { pages = eqb-true _ _ (both-l _ _ r); room = leb-true _ _ (both-r _ _ r) }
 
   -- a call that is not refused comes to its run
-  open-call : (s : List ℕ) (x : Ask) (l : List ℕ) (m d : Memory) → refused verdict s x ≡ false → run (tableOf 1 (x .table)) (x .schedule) (memoryOf s) (memoryOf (x .page)) ≡ ran l m d
+  pub open-call : (s : List ℕ) (x : Ask) (l : List ℕ) (m d : Memory) → refused verdict s x ≡ false → run (tableOf 1 (x .table)) (x .schedule) (memoryOf s) (memoryOf (x .page)) ≡ ran l m d
       → callOf verdict s x ≡ called 0 (stateBytes m) (pageBytes d) (l ++ drop (length l) (x .answers))
   unfolding callOf runCall finished stateBytes pageBytes
   open-call s x l m d e k = rw (open-zero s x e, k)
@@ -339,13 +355,14 @@ module _ (verdict : List ℕ → ℕ) where
         record {
           seeing = rw (e, k, back) (rw same at (r .seeing));
           left = rw (c, e, k, back) (sym (rw same at (r .leaving)));
+          state = sym (call-run s x m i h e k g .course .last);
         }
 
     call-devices : (s : List ℕ) (x : Ask) → At (tableOf 1 t) s → Fits verdict t s x → Devices verdict s x
     unfolding stepsOf Seeing devicesAfter
     call-devices s x h f =
         cases (refused verdict s x)
-        (λ e. record { seeing = rw e tt; left = rw (e, refused-page s x e) })
+        (λ e. record { seeing = rw e tt; left = rw (e, refused-page s x e); state = sym (call-refused s x h e .course .last) })
         (λ e.
         let l = open-lengths s x e .pages in
         run-devices s x (h .memory) (h .is) (h .reached) e (f .same e)
@@ -387,13 +404,16 @@ module _ (verdict : List ℕ → ℕ) where
     served s (x ∷ xs) v h c =
         (λ e p l. call-served s x h v (c .0 .bytes) e p l, served (stateLeft (callOf verdict s x)) xs v (call-follows s x h (c .0) .next) (c .1))
 
-    -- AGREEMENT: two lists of calls from one state of which the same is asked tell the same, wherever the calls begin and end
-    pub same-told : (s : List ℕ) (xs ys : List Ask) → At (tableOf 1 t) s → Calls verdict t s xs → Calls verdict t s ys
-        → asked (history verdict s xs) ≡ asked (history verdict s ys) → told (history verdict s xs) ≡ told (history verdict s ys)
-    same-told s xs ys h c k e =
-        told-feed (tableOf 1 t) (StepOf (tableOf 1 t)) _ _ _ (follows s xs h c .course)
-        ∙ ap (feed (tableOf 1 t) s) e
-        ∙ sym (told-feed (tableOf 1 t) (StepOf (tableOf 1 t)) _ _ _ (follows s ys h k .course))
+    -- AGREEMENT: two lists of calls from one state of which the same is asked up to a step tell the same up to it, wherever the calls
+    -- begin and end
+    pub same-told : (s : List ℕ) (xs ys : List Ask) → At (tableOf 1 t) s → Calls verdict t s xs → Calls verdict t s ys → (n : ℕ)
+        → take n (asked (history verdict s xs)) ≡ take n (asked (history verdict s ys)) → take n (told (history verdict s xs)) ≡ take n (told (history verdict s ys))
+    same-told s xs ys h c k n e = up-to xs c ∙ ap (feed (tableOf 1 t) s) e ∙ sym (up-to ys k)
+      where
+        up-to : (zs : List Ask) → Calls verdict t s zs → take n (told (history verdict s zs)) ≡ feed (tableOf 1 t) s (take n (asked (history verdict s zs)))
+        up-to zs u =
+            ap (take n) (told-feed (tableOf 1 t) (StepOf (tableOf 1 t)) _ _ _ (follows s zs h u .course))
+            ∙ feed-take (tableOf 1 t) s n (asked (history verdict s zs))
 
     -- begin
     pub begun-at : (slice : List ℕ) → BeginLaw (tableOf 1 t) → begunResult (beginCall verdict t slice) ≡ 0 → begunWith verdict t slice ≡ stateBytes (begin (tableOf 1 t))

@@ -1,3 +1,4 @@
+pub mod CutsAgree
 pub mod Demand
 pub mod Evaluation
 pub mod EvaluationArguments
@@ -25,12 +26,14 @@ pub mod OpenCallsEntered
 pub mod OpenCallsKept
 pub mod OpenCallsListed
 pub mod OpenCallsRecords
+pub mod RefusalsHold
 pub mod Rows
 pub mod RowsListed
 pub mod RowsNodes
 pub mod RowsOutcomes
 pub mod RowsStatements
 pub mod Ruled
+pub mod StateRuleHolds
 pub mod Steps
 pub mod StepsBegin
 pub mod StepsDemand

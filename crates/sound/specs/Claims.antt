@@ -67,6 +67,11 @@ pub data Good (T : Table) (m : Memory) (p τ : ℕ) : Outcome Operand → Type 0
 pub record Small (m : Memory) : Type 0 where
   pub small : (i : ℕ) → m i < 65536
 
+-- a number of the rows of 'Step answers' (01): 0 to 3, or that of a failure, 16 to 24
+pub data Listed (n : ℕ) : Type 0 where
+  regular : n ≤ 3 → Listed n
+  failure : 16 ≤ n → n ≤ 24 → Listed n
+
 -- a step that is carried out, and what it leaves
 pub record Sound (T : Table) (s : Step) : Type 0 where
   pub answer : ℕ
@@ -76,4 +81,4 @@ pub record Sound (T : Table) (s : Step) : Type 0 where
   pub ruled : rule T state ≡ true
   pub words : Small state
   pub devices : Small page
-  pub byte : answer < 256
+  pub listed : Listed answer

@@ -1,12 +1,16 @@
 -- Demand 3, one statement about a begin and a list of run calls (01, A run, for demand 3; Agreement). Assumes nothing.
 use Prim.Native.Nat.{ℕ, _+_, _<_}
 use mathlib.Core.Path.{_≡_}
+use mathlib.Core.Bool.{true}
 use mathlib.Core.List.{List, [], _++_}
+use lib.ListN.{take}
 use Rattle.table.specs.Table.{Table, tableOf}
 use Rattle.machine.specs.Memory.{memoryOf}
 use Rattle.machine.specs.Layout.{moduleAt, createdAt, failureAt}
 use Rattle.machine.specs.Step.{done, step}
+use Rattle.machine.specs.Rule.{rule}
 use Rattle.sound.specs.Histories.{Seen, asked, told, processes, answers, finally, Threaded, Every, Lasting, order, written, Served, Handed, stateAfter, History, first, steps}
+use Rattle.sound.specs.Claims.{Listed}
 use Rattle.sound.specs.InUse.{ValuesHold}
 use Rattle.sound.specs.Bindings.{BindingsKept}
 use Rattle.sound.specs.Created.{creations, ProcessesKept, CreatedKept}
@@ -17,6 +21,9 @@ use Rattle.sound.specs.Rows.{Row, RowsHold, SameFailure}
 pub record StepHolds (T : Table) (e : Seen) : Type 0 where
   -- it is not stuck: the written step gives this answer, state and device words
   pub is : step T (memoryOf (e .before)) (memoryOf (e .given)) (e .process) ≡ done (e .answer) (memoryOf (e .after)) (memoryOf (e .left))
+  -- its answer is a listed number, and the state after it meets the state rule
+  pub listed : Listed (e .answer)
+  pub ruled : rule T (memoryOf (e .after)) ≡ true
   -- after it every variable in use holds a value of its type, and every var parameter is bound to one that does
   pub values : ValuesHold T (memoryOf (e .after))
   -- it leaves every var parameter of a call that has not ended bound to what its argument selected
@@ -65,7 +72,9 @@ module _ (verdict : List ℕ → ℕ) where
     pub unended : (es fs : List Seen) → es ++ fs ≡ steps verdict h
         → (p : ℕ) → openCalls (memoryOf (finally (first verdict h) es)) p ≡ callsMade (tableOf 1 (h .table)) p [] es
     -- the variables of calls in use are those of these calls
-    pub listed : (es fs : List Seen) → es ++ fs ≡ steps verdict h → CallsListed (tableOf 1 (h .table)) (memoryOf (finally (first verdict h) es))
-    -- a run begun alike that names the same order and sees the same device words gives the same answers, states and device words,
-    -- wherever the calls of the two begin and end
-    pub agrees : (k : History verdict) → k .table ≡ h .table → asked (steps verdict k) ≡ asked (steps verdict h) → told (steps verdict k) ≡ told (steps verdict h)
+    pub callsListed : (es fs : List Seen) → es ++ fs ≡ steps verdict h → CallsListed (tableOf 1 (h .table)) (memoryOf (finally (first verdict h) es))
+    -- a run begun alike begins with the same state; as far as it names the same order and sees the same device words, it gives the same
+    -- answers, states and device words, wherever the calls of the two begin and end (of a host that cuts its calls: Cuts)
+    pub alike : (k : History verdict) → k .table ≡ h .table → first verdict k ≡ first verdict h
+    pub agrees : (k : History verdict) → k .table ≡ h .table → (n : ℕ) → take n (asked (steps verdict k)) ≡ take n (asked (steps verdict h))
+        → take n (told (steps verdict k)) ≡ take n (told (steps verdict h))

@@ -157,10 +157,12 @@ module _ (verdict : List ℕ → ℕ) where
   Served t s (x ∷ xs) =
       (x .table ≡ t → length (x .page) ≡ 8192 → length (x .schedule) ≤ length (x .answers) → refused s x ≡ false) × Served t (stateLeft (callOf s x)) xs
 
-  -- the first step of a call sees the device words handed over, each other those that the last one left; the call leaves those of its last step
+  -- the first step of a call sees the device words handed over, each other those that the last one left; the call leaves those of its last
+  -- step, and its state
   pub record Devices (s : List ℕ) (x : Ask) : Type 0 where
     pub seeing : Seeing (x .page) (stepsOf s x)
     pub left : pageLeft (callOf s x) ≡ devicesAfter (x .page) (stepsOf s x)
+    pub state : stateLeft (callOf s x) ≡ finally s (stepsOf s x)
 
   unfoldable pub Handed : List ℕ → List Ask → Type 0
   Handed s [] = Unit

@@ -10,4 +10,7 @@ pub mod Carried
 pub mod Rows
 pub mod OpenCalls
 pub mod Created
+pub mod Cuts
 pub mod Demand
+pub mod Refusals
+pub mod StateRule

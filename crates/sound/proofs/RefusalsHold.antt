@@ -1,0 +1,221 @@
+-- Results and refusals of the calls, for every input of bytes (01, Verdicts and other refusals). Assumes nothing.
+use Prim.Native.Nat.{ℕ, _+_, _≤_, _<_}
+use mathlib.Core.Path.{_≡_, refl, sym, ap, _∙_}
+use mathlib.Core.Bool.{Bool, true, false}
+use mathlib.Core.Logic.{_↔_}
+use mathlib.Core.List.{List, _++_}
+use native.Mathlib.Omega.{arith}
+use lib.ListN.{length, drop}
+use lib.Dec.{eqb}
+use borrow.Author.Tests.{eq-eqb, ne-eqb, eqb-true, eqb-false}
+use Rattle.basics.specs.Choice.{pick, cases}
+use Rattle.basics.proofs.Bools.{no-true}
+use Rattle.words.specs.Memory.{Bytes}
+use Rattle.table.specs.Table.{Table, tableOf}
+use Rattle.table.specs.Bytes.{whole}
+use Rattle.entries.specs.Known.{known}
+use Rattle.numbers.specs.Ranges.{inRange}
+use Rattle.uses.specs.Uses.{usedOnce}
+use Rattle.nesting.specs.Nest.{nested}
+use Rattle.sizes.specs.Sizes.{sized}
+use Rattle.scopes.specs.Scopes.{scoped}
+use Rattle.typing.specs.Typing.{typed}
+use Rattle.verdict.specs.Verdict.{judgedLate, judgedUses, judged, verdict}
+use Rattle.verdict.proofs.Promise.{promise}
+use Rattle.machine.specs.Memory.{memoryOf}
+use Rattle.machine.specs.Public.{refusal, look, called, finished, beginRefusal, beginCall, runRefusal, runCall, lookRefusal, lookCall}
+use Rattle.machine.proofs.Calling.{refused-none, refuses-none, begin-refused, run-refused, run-lengths, run-accepted, run-ruled}
+use Rattle.sound.specs.Histories.{stateBytes, pageBytes, begunResult, result}
+use Rattle.sound.specs.Refusals.{Checked, accepts, refuses, AllRight, Lowest, BeginResult, returned, RunResult, sees, looked, LookResult, Results}
+use Rattle.sound.proofs.Histories.{Traced, traced}
+use Rattle.sound.proofs.HistoriesBegin.{word-table}
+use Rattle.sound.proofs.HistoriesBytes.{memory-small, memory-sized}
+use Rattle.sound.proofs.Steps.{step-laws}
+
+-- ---- the numbers that check gives
+
+pick-checked : (b : Bool) (v n : ℕ) → 2 ≤ n → n ≤ 9 → Checked v → Checked (pick b v n)
+pick-checked true v n l h c = c
+pick-checked false v n l h c = refuses l h
+
+judged-checked : (T : Table) → Checked (judged T)
+unfolding judged judgedUses judgedLate
+judged-checked T =
+    pick-checked (known T) _ 3 (omega arith) (omega arith)
+    (pick-checked (inRange T) _ 4 (omega arith) (omega arith)
+    (pick-checked (usedOnce T) _ 5 (omega arith) (omega arith)
+    (pick-checked (nested T) _ 6 (omega arith) (omega arith)
+    (pick-checked (sized T) _ 7 (omega arith) (omega arith)
+    (pick-checked (scoped T) _ 8 (omega arith) (omega arith)
+    (pick-checked (typed T) _ 9 (omega arith) (omega arith)
+    (accepts refl)))))))
+
+verdict-checked : (t : List ℕ) → Checked (verdict 1 t)
+unfolding verdict
+verdict-checked t = pick-checked (whole 1 t) _ 2 (omega arith) (omega arith) (judged-checked (tableOf 1 t))
+
+-- ---- the rows
+
+-- why a call returns r
+data Reason (lengths : Bool) (v : ℕ) (state : Bool) (r : ℕ) : Type 0 where
+  badLength : lengths ≡ false → r ≡ 1 → Reason lengths v state r
+  badTable : lengths ≡ true → 2 ≤ v → v ≤ 9 → r ≡ v → Reason lengths v state r
+  badState : lengths ≡ true → v ≡ 0 → state ≡ false → r ≡ 10 → Reason lengths v state r
+  none : AllRight lengths v state → ((n : ℕ) → 1 ≤ n → n ≤ 10 → r ≡ n → ⊥) → Reason lengths v state r
+
+reason-of : (lengths : Bool) (v : ℕ) (state : Bool) → Checked v → Reason lengths v state (refusal lengths v state)
+unfolding refusal
+reason-of false v s c = badLength refl refl
+reason-of true v s (refuses a b) = let n : v ≡ 0 → ⊥ = λ z. omega arith in badTable refl a b (rw (ne-eqb v 0 n))
+reason-of true v false (accepts z) = badState refl z refl (rw (eq-eqb v 0 z))
+reason-of true v true (accepts z) = none (refl, (z, refl)) (λ n a b e. let q : 0 ≡ n = rw (eq-eqb v 0 z) at e in omega arith)
+
+lowest-of : (lengths : Bool) (v : ℕ) (state : Bool) (r : ℕ) → Reason lengths v state r → Lowest lengths v state r
+lowest-of l v s r (badLength e q) = record {
+  one = (λ z. e, λ z. q);
+  table = λ n a b. (λ z. absurd (omega arith), λ h. no-true (sym e ∙ h .0));
+  ten = (λ z. absurd (omega arith), λ h. no-true (sym e ∙ h .0));
+}
+lowest-of l v s r (badTable e a b q) = record {
+  one = (λ z. absurd (omega arith), λ z. no-true (sym z ∙ e));
+  table = λ n c d. (λ z. (e, sym q ∙ z), λ h. q ∙ h .1);
+  ten = (λ z. absurd (omega arith), λ h. let k = h .1 .0 in absurd (omega arith));
+}
+lowest-of l v s r (badState e w f q) = record {
+  one = (λ z. absurd (omega arith), λ z. no-true (sym z ∙ e));
+  table = λ n c d. (λ z. absurd (omega arith), λ h. let k = h .1 in absurd (omega arith));
+  ten = (λ z. (e, (w, f)), λ h. q);
+}
+lowest-of l v s r (none k f) = record {
+  one = (λ z. absurd (f 1 (omega arith) (omega arith) z), λ z. no-true (sym z ∙ k .0));
+  table = λ n c d. (λ z. absurd (f n (omega arith) (omega arith) z), λ h. let w = k .1 .0 in let u = h .1 in absurd (omega arith));
+  ten = (λ z. absurd (f 10 (omega arith) (omega arith) z), λ h. no-true (sym (h .1 .1) ∙ k .1 .1));
+}
+
+success-of : (lengths : Bool) (v : ℕ) (state : Bool) → (refusal lengths v state ≡ 0) ↔ AllRight lengths v state
+success-of l v s = (λ e. refused-none l v s e, λ h. refuses-none l v s (h .0) (h .1 .0) (h .1 .1))
+
+-- ---- begin
+
+module _ (table state : List ℕ) where
+  begin-refusal : beginRefusal (verdict 1) table state ≡ refusal (eqb (length state) 35328) (verdict 1 table) true
+  unfolding beginRefusal refusal
+  begin-refusal = ap (λ (v : ℕ). pick (eqb (length state) 35328) v 1) (unruled (verdict 1 table))
+    where
+      unruled : (v : ℕ) → v ≡ pick (eqb v 0) 0 v
+      unruled v = cases (eqb v 0) (λ e. rw e (eqb-true v 0 e)) (λ e. rw e)
+
+  begin-is : begunResult (beginCall (verdict 1) table state) ≡ beginRefusal (verdict 1) table state
+  unfolding beginCall begunResult
+  begin-is = cases (eqb (beginRefusal (verdict 1) table state) 0) (λ e. rw e (sym (eqb-true _ 0 e))) (λ e. rw e)
+
+  begin-result : BeginResult (verdict 1) table state
+  begin-result =
+      let e : begunResult (beginCall (verdict 1) table state) ≡ refusal (eqb (length state) 35328) (verdict 1 table) true = begin-is ∙ begin-refusal in
+      record {
+        is = begin-is;
+        lowest = rw e (lowest-of _ _ _ _ (reason-of _ _ _ (verdict-checked table)));
+        success = rw e (success-of _ _ _);
+        unchanged = λ n. rw (begin-is) (begin-refused (verdict 1) table state (λ z. n (begin-is ∙ z)));
+      }
+
+-- ---- run
+
+module _ (table state page schedule answers : List ℕ) (bt : Bytes table) (bs : Bytes state) (bp : Bytes page) where
+  -- a call that is not refused is not stuck
+  pub open-traced : runRefusal (verdict 1) table state page schedule answers ≡ 0 → Traced (tableOf 1 table) schedule (memoryOf state) (memoryOf page)
+  open-traced e =
+      let v = run-accepted (verdict 1) table state page schedule answers e in
+      let l = run-lengths (verdict 1) table state page schedule answers e in
+      traced (tableOf 1 table) (step-laws (tableOf 1 table) (promise 1 table v) (word-table 1 table bt)) schedule (memoryOf state) (memoryOf page)
+      (record { ruled = run-ruled (verdict 1) table state page schedule answers e; words = memory-small state bs; sized = memory-sized state 17664 (l .0) })
+      (record { words = memory-small page bp; sized = memory-sized page 4096 (l .1 .0) })
+
+  pub open-run : (e : runRefusal (verdict 1) table state page schedule answers ≡ 0)
+      → runCall (verdict 1) table state page schedule answers
+      ≡ called 0 (stateBytes (open-traced e .state)) (pageBytes (open-traced e .devices)) (open-traced e .given ++ drop (length (open-traced e .given)) answers)
+  unfolding runCall finished stateBytes pageBytes
+  open-run e = rw (eq-eqb _ 0 e, open-traced e .is)
+
+  run-is : returned (verdict 1) table state page schedule answers ≡ runRefusal (verdict 1) table state page schedule answers
+  unfolding result
+  run-is =
+      cases (eqb (runRefusal (verdict 1) table state page schedule answers) 0)
+      (λ e. ap result (open-run (eqb-true _ 0 e)) ∙ sym (eqb-true _ 0 e))
+      (λ e. ap result (run-refused (verdict 1) table state page schedule answers (eqb-false _ 0 e)))
+
+  run-result : RunResult (verdict 1) table state page schedule answers
+  unfolding runRefusal
+  run-result = record {
+    is = run-is;
+    lowest = rw run-is (lowest-of _ _ _ _ (reason-of _ _ _ (verdict-checked table)));
+    success = rw run-is (success-of _ _ _);
+    unchanged = λ n. rw run-is (run-refused (verdict 1) table state page schedule answers (λ z. n (run-is ∙ z)));
+  }
+
+-- ---- look
+
+refusal-most : (lengths : Bool) (v : ℕ) (state : Bool) → Checked v → refusal lengths v state ≤ 10
+unfolding refusal
+refusal-most false v s c = omega arith
+refusal-most true v s (refuses a b) = let n : v ≡ 0 → ⊥ = λ z. omega arith in rw (ne-eqb v 0 n) (omega arith)
+refusal-most true v false (accepts z) = rw (eq-eqb v 0 z) (omega arith)
+refusal-most true v true (accepts z) = rw (eq-eqb v 0 z) (omega arith)
+
+-- what look gives: a refusal, 11, or a word
+data Looks (right : ℕ) (seen : Bool) (r : ℕ) : Type 0 where
+  turnedDown : (right ≡ 0 → ⊥) → r ≡ right → Looks right seen r
+  sees-none : right ≡ 0 → seen ≡ false → r ≡ 11 → Looks right seen r
+  sees-word : right ≡ 0 → seen ≡ true → 65536 ≤ r → r < 131072 → Looks right seen r
+
+module _ (table state : List ℕ) (process variable place : ℕ) (bs : Bytes state) where
+  looks-seen : (right seen : Bool) (n w : ℕ) → w < 65536 → eqb n 0 ≡ right → Looks n seen (pick right (pick seen (65536 + w) 11) n)
+  looks-seen false seen n w l e = turnedDown (eqb-false n 0 e) refl
+  looks-seen true false n w l e = sees-none (eqb-true n 0 e) refl refl
+  looks-seen true true n w l e = sees-word (eqb-true n 0 e) refl (omega arith) (omega arith)
+
+  looks : Looks (lookRefusal (verdict 1) table state) (sees (verdict 1) table state process variable place) (looked (verdict 1) table state process variable place)
+  unfolding lookCall look
+  looks = looks-seen _ _ _ _ (memory-small state bs .small _) refl
+
+  module _ (right : ℕ) (l : Bool) (v : ℕ) (b : Bool) (seen : Bool) (r : ℕ) (e : right ≡ refusal l v b) (c : Checked v) where
+    most-right : right ≤ 10
+    most-right = rw e (refusal-most l v b c)
+
+    look-reason : Looks right seen r → Reason l v b r
+    look-reason (turnedDown n q) = rw (q, e) (reason-of l v b c)
+    look-reason (sees-none z f q) = none (refused-none l v b (sym e ∙ z)) (λ n x y u. omega arith)
+    look-reason (sees-word z f q h) = none (refused-none l v b (sym e ∙ z)) (λ n x y u. omega arith)
+
+    right-all : AllRight l v b → right ≡ 0
+    right-all h = e ∙ refuses-none l v b (h .0) (h .1 .0) (h .1 .1)
+
+    look-eleven : Looks right seen r → (r ≡ 11) ↔ (AllRight l v b × (seen ≡ false))
+    look-eleven (turnedDown n q) = let m = most-right in (λ z. absurd (omega arith), λ h. absurd (n (right-all (h .0))))
+    look-eleven (sees-none z f q) = (λ u. (refused-none l v b (sym e ∙ z), f), λ h. q)
+    look-eleven (sees-word z f q h) = (λ u. absurd (omega arith), λ g. no-true (sym (g .1) ∙ f))
+
+    look-success : Looks right seen r → (65536 ≤ r) ↔ (AllRight l v b × (seen ≡ true))
+    look-success (turnedDown n q) = let m = most-right in (λ z. absurd (omega arith), λ h. absurd (n (right-all (h .0))))
+    look-success (sees-none z f q) = (λ u. absurd (omega arith), λ g. no-true (sym f ∙ g .1))
+    look-success (sees-word z f q h) = (λ u. (refused-none l v b (sym e ∙ z), f), λ g. q)
+
+    look-most : Looks right seen r → r < 131072
+    look-most (turnedDown n q) = let m = most-right in omega arith
+    look-most (sees-none z f q) = omega arith
+    look-most (sees-word z f q h) = h
+
+  look-result : LookResult (verdict 1) table state process variable place
+  unfolding lookRefusal
+  look-result =
+      let c = verdict-checked table in
+      record {
+        lowest = lowest-of _ _ _ _ (look-reason _ _ _ _ _ _ refl c looks);
+        eleven = look-eleven _ _ _ _ _ _ refl c looks;
+        success = look-success _ _ _ _ _ _ refl c looks;
+        most = look-most _ _ _ _ _ _ refl c looks;
+      }
+
+-- THE THEOREM
+pub results : Results (verdict 1)
+results = record { checks = verdict-checked; begins = begin-result; runs = run-result; looks = look-result }

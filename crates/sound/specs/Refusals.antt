@@ -1,0 +1,82 @@
+-- What the result of a call says, for every input (01, Verdicts and other refusals): it is the lowest number that applies, and a refusal
+-- changes no lent byte. Check and look are lent their slices for reading only. Assumes nothing.
+use Prim.Native.Nat.{ℕ, _+_, _≤_, _<_}
+use mathlib.Core.Path.{_≡_}
+use mathlib.Core.Bool.{Bool, true, false}
+use mathlib.Core.Logic.{_↔_}
+use mathlib.Core.List.{List}
+use lib.ListN.{length}
+use lib.Dec.{eqb}
+use Rattle.words.specs.Memory.{Bytes}
+use Rattle.table.specs.Table.{tableOf}
+use Rattle.machine.specs.Memory.{memoryOf}
+use Rattle.machine.specs.Rule.{rule}
+use Rattle.machine.specs.Public.{visible, begun, called, runLengths, beginRefusal, beginCall, runRefusal, runCall, lookCall}
+use Rattle.sound.specs.Histories.{begunResult, result}
+
+-- ---- the numbers that check gives
+pub data Checked (v : ℕ) : Type 0 where
+  accepts : v ≡ 0 → Checked v
+  refuses : 2 ≤ v → v ≤ 9 → Checked v
+
+-- ---- the rows, for a result r: are the lengths right, the verdict v on the table, does the state meet its rule
+module _ (lengths : Bool) (v : ℕ) (state : Bool) where
+  -- nothing is refused
+  abbrev pub AllRight : Type 0
+  AllRight = (lengths ≡ true) × ((v ≡ 0) × (state ≡ true))
+
+  -- each of 1 to 10 is returned exactly if it applies and no lower one does
+  pub record Lowest (r : ℕ) : Type 0 where
+    pub one : (r ≡ 1) ↔ (lengths ≡ false)
+    pub table : (n : ℕ) → 2 ≤ n → n ≤ 9 → (r ≡ n) ↔ ((lengths ≡ true) × (v ≡ n))
+    pub ten : (r ≡ 10) ↔ ((lengths ≡ true) × ((v ≡ 0) × (state ≡ false)))
+
+module _ (verdict : List ℕ → ℕ) (table state : List ℕ) where
+  -- BEGIN
+  pub record BeginResult : Type 0 where
+    pub is : begunResult (beginCall verdict table state) ≡ beginRefusal verdict table state
+    pub lowest : Lowest (eqb (length state) 35328) (verdict table) true (begunResult (beginCall verdict table state))
+    pub success : (begunResult (beginCall verdict table state) ≡ 0) ↔ AllRight (eqb (length state) 35328) (verdict table) true
+    -- where it refuses, the state is as it was
+    pub unchanged : (begunResult (beginCall verdict table state) ≡ 0 → ⊥)
+        → beginCall verdict table state ≡ begun (begunResult (beginCall verdict table state)) state
+
+  -- does the state meet its rule
+  abbrev pub ruled : Bool
+  ruled = rule (tableOf 1 table) (memoryOf state)
+
+  -- RUN
+  module _ (page schedule answers : List ℕ) where
+    abbrev pub lengths : Bool
+    lengths = runLengths (length state) (length page) (length schedule) (length answers)
+
+    abbrev pub returned : ℕ
+    returned = result (runCall verdict table state page schedule answers)
+
+    pub record RunResult : Type 0 where
+      pub is : returned ≡ runRefusal verdict table state page schedule answers
+      pub lowest : Lowest lengths (verdict table) ruled returned
+      pub success : (returned ≡ 0) ↔ AllRight lengths (verdict table) ruled
+      -- where it refuses, state, page and answers are as they were
+      pub unchanged : (returned ≡ 0 → ⊥) → runCall verdict table state page schedule answers ≡ called returned state page answers
+
+  -- LOOK
+  module _ (process variable place : ℕ) where
+    abbrev pub sees : Bool
+    sees = visible (tableOf 1 table) (memoryOf state) process variable place
+
+    abbrev pub looked : ℕ
+    looked = lookCall verdict table state process variable place
+
+    pub record LookResult : Type 0 where
+      pub lowest : Lowest (eqb (length state) 35328) (verdict table) ruled looked
+      pub eleven : (looked ≡ 11) ↔ (AllRight (eqb (length state) 35328) (verdict table) ruled × (sees ≡ false))
+      pub success : (65536 ≤ looked) ↔ (AllRight (eqb (length state) 35328) (verdict table) ruled × (sees ≡ true))
+      pub most : looked < 65536 + 65536
+
+-- ALL FOUR CALLS, for every input: a table, a state and a page are bytes
+pub record Results (verdict : List ℕ → ℕ) : Type 0 where
+  pub checks : (table : List ℕ) → Checked (verdict table)
+  pub begins : (table state : List ℕ) → BeginResult verdict table state
+  pub runs : (table state page schedule answers : List ℕ) → Bytes table → Bytes state → Bytes page → RunResult verdict table state page schedule answers
+  pub looks : (table state : List ℕ) (process variable place : ℕ) → Bytes state → LookResult verdict table state process variable place
