@@ -5,6 +5,10 @@
 #include <stddef.h>
 #include <stdint.h>
 
+#ifdef __cplusplus
+extern "C" {
+#endif
+
 /* The device page: three strips of one word a frame, and the number of the frame. */
 enum {
     FRAMES_MAX = 1024,
@@ -32,5 +36,9 @@ size_t build_board(uint8_t *table, size_t room, struct board_variables *variable
 
 /* The turns of some frames: in each, the processes 1..CHIPS one after the other, TURNS times. */
 void frame_turns(uint8_t *schedule, size_t frames);
+
+#ifdef __cplusplus
+}
+#endif
 
 #endif
