@@ -39,6 +39,9 @@ target/joyce: $(LIBRARY) $(TOOL) tools/names.h tools/picture.h tools/show.h incl
 target/film: $(LIBRARY) examples/film.c examples/board.c examples/board.h examples/builder.c examples/builder.h include/joyce.h
 	$(C99) examples/film.c examples/board.c examples/builder.c $(LIBRARY) $(LDFLAGS) -o $@
 
+target/rewind: $(LIBRARY) examples/rewind.c examples/board.c examples/board.h examples/builder.c examples/builder.h include/joyce.h
+	$(C99) examples/rewind.c examples/board.c examples/builder.c $(LIBRARY) $(LDFLAGS) -o $@
+
 example: target/film
 	target/film
 
@@ -75,7 +78,7 @@ fuzz: $(LIBRARY) fuzz/calls.c fuzz/short.c include/joyce.h
 	target/inputs crates/verdicts/data/verdicts.bin 1000 target/corpus
 
 clean:
-	rm -f target/joyce target/film target/joyce.pc target/fuzz target/inputs
+	rm -f target/joyce target/film target/rewind target/joyce.pc target/fuzz target/inputs
 	rm -rf target/corpus
 
 .PHONY: all example install uninstall test fuzz clean FORCE
