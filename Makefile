@@ -31,9 +31,12 @@ $(LIBRARY): FORCE
 
 FORCE:
 
-TOOL = tools/joyce.c tools/names.c tools/picture.c tools/show.c
+TOOL = tools/joyce.c tools/tool.c tools/check.c tools/run.c tools/look.c tools/explain.c tools/show.c tools/view.c tools/text.c tools/table.c \
+	tools/labels.c tools/names.c tools/picture.c
+TOOL_HEADERS = tools/tool.h tools/check.h tools/explain.h tools/show.h tools/view.h tools/text.h tools/table.h tools/labels.h tools/names.h \
+	tools/picture.h
 
-target/joyce: $(LIBRARY) $(TOOL) tools/names.h tools/picture.h tools/show.h include/joyce.h
+target/joyce: $(LIBRARY) $(TOOL) $(TOOL_HEADERS) include/joyce.h
 	$(C99) $(TOOL) $(LIBRARY) $(LDFLAGS) -o $@
 
 target/film: $(LIBRARY) examples/film.c examples/board.c examples/board.h examples/builder.c examples/builder.h include/joyce.h
