@@ -7,6 +7,20 @@
 #include <stdio.h>
 #include <stdlib.h>
 
+/* Where a refused table is wrong: the place, the reason, and the entry in words. */
+static void print_explanation(const char *name, struct bytes table, const struct fault *fault)
+{
+    struct table sections;
+    int broken;
+    print_fault(stdout, fault);
+    if (!read_sections(&sections, table.at, table.length, &broken))
+        return;
+    struct labels *labels = labels_beside(name);
+    struct text text = {&sections, labels, stdout, 0};
+    show_place(&text, fault);
+    labels_free(labels);
+}
+
 int judge_table(const char *name, struct bytes table, struct fault *fault, bool is_accepted_said)
 {
     uint32_t verdict = joyce_check(table.at, table.length);
@@ -21,7 +35,7 @@ int judge_table(const char *name, struct bytes table, struct fault *fault, bool 
     }
     if (verdict == JOYCE_ACCEPTED)
         return DONE;
-    print_fault(stdout, fault);
+    print_explanation(name, table, fault);
     return REFUSED;
 }
 

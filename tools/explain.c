@@ -664,7 +664,7 @@ static bool do_match(const struct judge *j, int a, int b)
     return a == b || (is_string(j, a) && is_string(j, b) && elements_of(j, a) == elements_of(j, b));
 }
 
-/* A type in words: 'integer', or 'type 5, a record'. Two may be asked for in one sentence. */
+/* A type in words, after 'type': 'integer', or '5, a record'. Two may be asked for in one sentence. */
 static const char *words_of(const struct judge *j, int type)
 {
     static char words[4][40];
@@ -672,7 +672,7 @@ static const char *words_of(const struct judge *j, int type)
     if (type < DECLARED)
         return standard_name(type);
     char *into = words[turn++ % 4];
-    snprintf(into, sizeof words[0], "type %d, %s", type, kind_of(j, type) == RECORD ? "a record" : kind_of(j, type) == ARRAY ? "an array" : "a process");
+    snprintf(into, sizeof words[0], "%d, %s", type, kind_of(j, type) == RECORD ? "a record" : kind_of(j, type) == ARRAY ? "an array" : "a process");
     return into;
 }
 
@@ -870,7 +870,7 @@ void print_fault(FILE *out, const struct fault *f)
     if (f->section != SECTIONS && f->entry == NOWHERE)
         fprintf(out, ", its count");
     if (f->entry != NOWHERE)
-        fprintf(out, ", entry %d", f->entry);
+        fprintf(out, f->section == TYPES ? ", entry %d, type %d" : ", entry %d", f->entry, DECLARED + f->entry);
     if (f->field != NOWHERE)
         fprintf(out, ", field %s", field_name(f->section, f->field));
     fprintf(out, " (byte %zu): %s stands there\n  %s\n", f->byte, f->there, f->why);

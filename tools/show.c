@@ -87,7 +87,6 @@ static void show_meaning(struct text *x, int section, int entry)
 {
     if (section == FIELDS || section == VARIABLES || section == BLOCKS)
         return;
-    fputs("    ", x->out);
     switch (section) {
     case TYPES: write_type(x, DECLARED + entry); break;
     case ARGUMENTS: write_node(x, at(x, ARGUMENTS, entry, A_NODE)); break;
@@ -100,7 +99,7 @@ static void show_mark(const struct text *x, const struct fault *f, int section, 
 {
     if (!f || f->verdict == 0 || f->section != section || f->entry != entry)
         return;
-    fputs("    <-- ", x->out);
+    fputs("  <-- ", x->out);
     if (f->field != NOWHERE)
         fprintf(x->out, "%s: ", field_name(section, f->field));
     fputs(f->why, x->out);
@@ -116,9 +115,66 @@ void show_entries(struct text *x, const struct fault *fault)
         for (int entry = 0; entry < x->table->count[section]; entry++) {
             fprintf(x->out, "  %c%-3d", prefixes[section], entry + (section == TYPES ? DECLARED : 0));
             show_fields(x, section, entry);
+            fputs("    ", x->out);
             show_meaning(x, section, entry);
             show_mark(x, fault, section, entry);
             fputc('\n', x->out);
         }
     }
+}
+
+/* ---- the place of a fault */
+
+/* Does the entry of a section name the node? */
+static bool is_user(const struct text *x, int section, int entry, int node)
+{
+    int kind = at(x, section, entry, 0), first = at(x, section, entry, 1), second = at(x, section, entry, 2);
+    if (section == NODES)
+        return (kind >= FIELD && kind <= TRANSFER && first == node) || ((kind == ELEMENT || kind == BINARY) && second == node);
+    return ((kind == ASSIGN || (kind >= PROCESS_CALL && kind <= START) || kind == ARM || kind == WRITE) && first == node) ||
+           ((kind == ASSIGN || kind == WRITE) && second == node);
+}
+
+/* The call or start that takes an argument; -1 where there is none. */
+static int statement_of_argument(const struct text *x, int argument)
+{
+    for (int i = 0; i < x->table->count[STATEMENTS]; i++) {
+        int kind = at(x, STATEMENTS, i, S_KIND), first = at(x, STATEMENTS, i, S_C);
+        if ((kind == CALL || kind == PROCESS_CALL || kind == START) && argument >= first && argument < first + at(x, STATEMENTS, i, S_D))
+            return i;
+    }
+    return -1;
+}
+
+/* The statement that uses a node, directly or through others that stand after it. */
+static int statement_of_node(const struct text *x, int node)
+{
+    for (int user = node + 1; user < x->table->count[NODES]; user++)
+        if (is_user(x, NODES, user, node))
+            node = user;
+    for (int i = 0; i < x->table->count[STATEMENTS]; i++)
+        if (is_user(x, STATEMENTS, i, node))
+            return i;
+    for (int i = 0; i < x->table->count[ARGUMENTS]; i++)
+        if (at(x, ARGUMENTS, i, A_NODE) == node)
+            return statement_of_argument(x, i);
+    return -1;
+}
+
+void show_place(struct text *x, const struct fault *f)
+{
+    int statement = f->section == STATEMENTS ? f->entry : -1;
+    if (f->verdict <= 2 || f->entry == NOWHERE)
+        return;
+    if (f->section == TYPES || f->section == ARGUMENTS || f->section == NODES) {
+        fputs("  in words: ", x->out);
+        show_meaning(x, f->section, f->entry);
+        fputc('\n', x->out);
+        statement = f->section == NODES ? statement_of_node(x, f->entry) : f->section == ARGUMENTS ? statement_of_argument(x, f->entry) : -1;
+    }
+    if (statement < 0)
+        return;
+    fprintf(x->out, "  statement %d: ", statement);
+    write_statement(x, statement);
+    fputc('\n', x->out);
 }

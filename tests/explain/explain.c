@@ -1,17 +1,19 @@
 /* The explanations of refused tables, held to outside verdicts and to the library's:
  *
- *     explain VERDICTS.. -- TABLE..
+ *     explain [--show] VERDICTS.. -- TABLE..
  *
- * of the files of verdicts, every table; of the tables, which are accepted, every one with one byte changed, to each of some values. */
+ * of the files of verdicts, every table; of the tables, which are accepted, every one with one byte changed, to each of some values. --show also shows
+ * each. */
 #include "explain.h"
 #include "joyce.h"
-#include "table.h"
+#include "show.h"
 
 #include <stdbool.h>
 #include <stdio.h>
 #include <stdlib.h>
 #include <string.h>
 
+static FILE *nowhere; /* what is shown goes there: the sanitizers watch */
 static int failures;
 static long by_verdict[16];
 
@@ -38,6 +40,20 @@ static uint8_t *read_all(const char *name, size_t *length)
     return bytes;
 }
 
+/* Any table with sections can be shown. */
+static void show(const uint8_t *table, size_t length, const struct fault *fault)
+{
+    struct table sections;
+    int broken;
+    struct text text = {&sections, NULL, nowhere, 0};
+    if (!read_sections(&sections, table, length, &broken))
+        return;
+    show_entries(&text, fault);
+    show_place(&text, fault);
+    if (fault->verdict == 0)
+        show_program(&text);
+}
+
 /* The number is the verdict's; and a refused table has a place, with what stands there, and a reason. */
 static bool is_explained(const uint8_t *bytes, size_t length, uint32_t verdict)
 {
@@ -57,6 +73,8 @@ static bool is_explained(const uint8_t *bytes, size_t length, uint32_t verdict)
     if (!is_right)
         printf("    verdict %u, explained as %u: %s\n", (unsigned)verdict, (unsigned)fault.verdict, fault.why);
     by_verdict[verdict & 15]++;
+    if (is_right && nowhere)
+        show(table, length, &fault);
     free(table);
     return is_right;
 }
@@ -100,6 +118,10 @@ static void test_changed(const char *name)
 int main(int argc, char **argv)
 {
     int i = 1;
+    if (argc > 1 && strcmp(argv[1], "--show") == 0) {
+        nowhere = fopen("/dev/null", "w");
+        i = 2;
+    }
     for (; i < argc && strcmp(argv[i], "--") != 0; i++)
         test_verdicts(argv[i]);
     for (i++; i < argc; i++)
@@ -109,5 +131,7 @@ int main(int argc, char **argv)
             printf("FAIL explain/all_numbers: no table is refused with %d\n", verdict);
             failures++;
         }
+    if (nowhere)
+        fclose(nowhere);
     return failures > 0;
 }
