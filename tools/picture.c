@@ -243,7 +243,7 @@ static void draw_axis(const struct picture *p, FILE *file, int y)
                 x_of(p, step), x_of(p, step), y, y + 6, x_of(p, step), y + 22, is_last && step ? "end" : "middle",
                 (unsigned long long)(p->before + step));
     }
-    fprintf(file, "<text x=\"%d\" y=\"%d\" text-anchor=\"end\" fill=\"#616e7c\">steps</text>\n", LEFT - 22, y + 22);
+    fprintf(file, "<text x=\"%d\" y=\"%d\" text-anchor=\"end\" fill=\"#616e7c\">steps</text>\n", LEFT - 50, y + 22);
 }
 
 static void draw_failure(const struct picture *p, FILE *file, int y)
