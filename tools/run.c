@@ -259,8 +259,9 @@ static void print_place(const struct run *r, unsigned process)
     struct record record = record_of(r->state, process);
     const char *name = label_of(r->p.labels, BLOCK_LABEL, (int)record.module);
     printf("; module %u", record.module);
-    printf(name ? " (%s), " : ", ", name);
-    fputs(status[record.status], stdout);
+    if (name)
+        printf(" (%s)", name);
+    printf(", %s", status[record.status]);
     if (record.status == STARTED)
         printf(", at statement %u, in %u calls", record.statement, record.depth);
 }
@@ -294,7 +295,8 @@ static void print_device_words(const struct run *r)
         if (now == before || changed++ >= SHOWN)
             continue;
         printf("device word %d", address);
-        printf(name ? " (%s)" : "", name);
+        if (name)
+            printf(" (%s)", name);
         printf(": %d, before %d\n", joyce_integer(now), joyce_integer(before));
     }
     if (changed > SHOWN)
