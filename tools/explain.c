@@ -296,8 +296,8 @@ static bool is_operand(struct judge *j, int section, int entry, int field, bool 
     if (node >= limit)
         return blame(j, section, entry, field, "there is no such node: there are %d", count(j, NODES));
     if (is_variable_kind(at(j, NODES, node, N_KIND)) != is_variable)
-        return blame(j, section, entry, field, "%s is needed; node %d is %s", is_variable ? "a variable" : "an expression", node,
-                     is_variable ? "an expression" : "a variable");
+        return blame(j, section, entry, field, is_variable ? "a variable is needed; node %d is an expression"
+                                                           : "an expression is needed; node %d is a variable, and its value would be a node of kind 4", node);
     return true;
 }
 
