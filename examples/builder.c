@@ -157,7 +157,8 @@ int array_type(struct builder *b, int index, int element_type, int low, int high
     enter(b, "array_type");
     if (!is_between(b, index, INTEGER, CHARACTER, "type %d is no type of an index") || !is_type(b, element_type))
         return NONE;
-    if (!is_between(b, low, WORD_MIN, WORD_MAX, "the bound %d is no integer") || !is_between(b, high, WORD_MIN, WORD_MAX, "the bound %d is no integer"))
+    if (!is_between(b, low, WORD_MIN, WORD_MAX, "the bound %d is no integer") ||
+        !is_between(b, high, WORD_MIN, WORD_MAX, "the bound %d is no integer"))
         return NONE;
     return add_type(b, ARRAY, index, element_type, low, high);
 }

@@ -1,5 +1,5 @@
-/* Saving and rewinding. A save is a copy of the state and of the device page; putting both back is going back in time. What is played from there is the
- * same film again where the pad is the same, and another where it is not.
+/* Saving and rewinding. A save is a copy of the state and of the device page; putting both back is going back in time. What is played from there
+ * is the same film again where the pad is the same, and another where it is not.
  *
  * It plays the example board with a pad that goes left, saves in the middle, plays on, goes back and plays on twice more. */
 #include "board.h"

@@ -11,7 +11,8 @@ enum { NUMBERS = 4096, NAME_MAX_LENGTH = 40, FILE_MAX = 1 << 20 };
 static const struct {
     const char *word;
     int low, high;
-} kinds[LABEL_KINDS] = {{"block", 0, 254}, {"variable", 0, 254}, {"type", 3, 257}, {"field", 0, 254}, {"device", JOYCE_ADDRESS_MIN, JOYCE_ADDRESS_MAX}};
+} kinds[LABEL_KINDS] = {
+    {"block", 0, 254}, {"variable", 0, 254}, {"type", 3, 257}, {"field", 0, 254}, {"device", JOYCE_ADDRESS_MIN, JOYCE_ADDRESS_MAX}};
 
 struct labels {
     char names[LABEL_KINDS][NUMBERS][NAME_MAX_LENGTH + 1];
@@ -54,7 +55,8 @@ static void read_line(struct labels *labels, const char *file, int line, char *t
     if (kind == LABEL_KINDS)
         stop("%s:%d: %s is none of block, variable, type, field, device", file, line, word);
     if (number < kinds[kind].low || number > kinds[kind].high || (kind == DEVICE_LABEL && number % 2 != 0))
-        stop("%s:%d: %d is no number of a %s, %d..%d%s", file, line, number, word, kinds[kind].low, kinds[kind].high, kind == DEVICE_LABEL ? ", even" : "");
+        stop("%s:%d: %d is no number of a %s, %d..%d%s", file, line, number, word, kinds[kind].low, kinds[kind].high,
+             kind == DEVICE_LABEL ? ", even" : "");
     if (!is_name(name))
         stop("%s:%d: %s is no name: a letter, then letters, digits and _, at most %d", file, line, name, NAME_MAX_LENGTH);
     if (label_of(labels, (enum label_kind)kind, number))

@@ -51,7 +51,7 @@ void write_file(const char *name, const uint8_t *bytes, size_t length);
 
 /* ---- options */
 
-/* One of text, number and flag is set; min and limit are of the number. */
+/* One of text, number and flag is set; the limit is the number's. */
 struct option {
     const char *name; /* with its dashes */
     const char **text;

@@ -2,8 +2,8 @@
  *
  *     explain [--show] VERDICTS.. -- TABLE..
  *
- * of the files of verdicts, every table; of the tables, which are accepted, every one with one byte changed, to each of some values. --show also shows
- * each. */
+ * of the files of verdicts, every table; of the tables, which are accepted, every one with one byte changed, to each of some values. --show also
+ * shows each. */
 #include "explain.h"
 #include "joyce.h"
 #include "show.h"

@@ -20,7 +20,8 @@ uint32_t joyce_run(const uint8_t *table, size_t table_len, uint8_t *state, size_
     return joyce_check(table, table_len);
 }
 
-uint32_t joyce_look(const uint8_t *table, size_t table_len, const uint8_t *state, size_t state_len, uint32_t process, uint32_t variable, uint32_t place)
+uint32_t joyce_look(const uint8_t *table, size_t table_len, const uint8_t *state, size_t state_len, uint32_t process, uint32_t variable,
+                    uint32_t place)
 {
     (void)state, (void)state_len, (void)process, (void)variable, (void)place;
     return joyce_check(table, table_len);
