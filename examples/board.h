@@ -38,7 +38,7 @@ struct board_variables {
 /* The device word of a strip for a frame, any number from 0 on. */
 int strip_address(int strip, long frame);
 
-/* Writes the board's table; its length, or 0 where there is no room. */
+/* Writes the board's table; its length, or 0, and a line on standard error that says why, where it cannot. */
 size_t build_board(uint8_t *table, size_t room, struct board_variables *variables);
 
 /* The turns of some frames: in each, the processes 1..CHIPS one after the other, TURNS times. */
