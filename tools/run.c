@@ -37,6 +37,8 @@ static void read_breakpoint(struct options *o)
     process[colon - o->breakpoint] = 0;
     o->break_process = (unsigned)read_number(process, "a process", JOYCE_PROCESSES_MAX);
     o->break_statement = (unsigned)read_number(colon + 1, "a statement", 254);
+    if (o->break_process < 1)
+        stop("run: --break: processes are numbered from 1 on");
 }
 
 static struct options read_options(int count, char **words)
