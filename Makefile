@@ -31,13 +31,19 @@ $(LIBRARY): FORCE
 
 FORCE:
 
-TOOL = tools/joyce.c tools/names.c tools/picture.c tools/show.c
+TOOL = tools/joyce.c tools/tool.c tools/check.c tools/run.c tools/look.c tools/explain.c tools/explain_form.c tools/explain_numbers.c \
+	tools/explain_types.c tools/show.c tools/view.c tools/text.c tools/table.c tools/labels.c tools/names.c tools/picture.c
+TOOL_HEADERS = tools/tool.h tools/check.h tools/explain.h tools/judge.h tools/show.h tools/view.h tools/text.h tools/table.h tools/labels.h tools/names.h \
+	tools/picture.h
 
-target/joyce: $(LIBRARY) $(TOOL) tools/names.h tools/picture.h tools/show.h include/joyce.h
+target/joyce: $(LIBRARY) $(TOOL) $(TOOL_HEADERS) include/joyce.h
 	$(C99) $(TOOL) $(LIBRARY) $(LDFLAGS) -o $@
 
 target/film: $(LIBRARY) examples/film.c examples/board.c examples/board.h examples/builder.c examples/builder.h include/joyce.h
 	$(C99) examples/film.c examples/board.c examples/builder.c $(LIBRARY) $(LDFLAGS) -o $@
+
+target/rewind: $(LIBRARY) examples/rewind.c examples/board.c examples/board.h examples/builder.c examples/builder.h include/joyce.h
+	$(C99) examples/rewind.c examples/board.c examples/builder.c $(LIBRARY) $(LDFLAGS) -o $@
 
 example: target/film
 	target/film
@@ -75,7 +81,7 @@ fuzz: $(LIBRARY) fuzz/calls.c fuzz/short.c include/joyce.h
 	target/inputs crates/verdicts/data/verdicts.bin 1000 target/corpus
 
 clean:
-	rm -f target/joyce target/film target/joyce.pc target/fuzz target/inputs
+	rm -f target/joyce target/film target/rewind target/joyce.pc target/fuzz target/inputs
 	rm -rf target/corpus
 
 .PHONY: all example install uninstall test fuzz clean FORCE

@@ -1,7 +1,12 @@
 /* A board of three chips and its clock. Each chip is a module, and one process carries it out; the text that its table stands for is written
- * above it. */
+ * above it, in the report's grammar. The device addresses are constants of the whole text, in octal, for the grammar has no negative numerals:
+ *
+ *    const pads = #160000; film = #164000; sounds = #170000; clock = #174000; last = 31
+ */
 #include "board.h"
 #include "builder.h"
+
+#include <stdio.h>
 
 static struct builder b;
 
@@ -17,12 +22,15 @@ static int frame_word(void)
 }
 
 /*  process sound
- *    var tone, rest, frame: integer
- *    procedure play(pitch: integer) begin tone := pitch; rest := 3 end
+ *    var tone: integer; rest: integer; frame: integer
+ *    procedure play(pitch: integer)
+ *    begin tone := pitch; rest := 3 end
  *  begin
- *    cycle val FRAME <> frame do
- *      frame := val FRAME;
- *      if rest > 0 do write(SOUND_STRIP + 2 * frame, tone); rest := rest - 1 end
+ *    cycle val clock <> frame do
+ *      frame := val clock;
+ *      if rest > 0 do write(sounds + 2 * frame, tone); rest := rest - 1
+ *      else true do write(sounds + 2 * frame, 0)
+ *      end
  *    end
  *  end
  *
@@ -54,6 +62,8 @@ static void write_sound(const struct sound *s)
             put_write(&b, strip(SOUND_STRIP, s->frame), value(&b, s->tone));
             put_assign(&b, whole(&b, s->rest), binary(&b, '-', value(&b, s->rest), integer(&b, 1)));
         }
+        put_arm(&b, boolean(&b, true));
+        put_write(&b, strip(SOUND_STRIP, s->frame), integer(&b, 0));
         put_end(&b);
     }
     put_end(&b);
@@ -61,26 +71,29 @@ static void write_sound(const struct sound *s)
 
     begin_body(&b, s->play);
     put_assign(&b, whole(&b, s->tone), value(&b, s->pitch));
-    put_assign(&b, whole(&b, s->rest), integer(&b, 3));
+    put_assign(&b, whole(&b, s->rest), integer(&b, TONE_FRAMES));
     end_body(&b);
 }
 
 /*  process sprite(bell: sound)
- *    var column, part, frame: integer; moved: boolean
+ *    var column: integer; part: integer; frame: integer; moved: boolean
  *    procedure move(speed: integer)
  *      var path: integer
  *    begin
  *      path := part + speed;
  *      column := column + path / 256;
  *      part := path mod 256;
- *      frame := val FRAME;
+ *      if column < 0 do column := 0; part := 0
+ *      else column > last do column := last; part := 0
+ *      end;
+ *      frame := val clock;
  *      moved := true;
  *      if (column = 0) and (speed < 0) do bell.play(440) end
  *    end
  *  begin
- *    column := START_COLUMN;
+ *    column := 10;
  *    cycle moved do
- *      write(FILM_STRIP + 2 * frame, column);
+ *      write(film + 2 * frame, column);
  *      moved := false
  *    end
  *  end
@@ -104,6 +117,35 @@ static void declare_sprite(struct sprite *s, int sound_type)
     s->path = add_local(&b, s->move, INTEGER);
 }
 
+/* column := edge; part := 0, where the sprite has gone beyond the edge */
+static void write_edge(const struct sprite *s, char beyond, int edge)
+{
+    put_arm(&b, binary(&b, beyond, value(&b, s->column), integer(&b, edge)));
+    put_assign(&b, whole(&b, s->column), integer(&b, edge));
+    put_assign(&b, whole(&b, s->part), integer(&b, 0));
+}
+
+static void write_move(const struct sprite *s, const struct sound *sound)
+{
+    begin_body(&b, s->move);
+    put_assign(&b, whole(&b, s->path), binary(&b, '+', value(&b, s->part), value(&b, s->speed)));
+    put_assign(&b, whole(&b, s->column),
+               binary(&b, '+', value(&b, s->column), binary(&b, '/', value(&b, s->path), integer(&b, 256))));
+    put_assign(&b, whole(&b, s->part), binary(&b, '%', value(&b, s->path), integer(&b, 256)));
+    put_if(&b);
+    write_edge(s, '<', 0);
+    write_edge(s, '>', COLUMNS - 1);
+    put_end(&b);
+    put_assign(&b, whole(&b, s->frame), frame_word());
+    put_assign(&b, whole(&b, s->moved), boolean(&b, true));
+    put_if(&b);
+    put_arm(&b, binary(&b, '&', binary(&b, '=', value(&b, s->column), integer(&b, 0)),
+                       binary(&b, '<', value(&b, s->speed), integer(&b, 0))));
+    put_process_call(&b, whole(&b, s->bell), sound->play, 1, integer(&b, EDGE_TONE));
+    put_end(&b);
+    end_body(&b);
+}
+
 static void write_sprite(const struct sprite *s, const struct sound *sound)
 {
     begin_body(&b, s->module);
@@ -117,31 +159,19 @@ static void write_sprite(const struct sprite *s, const struct sound *sound)
     put_end(&b);
     end_body(&b);
 
-    begin_body(&b, s->move);
-    put_assign(&b, whole(&b, s->path), binary(&b, '+', value(&b, s->part), value(&b, s->speed)));
-    put_assign(&b, whole(&b, s->column),
-               binary(&b, '+', value(&b, s->column), binary(&b, '/', value(&b, s->path), integer(&b, 256))));
-    put_assign(&b, whole(&b, s->part), binary(&b, '%', value(&b, s->path), integer(&b, 256)));
-    put_assign(&b, whole(&b, s->frame), frame_word());
-    put_assign(&b, whole(&b, s->moved), boolean(&b, true));
-    put_if(&b);
-    put_arm(&b, binary(&b, '&', binary(&b, '=', value(&b, s->column), integer(&b, 0)),
-                       binary(&b, '<', value(&b, s->speed), integer(&b, 0))));
-    put_process_call(&b, whole(&b, s->bell), sound->play, 1, integer(&b, 440));
-    put_end(&b);
-    end_body(&b);
+    write_move(s, sound);
 }
 
 /*  process pad(picture: sprite)
- *    var frame, buttons: integer
+ *    var frame: integer; buttons: integer
  *  begin
  *    frame := -1;
- *    cycle val FRAME <> frame do
- *      frame := val FRAME;
- *      buttons := val(PAD_STRIP + 2 * frame);
- *      if buttons = PAD_LEFT do picture.move(-SPEED)
- *      or buttons = PAD_RIGHT do picture.move(SPEED)
- *      or true do picture.move(0)
+ *    cycle val clock <> frame do
+ *      frame := val clock;
+ *      buttons := val (pads + 2 * frame);
+ *      if buttons = 1 do picture.move(-384)
+ *      else buttons = 2 do picture.move(384)
+ *      else true do picture.move(0)
  *      end
  *    end
  *  end */
@@ -160,7 +190,7 @@ static void declare_pad(struct pad *p, int sprite_type)
 static void write_pad(const struct pad *p, const struct sprite *sprite)
 {
     begin_body(&b, p->module);
-    put_assign(&b, whole(&b, p->frame), integer(&b, -1));
+    put_assign(&b, whole(&b, p->frame), minus(&b, integer(&b, 1)));
     put_cycle(&b);
     put_arm(&b, binary(&b, '#', frame_word(), value(&b, p->frame)));
     {
@@ -168,7 +198,7 @@ static void write_pad(const struct pad *p, const struct sprite *sprite)
         put_assign(&b, whole(&b, p->buttons), device(&b, strip(PAD_STRIP, p->frame)));
         put_if(&b);
         put_arm(&b, binary(&b, '=', value(&b, p->buttons), integer(&b, PAD_LEFT)));
-        put_process_call(&b, whole(&b, p->picture), sprite->move, 1, integer(&b, -SPEED));
+        put_process_call(&b, whole(&b, p->picture), sprite->move, 1, minus(&b, integer(&b, SPEED)));
         put_arm(&b, binary(&b, '=', value(&b, p->buttons), integer(&b, PAD_RIGHT)));
         put_process_call(&b, whole(&b, p->picture), sprite->move, 1, integer(&b, SPEED));
         put_arm(&b, boolean(&b, true));
@@ -179,7 +209,8 @@ static void write_pad(const struct pad *p, const struct sprite *sprite)
     end_body(&b);
 }
 
-/*  The program: it puts the chips on the board, and then is the clock. A beat takes four of its turns, and a frame sixteen beats.
+/*  The program: it puts the chips on the board, and then is the clock. A beat takes four of its turns, and a frame sixteen beats. After 1,024
+ *  frames it counts from 0 again.
  *
  *    var s: sound; p: sprite; r: pad; beat: integer
  *  begin
@@ -187,10 +218,12 @@ static void write_pad(const struct pad *p, const struct sprite *sprite)
  *    create p; start p(s);
  *    create r; start r(p);
  *    cycle true do
- *      beat := beat + 1;
- *      write(FRAME, beat / 16)
+ *      beat := (beat + 1) mod 16384;
+ *      write(clock, beat / 16)
  *    end
- *  end */
+ *  end. */
+enum { FRAME_BEATS = TURNS / 4 };
+
 static void write_program(int s, int p, int r, int beat)
 {
     begin_body(&b, 0);
@@ -203,8 +236,9 @@ static void write_program(int s, int p, int r, int beat)
     put_cycle(&b);
     put_arm(&b, boolean(&b, true));
     {
-        put_assign(&b, whole(&b, beat), binary(&b, '+', value(&b, beat), integer(&b, 1)));
-        put_write(&b, integer(&b, FRAME), binary(&b, '/', value(&b, beat), integer(&b, TURNS / 4)));
+        put_assign(&b, whole(&b, beat),
+                   binary(&b, '%', binary(&b, '+', value(&b, beat), integer(&b, 1)), integer(&b, STRIP_FRAMES * FRAME_BEATS)));
+        put_write(&b, integer(&b, FRAME), binary(&b, '/', value(&b, beat), integer(&b, FRAME_BEATS)));
     }
     put_end(&b);
     end_body(&b);
@@ -233,7 +267,15 @@ size_t build_board(uint8_t *table, size_t room, struct board_variables *variable
     write_sprite(&sprite, &sound);
     write_pad(&pad, &sprite);
     *variables = (struct board_variables){sprite.column, sound.tone, pad.buttons};
-    return finish_table(&b, table, room);
+    size_t length = finish_table(&b, table, room);
+    if (length == 0)
+        fprintf(stderr, "board: %s\n", builder_mistake(&b));
+    return length;
+}
+
+int strip_address(int strip, long frame)
+{
+    return strip + 2 * (int)(frame % STRIP_FRAMES);
 }
 
 void frame_turns(uint8_t *schedule, size_t frames)

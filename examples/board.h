@@ -5,9 +5,14 @@
 #include <stddef.h>
 #include <stdint.h>
 
-/* The device page: three strips of one word a frame, and the number of the frame. */
+#ifdef __cplusplus
+extern "C" {
+#endif
+
+/* The device page: three strips of one word a frame, and the number of the frame. A strip is a ring: frame 1,024 is written where frame 0 was, and
+ * the number of the frame begins at 0 again. So a board may be played for ever. */
 enum {
-    FRAMES_MAX = 1024,
+    STRIP_FRAMES = 1024, /* the frames that a strip has */
     PAD_STRIP = -8192,   /* the host writes: the buttons held in each frame */
     FILM_STRIP = -6144,  /* the sprite unit writes: the sprite's column */
     SOUND_STRIP = -4096, /* the sound unit writes: the tone, 0 for silence */
@@ -19,18 +24,28 @@ enum { PAD_NONE, PAD_LEFT, PAD_RIGHT };
 /* The processes, by number, and how many turns each takes in a frame. */
 enum { CLOCK = 1, SOUND_UNIT, SPRITE_UNIT, PAD_READER, CHIPS = PAD_READER, TURNS = 64, FRAME_STEPS = CHIPS * TURNS };
 
-/* What the sprite does in a frame in which a direction is held: one and a half pixels, in 256ths. */
-enum { SPEED = 384, START_COLUMN = 10 };
+/* What the sprite does in a frame in which a direction is held: one and a half pixels, in 256ths. It stops at the edges of the screen. */
+enum { SPEED = 384, COLUMNS = 32, START_COLUMN = 10 };
+
+/* The tone that is heard when the sprite is moved to the left at the left edge, and for how many frames. */
+enum { EDGE_TONE = 440, TONE_FRAMES = 3 };
 
 /* The variables that a host may look at: their numbers in the table. */
 struct board_variables {
     int column, tone, buttons;
 };
 
-/* Writes the board's table; its length, or 0 where there is no room. */
+/* The device word of a strip for a frame, any number from 0 on. */
+int strip_address(int strip, long frame);
+
+/* Writes the board's table; its length, or 0, and a line on standard error that says why, where it cannot. */
 size_t build_board(uint8_t *table, size_t room, struct board_variables *variables);
 
 /* The turns of some frames: in each, the processes 1..CHIPS one after the other, TURNS times. */
 void frame_turns(uint8_t *schedule, size_t frames);
+
+#ifdef __cplusplus
+}
+#endif
 
 #endif

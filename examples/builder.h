@@ -8,49 +8,71 @@
  *     put_assign(&b, whole(&b, n), binary(&b, '+', value(&b, n), integer(&b, 1)));      n := n + 1
  *     end_body(&b);
  *     size_t length = finish_table(&b, bytes, sizeof bytes);
+ *     if (length == 0)
+ *         puts(builder_mistake(&b));
  *
  * Functions that add types, blocks, variables and nodes return a number to name the entry by; block numbers and type numbers are those of
  * the table, and so are those of variables where the variables of each block are added before those of the next. A node may be used once.
- * The builder tests nothing but that there is room: joyce_check judges what it wrote. Copy it. */
+ *
+ * Mistakes. A call that is given a wrong number, comes at a wrong place or finds its section full adds nothing, returns -1 and is remembered; so
+ * calls need no test. finish_table then writes nothing, and builder_mistake says of the first such call which it was, counted from
+ * start_table on, and why. What is left for joyce_check to judge are types, sizes and scopes: the refusals 7 to 9. Copy it. */
 #ifndef BUILDER_H
 #define BUILDER_H
 
+#include <limits.h>
 #include <stdbool.h>
 #include <stddef.h>
 #include <stdint.h>
+
+#ifdef __cplusplus
+extern "C" {
+#endif
 
 enum { INTEGER, BOOLEAN, CHARACTER };               /* the standard types */
 enum { ENTRIES = 255 };                             /* the most entries of a section */
 
 struct node {
     int kind, p, q, v;
+    int call;                                       /* the call that added it */
+    bool is_used;
 };
 
 struct statement {
     int block, kind, a, b, first, count, link;      /* first and count: its arguments */
+    int call;
 };
 
 struct builder {
-    int types[ENTRIES][5], fields[ENTRIES], arguments[ENTRIES];
+    int types[ENTRIES][5], type_calls[ENTRIES], fields[ENTRIES], arguments[ENTRIES];
     int modes[ENTRIES], variable_types[ENTRIES], variable_blocks[ENTRIES];
     int block_kinds[ENTRIES], block_owners[ENTRIES];
+    bool has_body[ENTRIES];
     struct node nodes[ENTRIES];
     struct statement statements[ENTRIES];
     int type_count, field_count, variable_count, block_count, argument_count, node_count, statement_count;
-    int body;                                       /* the block whose statements are being written */
+    int body;                                       /* the block whose statements are being written, or -1 */
     int openers[ENTRIES], arms[ENTRIES], depth;     /* the openers not ended yet, each with its last arm */
-    bool is_full;                                   /* some section had no room */
+    int call;                                       /* how many calls there were */
+    const char *call_name;                          /* the last one's name */
+    char mistake[200];                              /* the first mistake; empty where there is none */
 };
 
 void start_table(struct builder *b);
 
-/* Writes the table; its length, or 0 where a section or the room was too small. */
-size_t finish_table(const struct builder *b, uint8_t *bytes, size_t room);
+/* Writes the table; its length, or 0 where there was a mistake, or the room is too small. */
+size_t finish_table(struct builder *b, uint8_t *bytes, size_t room);
+
+/* The first mistake in words, as 'call 12, put_assign: there is no node 300'; null where there is none. */
+const char *builder_mistake(const struct builder *b);
+
+/* A list of numbers is announced by its count. The macros below end it with a mark, so that a wrong count is a mistake and nothing worse. */
+#define BUILDER_LIST_END INT_MIN
 
 /* types */
 int record_type(struct builder *b, int count, ...); /* the types of the fields */
-int array_type(struct builder *b, int index, int element, int low, int high);
-int process_type(struct builder *b, int module);
+int array_type(struct builder *b, int index, int element_type, int low, int high);
+int process_type(struct builder *b, int module);    /* the module may be added later */
 
 /* blocks; the program is the first */
 int add_program(struct builder *b);
@@ -78,7 +100,7 @@ int inverse(struct builder *b, int node);           /* not */
 int device(struct builder *b, int node);            /* val: the device word with that address */
 int transfer(struct builder *b, int node, int type);
 /* = '=', <> '#', < '<', <= 'l', > '>', >= 'g', + '+', - '-', * '*', / '/', mod '%', and '&', or '|' */
-int binary(struct builder *b, char operator, int left, int right);
+int binary(struct builder *b, char sign, int left, int right);
 
 /* statements, between begin_body and end_body */
 void begin_body(struct builder *b, int block);
@@ -96,5 +118,14 @@ void put_when(struct builder *b);
 void put_cycle(struct builder *b);
 void put_arm(struct builder *b, int guard);
 void put_end(struct builder *b);
+
+#define record_type(...) record_type(__VA_ARGS__, BUILDER_LIST_END)
+#define put_call(...) put_call(__VA_ARGS__, BUILDER_LIST_END)
+#define put_process_call(...) put_process_call(__VA_ARGS__, BUILDER_LIST_END)
+#define put_start(...) put_start(__VA_ARGS__, BUILDER_LIST_END)
+
+#ifdef __cplusplus
+}
+#endif
 
 #endif

@@ -13,8 +13,6 @@
 #include <stdlib.h>
 #include <string.h>
 
-enum { COLUMNS = 32 };
-
 /* The recording: what is held in each frame. L left, R right, . nothing. Seven frames to the left lead from column 10 to column 0. */
 static const char recording[] = "..LLLLLLL....RRRRRRRRRRRRRRRRRR..LLL.";
 enum { FRAMES = sizeof recording - 1 };
@@ -37,7 +35,7 @@ static void expect_ok(const char *call, uint32_t result)
 static void hold_buttons(int frame)
 {
     char held = recording[frame];
-    joyce_put(page, PAD_STRIP + 2 * frame, held == 'L' ? PAD_LEFT : held == 'R' ? PAD_RIGHT : PAD_NONE);
+    joyce_put(page, strip_address(PAD_STRIP, frame), held == 'L' ? PAD_LEFT : held == 'R' ? PAD_RIGHT : PAD_NONE);
 }
 
 /* The chips' half: `count` steps from step `first` on. */
@@ -54,7 +52,7 @@ static void run_steps(size_t first, size_t count)
 static void show_frame(int frame)
 {
     char screen[COLUMNS + 1];
-    int column = joyce_get(page, FILM_STRIP + 2 * frame), tone = joyce_get(page, SOUND_STRIP + 2 * frame);
+    int column = joyce_get(page, strip_address(FILM_STRIP, frame)), tone = joyce_get(page, strip_address(SOUND_STRIP, frame));
     memset(screen, '.', COLUMNS);
     screen[COLUMNS] = 0;
     if (column >= 0 && column < COLUMNS)

@@ -7,10 +7,16 @@
 
 struct picture;
 
-/* A picture of so many steps; null where there is no memory. */
-struct picture *picture_new(uint64_t steps, const uint8_t *schedule, uint64_t period);
+/* A picture of the steps after the first `before`; null where there is no memory. */
+struct picture *picture_new(uint64_t before);
 void picture_step(struct picture *picture, unsigned process, unsigned answer);
-void picture_write(const struct picture *picture, FILE *file, const char *title);
+
+/* Marks the last step as the one at which the run failed. */
+void picture_failure(struct picture *picture, unsigned process, unsigned answer);
+
+/* The name of a process; kept, not copied. */
+void picture_name(struct picture *picture, unsigned process, const char *name);
+void picture_write(struct picture *picture, FILE *file, const char *title);
 void picture_free(struct picture *picture);
 
 #endif

@@ -1,192 +1,180 @@
 #include "show.h"
 
-#include <stdio.h>
-
-/* The sections, the bytes of an entry in each, and the kinds of entries: see joyce.h. */
-enum { TYPES, FIELDS, VARIABLES, BLOCKS, ARGUMENTS, NODES, STATEMENTS, SECTIONS };
-static const int entry_size[SECTIONS] = {7, 1, 2, 8, 1, 5, 6};
-enum { RECORD = 1, ARRAY };
-enum { CONSTANT, WHOLE, FIELD, ELEMENT, VALUE, UNARY, BINARY, TRANSFER };
-enum { SKIP, ASSIGN, CALL, PROCESS_CALL, CREATE, START, IF, WHILE, WHEN, CYCLE, ARM, END, WRITE, BLOCK_END };
-
-struct sections {
-    int count[SECTIONS];
-    const uint8_t *entries[SECTIONS];
-};
-
-static const uint8_t *entry(const struct sections *s, int section, int i)
+static int at(const struct text *x, int section, int entry, int field)
 {
-    return s->entries[section] + i * entry_size[section];
+    return get(x->table, section, entry, field);
 }
 
-static int word(const uint8_t *bytes)
+/* ---- a program */
+
+/* The number of an entry that has a name, behind it. */
+static void show_number(const struct text *x, enum label_kind kind, const char *prefix, int number)
 {
-    int word = bytes[0] + 256 * bytes[1];
-    return word < 32768 ? word : word - 65536;
+    if (label_of(x->labels, kind, number))
+        fprintf(x->out, "  (%s%d)", prefix, number);
 }
 
-/* ---- types and variables */
-
-static const char *const standard[] = {"integer", "boolean", "character"};
-
-static void show_type_name(int type)
-{
-    if (type < 3)
-        fputs(standard[type], stdout);
-    else
-        printf("t%d", type);
-}
-
-static void show_type(const struct sections *s, int type)
-{
-    const uint8_t *t = entry(s, TYPES, type - 3);
-    printf("type t%d = ", type);
-    if (t[0] == RECORD) {
-        for (int i = 0; i < t[2]; i++) {
-            fputs(i ? ", " : "record ", stdout);
-            show_type_name(*entry(s, FIELDS, t[1] + i));
-        }
-        puts(" end");
-    } else if (t[0] == ARRAY) {
-        printf("array [%d..%d: %s] of ", word(t + 3), word(t + 5), standard[t[1]]);
-        show_type_name(t[2]);
-        putchar('\n');
-    } else
-        printf("process b%d\n", t[1]);
-}
-
-static void show_variable(const struct sections *s, int variable)
+static void show_variable(const struct text *x, int variable)
 {
     static const char *const modes[] = {"var", "value parameter", "var parameter"};
-    const uint8_t *v = entry(s, VARIABLES, variable);
-    printf("  %s v%d: ", modes[v[0]], variable);
-    show_type_name(v[1]);
-    putchar('\n');
+    fprintf(x->out, "  %s ", modes[at(x, VARIABLES, variable, V_MODE)]);
+    write_variable_name(x, variable);
+    fputs(": ", x->out);
+    write_type_name(x, at(x, VARIABLES, variable, V_TYPE));
+    show_number(x, VARIABLE_LABEL, "v", variable);
+    fputc('\n', x->out);
 }
 
-/* ---- nodes. An accepted table uses each once, and operands stand before their user, so this ends. */
-
-static void show_node(const struct sections *s, int node, int is_inner);
-
-static void show_constant(int type, int number)
+static void show_heading(const struct text *x, int block)
 {
-    if (type == 1)
-        fputs(number ? "true" : "false", stdout);
-    else if (type == 2 && number >= 32 && number < 127)
-        printf("'%c'", number);
-    else if (type == 2)
-        printf("char(%d)", number);
-    else
-        printf("%d", number);
-}
-
-static void show_binary(const struct sections *s, const uint8_t *n, int is_inner)
-{
-    static const char *const operators[] = {"=", "<>", "<", "<=", ">", ">=", "+", "-", "*", "/", "mod", "and", "or"};
-    if (is_inner)
-        putchar('(');
-    show_node(s, n[1], 1);
-    printf(" %s ", operators[n[3] - 1]);
-    show_node(s, n[2], 1);
-    if (is_inner)
-        putchar(')');
-}
-
-static void show_node(const struct sections *s, int node, int is_inner)
-{
-    static const char *const unary[] = {"-", "not ", "val "};
-    const uint8_t *n = entry(s, NODES, node);
-    switch (n[0]) {
-    case CONSTANT: show_constant(n[1], word(n + 3)); break;
-    case WHOLE: printf("v%d", n[1]); break;
-    case FIELD:
-        show_node(s, n[1], 1);
-        printf(".%d", n[2]);
-        break;
-    case ELEMENT:
-        show_node(s, n[1], 1);
-        putchar('[');
-        show_node(s, n[2], 0);
-        putchar(']');
-        break;
-    case VALUE: show_node(s, n[1], is_inner); break;
-    case UNARY:
-        fputs(unary[n[2] - 1], stdout);
-        show_node(s, n[1], 1);
-        break;
-    case BINARY: show_binary(s, n, is_inner); break;
-    case TRANSFER:
-        printf("%s(", standard[n[2]]);
-        show_node(s, n[1], 0);
-        putchar(')');
-        break;
+    int kind = at(x, BLOCKS, block, B_KIND);
+    fputc('\n', x->out);
+    write_block_name(x, block);
+    fprintf(x->out, ": %s", kind_name(BLOCKS, kind));
+    if (kind == PROCEDURE) {
+        fputs(" of ", x->out);
+        write_block_name(x, at(x, BLOCKS, block, B_OWNER));
     }
-}
-
-/* ---- statements */
-
-static void show_arguments(const struct sections *s, int first, int count)
-{
-    putchar('(');
-    for (int i = 0; i < count; i++) {
-        if (i)
-            fputs(", ", stdout);
-        show_node(s, *entry(s, ARGUMENTS, first + i), 0);
-    }
-    putchar(')');
-}
-
-static void show_simple(const struct sections *s, const uint8_t *t)
-{
-    static const char *const words[] = {"skip", "", "", "", "create ", "start ", "if", "while", "when", "cycle", "arm ", "end", "write(", "block end"};
-    fputs(words[t[0]], stdout);
-    if (t[0] == CALL)
-        printf("b%d", t[1]);
-    if (t[0] == ASSIGN || t[0] == PROCESS_CALL || t[0] == CREATE || t[0] == START || t[0] == ARM || t[0] == WRITE)
-        show_node(s, t[1], 0);
-    if (t[0] == PROCESS_CALL)
-        printf(".b%d", t[2]);
-    if (t[0] == CALL || t[0] == PROCESS_CALL || t[0] == START)
-        show_arguments(s, t[3], t[4]);
-    if (t[0] == ASSIGN || t[0] == WRITE) {
-        fputs(t[0] == ASSIGN ? " := " : ", ", stdout);
-        show_node(s, t[2], 0);
-    }
-    puts(t[0] == WRITE ? ")" : "");
+    show_number(x, BLOCK_LABEL, "b", block);
+    fputc('\n', x->out);
 }
 
 /* An opener's arms and end stand below it, and the statements of an arm further in. */
-static void show_block(const struct sections *s, int block)
+static void show_block(struct text *x, int block)
 {
-    static const char *const kinds[] = {"program", "process module", "procedure of b"};
-    const uint8_t *b = entry(s, BLOCKS, block);
-    int depth = 0, statement = b[5], kind;
-    printf("\nb%d: %s", block, kinds[b[0]]);
-    if (b[0] == 2)
-        printf("%d", b[1]);
-    putchar('\n');
-    for (int i = 0; i < b[4]; i++)
-        show_variable(s, b[2] + i);
+    int depth = 0, statement = at(x, BLOCKS, block, B_STATEMENT), kind;
+    show_heading(x, block);
+    for (int i = 0; i < at(x, BLOCKS, block, B_VARIABLES); i++)
+        show_variable(x, at(x, BLOCKS, block, B_FIRST) + i);
     do {
-        const uint8_t *t = entry(s, STATEMENTS, statement);
-        kind = t[0];
+        kind = at(x, STATEMENTS, statement, S_KIND);
         int inset = kind == ARM || kind == END ? depth - 1 : depth;
-        printf("  %3d  %*s", statement++, 4 * inset + (kind == ARM ? 2 : 0), "");
-        show_simple(s, t);
-        depth += (kind >= IF && kind <= CYCLE) - (kind == END);
+        fprintf(x->out, "  %3d  %*s", statement, 4 * inset + (kind == ARM ? 2 : 0), "");
+        write_statement(x, statement++);
+        fputc('\n', x->out);
+        depth += is_opener(kind) - (kind == END);
     } while (kind != BLOCK_END);
 }
 
-void show_table(const uint8_t *table)
+void show_program(struct text *x)
 {
-    struct sections s;
-    for (int i = 0; i < SECTIONS; i++) {
-        s.count[i] = *table;
-        s.entries[i] = table + 1;
-        table += 1 + *table * entry_size[i];
+    for (int type = DECLARED; type < DECLARED + x->table->count[TYPES]; type++) {
+        fputs("type ", x->out);
+        write_type_name(x, type);
+        fputs(" = ", x->out);
+        write_type(x, type);
+        show_number(x, TYPE_LABEL, "t", type);
+        fputc('\n', x->out);
     }
-    for (int type = 3; type < 3 + s.count[TYPES]; type++)
-        show_type(&s, type);
-    for (int block = 0; block < s.count[BLOCKS]; block++)
-        show_block(&s, block);
+    for (int block = 0; block < x->table->count[BLOCKS]; block++)
+        show_block(x, block);
+}
+
+/* ---- entries */
+
+static void show_fields(const struct text *x, int section, int entry)
+{
+    const char *kind = kind_name(section, at(x, section, entry, 0));
+    for (int field = 0; field < field_count(section); field++) {
+        fprintf(x->out, "%s%s %d", field ? ", " : "  ", field_name(section, field), at(x, section, entry, field));
+        if (field == 0 && field_count(section) > 1)
+            fprintf(x->out, " %s", kind ? kind : "?");
+    }
+}
+
+/* What the entry says, where that is more than its numbers. */
+static void show_meaning(struct text *x, int section, int entry)
+{
+    if (section == FIELDS || section == VARIABLES || section == BLOCKS)
+        return;
+    switch (section) {
+    case TYPES: write_type(x, DECLARED + entry); break;
+    case ARGUMENTS: write_node(x, at(x, ARGUMENTS, entry, A_NODE)); break;
+    case NODES: write_node(x, entry); break;
+    default: write_statement(x, entry);
+    }
+}
+
+static void show_mark(const struct text *x, const struct fault *f, int section, int entry)
+{
+    if (!f || f->verdict == 0 || f->section != section || f->entry != entry)
+        return;
+    fputs("  <-- ", x->out);
+    if (f->field != NOWHERE)
+        fprintf(x->out, "%s: ", field_name(section, f->field));
+    fputs(f->why, x->out);
+}
+
+void show_entries(struct text *x, const struct fault *fault)
+{
+    static const char prefixes[SECTIONS] = {'t', 'f', 'v', 'b', 'a', 'n', 's'};
+    for (int section = 0; section < SECTIONS; section++) {
+        fprintf(x->out, "%s: %d", section_name(section), x->table->count[section]);
+        show_mark(x, fault, section, NOWHERE);
+        fputc('\n', x->out);
+        for (int entry = 0; entry < x->table->count[section]; entry++) {
+            fprintf(x->out, "  %c%-3d", prefixes[section], entry + (section == TYPES ? DECLARED : 0));
+            show_fields(x, section, entry);
+            fputs("    ", x->out);
+            show_meaning(x, section, entry);
+            show_mark(x, fault, section, entry);
+            fputc('\n', x->out);
+        }
+    }
+}
+
+/* ---- the place of a fault */
+
+/* Does the entry of a section name the node? */
+static bool is_user(const struct text *x, int section, int entry, int node)
+{
+    int kind = at(x, section, entry, 0), first = at(x, section, entry, 1), second = at(x, section, entry, 2);
+    if (section == NODES)
+        return (kind >= FIELD && kind <= TRANSFER && first == node) || ((kind == ELEMENT || kind == BINARY) && second == node);
+    return ((kind == ASSIGN || (kind >= PROCESS_CALL && kind <= START) || kind == ARM || kind == WRITE) && first == node) ||
+           ((kind == ASSIGN || kind == WRITE) && second == node);
+}
+
+/* The call or start that takes an argument; -1 where there is none. */
+static int statement_of_argument(const struct text *x, int argument)
+{
+    for (int i = 0; i < x->table->count[STATEMENTS]; i++) {
+        int kind = at(x, STATEMENTS, i, S_KIND), first = at(x, STATEMENTS, i, S_C);
+        if ((kind == CALL || kind == PROCESS_CALL || kind == START) && argument >= first && argument < first + at(x, STATEMENTS, i, S_D))
+            return i;
+    }
+    return -1;
+}
+
+/* The statement that uses a node, directly or through others that stand after it. */
+static int statement_of_node(const struct text *x, int node)
+{
+    for (int user = node + 1; user < x->table->count[NODES]; user++)
+        if (is_user(x, NODES, user, node))
+            node = user;
+    for (int i = 0; i < x->table->count[STATEMENTS]; i++)
+        if (is_user(x, STATEMENTS, i, node))
+            return i;
+    for (int i = 0; i < x->table->count[ARGUMENTS]; i++)
+        if (at(x, ARGUMENTS, i, A_NODE) == node)
+            return statement_of_argument(x, i);
+    return -1;
+}
+
+void show_place(struct text *x, const struct fault *f)
+{
+    int statement = f->section == STATEMENTS ? f->entry : -1;
+    if (f->verdict <= 2 || f->entry == NOWHERE)
+        return;
+    if (f->section == TYPES || f->section == ARGUMENTS || f->section == NODES) {
+        fputs("  in words: ", x->out);
+        show_meaning(x, f->section, f->entry);
+        fputc('\n', x->out);
+        statement = f->section == NODES ? statement_of_node(x, f->entry) : f->section == ARGUMENTS ? statement_of_argument(x, f->entry) : -1;
+    }
+    if (statement < 0)
+        return;
+    fprintf(x->out, "  statement %d: ", statement);
+    write_statement(x, statement);
+    fputc('\n', x->out);
 }

@@ -114,7 +114,7 @@ static bool recording_by_frames_and_without_pause(void)
 
 /* ---- 3 */
 
-/*  Chips that hand references on:
+/*  Chips that hand references on, in the report's grammar, but that cell names desk before it is declared: a table may, a text may not.
  *
  *    process cell(home: desk)
  *      var friend: cell; none: desk; n: integer
@@ -122,26 +122,23 @@ static bool recording_by_frames_and_without_pause(void)
  *    begin
  *      cycle n < 6 do n := n + 1; if home <> none do home.leave(friend) end end
  *    end
- *
  *    process desk
  *      var kept: cell; visits: integer
  *      procedure leave(var x: cell) var t: cell begin t := kept; kept := x; x := t; visits := visits + 1 end
  *    begin
  *      cycle visits > 0 do visits := visits - 1 end
  *    end
- *
- *    var d: desk; list: array [1..4] of record c: cell; d: desk end; i: integer; last: cell
+ *    type place = record c: cell; d: desk end; places = array 1..4 of place
+ *    var d: desk; list: places; i: integer; last: cell
  *  begin
  *    create d; start d;
  *    while i < 12 do
  *      i := i + 1;
- *      create list[place].c; list[place].d := d; start list[place].c(list[place].d);
- *      list[place].c.meet(last, last);
- *      last := list[place].c
+ *      create list[i mod 4 + 1].c; list[i mod 4 + 1].d := d; start list[i mod 4 + 1].c(list[i mod 4 + 1].d);
+ *      list[i mod 4 + 1].c.meet(last, last);
+ *      last := list[i mod 4 + 1].c
  *    end
- *  end
- *
- *  where place is i mod 4 + 1. */
+ *  end. */
 enum { CELL = 1, MEET = 2, DESK = 3, LEAVE = 4 };
 
 static struct builder b;

@@ -1,0 +1,28 @@
+/* A library that refuses everything with 4: the tool must notice that its own explanation is another. */
+#include "joyce.h"
+
+uint32_t joyce_check(const uint8_t *table, size_t table_len)
+{
+    (void)table, (void)table_len;
+    return JOYCE_NUMBERS;
+}
+
+uint32_t joyce_begin(const uint8_t *table, size_t table_len, uint8_t *state, size_t state_len)
+{
+    (void)state, (void)state_len;
+    return joyce_check(table, table_len);
+}
+
+uint32_t joyce_run(const uint8_t *table, size_t table_len, uint8_t *state, size_t state_len, uint8_t *page, size_t page_len, const uint8_t *schedule,
+                   size_t schedule_len, uint8_t *answers, size_t answers_len)
+{
+    (void)state, (void)state_len, (void)page, (void)page_len, (void)schedule, (void)schedule_len, (void)answers, (void)answers_len;
+    return joyce_check(table, table_len);
+}
+
+uint32_t joyce_look(const uint8_t *table, size_t table_len, const uint8_t *state, size_t state_len, uint32_t process, uint32_t variable,
+                    uint32_t place)
+{
+    (void)state, (void)state_len, (void)process, (void)variable, (void)place;
+    return joyce_check(table, table_len);
+}
