@@ -27,7 +27,7 @@ static bool decode(struct program *g, const uint8_t *table, size_t length)
 {
     struct reader r = {table, table + length};
     const uint8_t *p;
-    if (length == 0 || !(p = rows(&r, 7, &g->types)))
+    if (!(p = rows(&r, 7, &g->types)))
         return false;
     for (int i = 0; i < g->types; i++, p += 7)
         g->type[DECLARED + i] = (struct type){p[0], p[1], p[2], word(p + 3), word(p + 5)};
@@ -494,6 +494,12 @@ static bool types(struct program *g)
 
 uint32_t plain_decode(struct program *g, const uint8_t *table, size_t length)
 {
+    /* zero bytes are an empty cartridge slot: block 0, which skips and ends */
+    static const uint8_t empty_slot[] = {0, 0, 0, 1, 0, 0, 0, 0, 0, 0, 0, 0, 0, 0, 2, 0, 0, 0, 0, 0, 0, 13, 0, 0, 0, 0, 0};
+    if (length == 0) {
+        table = empty_slot;
+        length = sizeof empty_slot;
+    }
     return !decode(g, table, length) ? 2 : !kinds(g) ? 3 : !numbers(g) ? 4 : !uses(g) ? 5 : !nesting(g) ? 6 : !sizes(g) ? 7 : !scopes(g) ? 8 : !types(g) ? 9 : 0;
 }
 

@@ -18,6 +18,7 @@ int main(int argc, char **argv)
     open_rooms();
     refusal_tests();
     answer_tests();
+    empty_tests();
     edge_tests();
     state_tests();
     story_tests();

@@ -4,6 +4,7 @@
 
 void refusal_tests(void); /* refusals.c: the numbers 1 to 11, and what a refusal leaves */
 void answer_tests(void);  /* answers.c: each answer of a step, the slices that a success leaves */
+void empty_tests(void);   /* empty.c: zero bytes of table, an empty cartridge slot */
 void edge_tests(void);    /* edges.c: the edges of 01, each by its numbers */
 void state_tests(void);   /* states.c: states that are stale or damaged, looks, threads */
 void story_tests(void);   /* stories.c: the three tests that a user asked for */

@@ -1,2 +1,3 @@
 pub mod CallsCut
 pub mod Logs
+pub mod EmptySlots

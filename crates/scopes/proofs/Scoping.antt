@@ -12,7 +12,7 @@ use Rattle.basics.proofs.Courses.{upto-below, upto-above}
 use Rattle.basics.proofs.Tests.{tests}
 use Rattle.basics.proofs.Passes.{passes}
 use Rattle.basics.proofs.Chains.{chain-none, chain-more, carry-fail, carry-all}
-use Rattle.table.specs.Table.{Table, tableOf}
+use Rattle.table.specs.Table.{Table, tableAt}
 use Rattle.code.specs.Code.{decoded, Decodes}
 use Rattle.table.specs.Entries.{owner, firstVar, vars, nodeKind, nodeP, nodeQ, stmtKind, stmtA, stmtC, stmtD, stmtCount}
 use Rattle.table.specs.Reading.{Field}
@@ -97,7 +97,7 @@ pub arguments-each :
     (t : List ℕ) (s : Sections) (c : List ℕ) → Decodes t s c → (b first count : ℕ) (part : List ℕ) (r : Bool) → part ≡ argumentPart (s .w) t first count
     → r ≡ allBelow count (scopedIn (decoded c) b (s .w) part) → r ≡ argumentsScoped (decoded c) b first count
 unfolding argumentsScoped argumentScoped scopedIn
-arguments-each t s c o b first count part r h e = e ∙ rw (h, o .is) (each-argument t s (o .table) first count (λ k n. nodeScoped (tableOf (s .w) t) b n))
+arguments-each t s c o b first count part r h e = e ∙ rw (h, o .is) (each-argument t s (o .table) first count (λ k n. nodeScoped (tableAt (s .w) t) b n))
 
 -- the pass over all statements
 module _ (T : Table) where

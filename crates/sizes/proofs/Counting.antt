@@ -11,7 +11,7 @@ use Rattle.basics.specs.Course.{course}
 use Rattle.basics.specs.Holds.{Holds}
 use Rattle.basics.proofs.Courses.{upto-below, upto-above}
 use Rattle.basics.proofs.Holding.{holds-none, holds-more, holds-part}
-use Rattle.table.specs.Table.{Table, tableOf, cellAt, countAt}
+use Rattle.table.specs.Table.{Table, tableAt, cellAt, countAt}
 use Rattle.table.specs.Entries.{declared, typeCount, typeKind, typeP, typeQ, typeLow, typeHigh, fieldType}
 use Rattle.types.specs.Match.{offset, span, elements}
 use Rattle.sizes.specs.Sizes.{sumBelow, fieldsWords, typeWords, wordsOf, partWords, offsetIn, kept, Known, Room, Sizes}
@@ -121,8 +121,8 @@ pub part-long : (n : ℕ) (l : List ℕ) → n ≤ length l → n ≡ length (ta
 part-long n l h = sym (length-take-le n l h)
 
 -- numbers that no type has, and the standard types
-pub kind-none : (w : ℕ) (t : List ℕ) (τ : ℕ) → 3 + typeCount (tableOf w t) ≤ τ → typeKind (tableOf w t) τ ≡ 0
-unfolding tableOf cellAt declared
+pub kind-none : (w : ℕ) (t : List ℕ) (τ : ℕ) → 3 + typeCount (tableAt w t) ≤ τ → typeKind (tableAt w t) τ ≡ 0
+unfolding tableAt cellAt declared
 kind-none w t τ h = let g : countAt w t 0 ≤ τ - 3 = omega arith in rw (le-ltb τ 3 (omega arith), le-ltb (τ - 3) (countAt w t 0) g)
 
 pub words-far : (T : Table) (l : List ℕ) → Sizes T l → (τ : ℕ) → 3 + typeCount T ≤ τ → wordsOf T τ ≡ 1

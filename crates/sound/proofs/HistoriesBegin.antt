@@ -8,7 +8,9 @@ use lib.Dec.{eqb, ltb}
 use Rattle.basics.specs.Choice.{cases}
 use Rattle.words.specs.Memory.{Bytes}
 use Rattle.table.specs.Bytes.{num, fields, begins, rowSize, fieldAt, fieldWidth}
-use Rattle.table.specs.Table.{Table, countAt, cellAt, tableOf}
+use Rattle.table.specs.Empty.{bytesRead}
+use Rattle.table.specs.Table.{Table, countAt, cellAt, tableAt, tableOf}
+use Rattle.table.proofs.ReadBytes.{read-bytes}
 use Rattle.table.specs.Entries.{firstStmt}
 use Rattle.sizes.specs.Sizes.{moduleWords}
 use Rattle.sizes.proofs.Promise.{module-most}
@@ -26,9 +28,9 @@ use Rattle.sound.proofs.HistoriesSized.{begin-sized}
 num-word : (t : List ℕ) (p w : ℕ) → Bytes t → num t p w < 65536
 num-word t p w b = cases (eqb w 2) (λ e. rw e (omega (arith, b .small p, b .small (p + 1)))) (λ e. rw e (omega (arith, b .small p)))
 
-pub word-table : (w : ℕ) (t : List ℕ) → Bytes t → WordTable (tableOf w t)
-unfolding tableOf countAt cellAt
-word-table w t b = record {
+table-words : (w : ℕ) (t : List ℕ) → Bytes t → WordTable (tableAt w t)
+unfolding tableAt countAt cellAt
+table-words w t b = record {
   counts = λ k. cases (ltb k 7) (λ e. rw e (num-word t (begins w t k) w b)) (λ e. rw e (omega arith));
   cells = λ k i f.
       cases (ltb f (fields k))
@@ -38,6 +40,10 @@ word-table w t b = record {
       (λ e. rw (q, e) (omega arith)))
       (λ q. rw q (omega arith));
 }
+
+pub word-table : (w : ℕ) (t : List ℕ) → Bytes t → WordTable (tableOf w t)
+unfolding tableOf
+word-table w t b = table-words w (bytesRead w t) (record { small = read-bytes w t (b .small) })
 
 update-word : (m : Memory) (i v : ℕ) → Small m → v < 65536 → Small (update m i v)
 unfolding update

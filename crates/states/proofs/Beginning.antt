@@ -9,7 +9,9 @@ use lib.ListN.{length, getD, set, replicate, length-set, length-replicate, List�
 use lib.Seq.{getD-set-same, getD-set-other}
 use borrow.Author.Tests.{eq-eqb, ne-eqb, eqb-true, eqb-false, ltb-true, ltb-false}
 use Rattle.basics.specs.Choice.{cases}
+use Rattle.table.specs.Empty.{bytesRead}
 use Rattle.table.specs.Table.{Table, tableOf}
+use Rattle.table.proofs.ReadBytes.{read-bytes}
 use Rattle.table.specs.Entries.{firstStmt, vars}
 use Rattle.words.specs.Memory.{Bytes}
 use Rattle.code.specs.Code.{decoded}
@@ -115,9 +117,10 @@ begin-room T h = let k = h .types in record { room = rw (length-replicate {A = �
 
 -- the table that a check with verdict 0 leaves
 pub check-small : (t c : List ℕ) (v : ℕ) → ((i : ℕ) → getD t i 0 < 256) → Checked t v c → v ≡ 0 → Small (decoded c)
+unfolding tableOf
 check-small t c v bytes h z =
-    let k = new-standard t bytes in
-    rw (h .table z) (record { accepted = promise 1 t (sym (h .is) ∙ z); types = omega arith; beyond = kind-none 1 t })
+    let k = new-standard (bytesRead 1 t) (read-bytes 1 t bytes) in
+    rw (h .table z) (record { accepted = promise 1 t (sym (h .is) ∙ z); types = omega arith; beyond = kind-none 1 (bytesRead 1 t) })
 
 module _ (t s : List ℕ) where
   pub begun-short : (length s ≡ 35328 → ⊥) → begun 1 s ≡ beginCall (verdict 1) t s

@@ -9,15 +9,15 @@ use native.Mathlib.Nat.{suc-mul, mul-le-mul-right}
 use native.Mathlib.Omega.{arith}
 use Rattle.basics.specs.Choice.{cases}
 use Rattle.table.specs.Bytes.{num, shorts, fields, rowSize, fieldAt, fieldWidth, begins}
-use Rattle.table.specs.Table.{Table, cellAt, tableOf}
+use Rattle.table.specs.Table.{Table, cellAt, tableAt}
 use Rattle.table.specs.Entries.{declared}
 use Rattle.table.specs.Reading.{Of, Field}
 use Rattle.table.specs.declared.Sections.{Sections}
 use Rattle.table.proofs.Shapes.{short-at, short-width, short-in, word-at, word-width, word-in}
 
 -- the count of section k
-pub count-is : (t : List ℕ) (s : Sections) (o : Of t s) (k : ℕ) → k < 7 → Field (tableOf (s .w) t .count k) (getD (s .counts) k 0)
-unfolding tableOf
+pub count-is : (t : List ℕ) (s : Sections) (o : Of t s) (k : ℕ) → k < 7 → Field (tableAt (s .w) t .count k) (getD (s .counts) k 0)
+unfolding tableAt
 count-is t s o k h = record { is = o .section k h .count; small = o .section k h .small }
 
 -- field f of section k, of a row that the section has
@@ -31,9 +31,9 @@ pub field-some : (w k f : ℕ) → 1 ≤ w → 1 ≤ fieldWidth w k f
 unfolding fieldWidth
 field-some w k f h = cases (ltb f (shorts k)) (λ e. rw e h) (λ e. rw e (omega arith))
 
-module _ (t : List ℕ) (s : Sections) (o : Of t s) (k n z : ℕ) (hk : k < 7) (hn : Field (tableOf (s .w) t .count k) n) (hz : z ≡ rowSize (s .w) k) (i : ℕ) (h : i < n) where
+module _ (t : List ℕ) (s : Sections) (o : Of t s) (k n z : ℕ) (hk : k < 7) (hn : Field (tableAt (s .w) t .count k) n) (hz : z ≡ rowSize (s .w) k) (i : ℕ) (h : i < n) where
   l : i < getD (s .counts) k 0
-  unfolding tableOf
+  unfolding tableAt
   l = omega (arith, hn .is, o .section k hk .count)
 
   pub row-room : getD (s .starts) k 0 + (i + 1) * z ≤ length t
@@ -52,8 +52,8 @@ module _ (t : List ℕ) (s : Sections) (o : Of t s) (k n z : ℕ) (hk : k < 7) (
         let e : (i + 1) * z ≡ i * z + z = rw (← q) (suc-mul i z) in
         omega (arith, row-room)
 
-    pub cell-here : num t (getD (s .starts) k 0 + i * z + a) d ≡ tableOf (s .w) t .cell k i f
-    unfolding tableOf cellAt
+    pub cell-here : num t (getD (s .starts) k 0 + i * z + a) d ≡ tableAt (s .w) t .cell k i f
+    unfolding tableAt cellAt
     cell-here =
         let e : begins (s .w) t k + s .w ≡ getD (s .starts) k 0 = sym (o .section k hk .start) in
         rw (lt-ltb f (fields k) hf, ← o .section k hk .count, lt-ltb i (getD (s .counts) k 0) l, e, ← hz, ← ha, ← hd)

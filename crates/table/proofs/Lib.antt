@@ -3,3 +3,4 @@ pub mod Numbers
 pub mod Cells
 pub mod Sectioning
 pub mod Parts
+pub mod ReadBytes

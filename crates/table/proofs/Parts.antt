@@ -13,7 +13,7 @@ use mir.Val.{Fits}
 use mir.Syntax.{w64}
 use Rattle.basics.specs.Choice.{pick, cases, allBelow}
 use Rattle.table.specs.Bytes.{num, shorts, words, rowSize, fieldAt, fieldWidth, begins}
-use Rattle.table.specs.Table.{countAt, cellAt, tableOf}
+use Rattle.table.specs.Table.{countAt, cellAt, tableAt}
 use Rattle.table.specs.Entries.{argNode}
 use Rattle.table.specs.Reading.{Of, Field}
 use Rattle.table.specs.Parts.{argumentFrom, argumentsLeft, argumentPart, argumentIn}
@@ -108,14 +108,14 @@ num-part t m q p w o h = go (eqb w 2) refl
     go false e = x p (omega arith)
 
 -- row i of section 4
-row-4 : (w : ℕ) (t : List ℕ) (i : ℕ) → i < countAt w t 4 → argNode (tableOf w t) i ≡ num t (begins w t 4 + w + i * w) w
-unfolding tableOf cellAt fieldAt fieldWidth shorts
+row-4 : (w : ℕ) (t : List ℕ) (i : ℕ) → i < countAt w t 4 → argNode (tableAt w t) i ≡ num t (begins w t 4 + w + i * w) w
+unfolding tableAt cellAt fieldAt fieldWidth shorts
 row-4 w t i h =
     let e : begins w t 4 + w + i * w + 0 * w ≡ begins w t 4 + w + i * w = omega arith in
     rw (lt-ltb i (countAt w t 4) h, size-4 w, e)
 
-no-row-4 : (w : ℕ) (t : List ℕ) (i : ℕ) → countAt w t 4 ≤ i → argNode (tableOf w t) i ≡ 0
-unfolding tableOf cellAt
+no-row-4 : (w : ℕ) (t : List ℕ) (i : ℕ) → countAt w t 4 ≤ i → argNode (tableAt w t) i ≡ 0
+unfolding tableAt cellAt
 no-row-4 w t i h = rw (le-ltb i (countAt w t 4) h)
 
 -- c rows from f on, of n from a on, in a part
@@ -145,7 +145,7 @@ module _ (t : List ℕ) (a n f c w k : ℕ) (h : a + n * w ≤ length t) (l : f 
 -- THE FINDER: argument k of the part is argument first + k of the table
 module _ (t : List ℕ) (s : Sections) (o : Of t s) (first count k : ℕ) (l : k < count) where
   abbrev found : Type 0
-  found = argumentIn (argumentPart (s .w) t first count) (s .w) k ≡ argNode (tableOf (s .w) t) (first + k)
+  found = argumentIn (argumentPart (s .w) t first count) (s .w) k ≡ argNode (tableAt (s .w) t) (first + k)
 
   rows-4 : begins (s .w) t 4 + s .w + countAt (s .w) t 4 * s .w ≤ length t
   rows-4 =
@@ -165,7 +165,7 @@ module _ (t : List ℕ) (s : Sections) (o : Of t s) (first count k : ℕ) (l : k
       rw (no-row-4 (s .w) t (first + k) g)
       (past-part t (begins (s .w) t 4 + s .w) (countAt (s .w) t 4) (min first (countAt (s .w) t 4)) (min count (countAt (s .w) t 4 - min first (countAt (s .w) t 4))) (s .w) k rows-4 (omega arith) (o .low) (omega arith))
 
-  pub argument-is : argumentIn (argumentPart (s .w) t first count) (s .w) k ≡ argNode (tableOf (s .w) t) (first + k)
+  pub argument-is : argumentIn (argumentPart (s .w) t first count) (s .w) k ≡ argNode (tableAt (s .w) t) (first + k)
   argument-is = cases (ltb (first + k) (countAt (s .w) t 4)) (λ e. found-in (ltb-true _ _ e)) (λ e. found-none (ltb-false _ _ e))
 
 all-same : (n : ℕ) (f g : ℕ → Bool) → ((k : ℕ) → k < n → f k ≡ g k) → allBelow n f ≡ allBelow n g
@@ -176,5 +176,5 @@ all-same (suc n) f g h = let e : f n ≡ g n = h n (omega arith) in let i = all-
 -- a test of each argument of a call: of the part's is of the table's
 pub each-argument :
     (t : List ℕ) (s : Sections) → Of t s → (first count : ℕ) (f : ℕ → ℕ → Bool)
-    → allBelow count (λ k. f k (argumentIn (argumentPart (s .w) t first count) (s .w) k)) ≡ allBelow count (λ k. f k (argNode (tableOf (s .w) t) (first + k)))
+    → allBelow count (λ k. f k (argumentIn (argumentPart (s .w) t first count) (s .w) k)) ≡ allBelow count (λ k. f k (argNode (tableAt (s .w) t) (first + k)))
 each-argument t s o first count f = all-same count _ _ (λ k l. ap (f k) (argument-is t s o first count k l))

@@ -1,4 +1,5 @@
 pub mod Bytes
+pub mod Empty
 pub mod Table
 pub mod Entries
 pub mod Reading

@@ -4,6 +4,7 @@ use mathlib.Core.List.{List}
 use lib.Dec.{ltb}
 use Rattle.basics.specs.Choice.{pick}
 use Rattle.table.specs.Bytes.{num, fields, rowSize, fieldAt, fieldWidth, begins}
+use Rattle.table.specs.Empty.{bytesRead}
 
 pub record Table : Type 0 where
   -- how many rows a section has, 0 for a number that no section has
@@ -23,5 +24,9 @@ cellAt w t k i f =
     0)
     0
 
+unfoldable pub tableAt : ℕ → List ℕ → Table
+tableAt w t = record { count = countAt w t; cell = cellAt w t }
+
+-- THE TABLE that a call reads, of the bytes that it is lent
 unfoldable pub tableOf : ℕ → List ℕ → Table
-tableOf w t = record { count = countAt w t; cell = cellAt w t }
+tableOf w t = tableAt w (bytesRead w t)

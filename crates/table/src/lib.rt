@@ -4,7 +4,7 @@ ghost use mathlib.Core.Path.{_≡_};
 ghost use Prim.Native.Nat.{_+_, _-_, _*_, _≤_, _<_, min};
 ghost use lib.ListN.{length};
 ghost use Rattle.table.specs.Bytes.{num, shorts, words, fields, rowSize, fieldAt, fieldWidth};
-ghost use Rattle.table.specs.Table.{tableOf};
+ghost use Rattle.table.specs.Table.{tableAt};
 ghost use Rattle.table.specs.Reading.{sectionAt, Of, Answers, Field};
 ghost use Rattle.table.specs.Parts.{argumentPart, argumentIn};
 
@@ -120,7 +120,7 @@ pub fn read_sections(t: &[u8], w: usize) -> Read
 pub fn rows(t: &[u8], s: Sections, k: usize) -> usize
     requires { ⌜ Of (now t) s ⌝ }
     requires { ⌜ k < 7 ⌝ }
-    ensures { λ r. ⌜ Field (tableOf (s .w) (now (t .entry)) .count k) r ⌝ }
+    ensures { λ r. ⌜ Field (tableAt (s .w) (now (t .entry)) .count k) r ⌝ }
 {
     s.counts[k]
 }

@@ -6,7 +6,7 @@ use mathlib.Core.List.{List}
 use borrow.Author.Tests.{eq-eqb, ne-eqb}
 use Rattle.basics.specs.Choice.{allBelow, Passed}
 use Rattle.basics.proofs.Passes.{passed-none, passed-more, passed-fail, passed-all}
-use Rattle.table.specs.Table.{Table, tableOf}
+use Rattle.table.specs.Table.{Table, tableAt}
 use Rattle.code.specs.Code.{decoded, Decodes}
 use Rattle.table.specs.Entries.{firstVar, params}
 use Rattle.table.specs.Reading.{Field}
@@ -43,7 +43,7 @@ pub arguments-each :
 unfolding argumentsTyped parameterIn parameterTyped
 arguments-each t s c o b first count p x part r hp e hpart hx h =
     rw (← hp, eq-eqb count p e, ← hx)
-    (h ∙ rw (hpart, o .is) (each-argument t s (o .table) first count (λ k n. argumentTyped (tableOf (s .w) t) (x + k) n)))
+    (h ∙ rw (hpart, o .is) (each-argument t s (o .table) first count (λ k n. argumentTyped (tableAt (s .w) t) (x + k) n)))
 
 pub of-params : (T : Table) (b x c : ℕ) (r : Bool) → x ≡ firstVar T b → c ≡ params T b → r ≡ allBelow c (paramSimple T x) → r ≡ allBelow (params T b) (paramSimple T (firstVar T b))
 of-params T b x c r h g e = rw (← h, ← g) e

@@ -7,6 +7,7 @@ use Rattle.basics.specs.Course as basicsCourse
 use Rattle.basics.specs.Chain as basicsChain
 use Rattle.basics.specs.Marks as basicsMarks
 use Rattle.table.specs.Bytes as tableBytes
+use Rattle.table.specs.Empty as tableEmpty
 use Rattle.table.specs.Table as tableTable
 use Rattle.table.specs.Entries as tableEntries
 use Rattle.types.specs.Types as typesTypes
@@ -23,7 +24,7 @@ use Rattle.nesting.specs.Nest as nestingNest
 use Rattle.sizes.specs.Sizes as sizesSizes
 use Rattle.scopes.specs.Scopes as scopesScopes
 use Rattle.typing.specs.Typing as typingTyping
-use Rattle.verdict.specs.Verdict.{judgedLate, judgedUses, judged, verdict}
+use Rattle.verdict.specs.Verdict.{judgedLate, judgedUses, judged, judgedBytes, verdict}
 
 -- the seven sections of a table, each with its count
 abbrev table : List ℕ → List ℕ → List ℕ → List ℕ → List ℕ → List ℕ → List ℕ → List ℕ
@@ -65,12 +66,12 @@ assigned =
     (2 ∷ (1 ∷ 0 ∷ 0 ∷ 0 ∷ 0 ∷ []) ++ (0 ∷ 0 ∷ 0 ∷ 1 ∷ 0 ∷ []))
     (4 ∷ stmt 1 0 1 0 ++ (stmt 13 0 0 0 ++ (stmt 0 0 0 0 ++ stmt 13 1 0 0)))
 
-examples :
-    -- the listing example of 01: accepted; its sections end early; bytes are left over; no table at all
+pub examples :
+    -- the listing example of 01: accepted; its sections end early; bytes are left over; zero bytes are read as it
     (verdict 1 (table none none none program none none skips) ≡ 0)
     × (verdict 1 (table none none none program none none (2 ∷ stmt 0 0 0 0)) ≡ 2)
     × (verdict 1 (table none none none program none none (skips ++ none)) ≡ 2)
-    × (verdict 1 [] ≡ 2)
+    × (verdict 1 [] ≡ 0)
     -- a skip with an operand; a space that is odd; a constant that nothing uses; a block with no statement but its end
     × (verdict 1 (table none none none program none none (2 ∷ stmt 0 1 0 0 ++ stmt 13 0 0 0)) ≡ 3)
     × (verdict 1 (table none none none (1 ∷ block 0 0 0 0 0 1) none none skips) ≡ 4)
@@ -85,5 +86,5 @@ examples :
     × (verdict 1 assigned ≡ 8)
     × (verdict 1 (guarded (0 ∷ 1 ∷ 0 ∷ 1 ∷ 0 ∷ [])) ≡ 0)
     × (verdict 1 (guarded (0 ∷ 0 ∷ 0 ∷ 1 ∷ 0 ∷ [])) ≡ 9)
-unfolding basicsChoice.both basicsChoice.either basicsChoice.between basicsChoice.allBelow basicsCourse.upto basicsCourse.course basicsChain.free basicsChain.carried basicsChain.chained basicsChain.stepTake basicsChain.testTake basicsChain.taken basicsChain.always basicsMarks.occurs basicsMarks.gather basicsMarks.marked tableBytes.shorts tableBytes.words tableBytes.rowSize tableBytes.fieldAt tableBytes.fieldWidth tableBytes.sectionEnd tableBytes.sectionFits tableBytes.whole tableBytes.begins tableTable.countAt tableTable.cellAt tableTable.tableOf tableEntries.declared typesTypes.fieldOf typesTypes.elementOf typesTypes.unaryType typesTypes.binaryType typesTypes.operandType typesTypes.nodeType typesTypes.typeOf typesMatch.offset typesMatch.span typesMatch.elements typesMatch.isString typesMatch.matches entriesKnown.spare entriesKnown.typeKnown entriesKnown.varKnown entriesKnown.blockKnown entriesKnown.usesQ entriesKnown.usesV entriesKnown.operatorKnown entriesKnown.nodeKnown entriesKnown.usesA entriesKnown.usesB entriesKnown.usesArgs entriesKnown.usesLink entriesKnown.operandsKnown entriesKnown.argsKnown entriesKnown.stmtKnown entriesKnown.declarationsKnown entriesKnown.known numbersSorts.variableKind numbersSorts.expressionKind numbersSorts.variableBelow numbersSorts.expressionBelow numbersSorts.blockOf numbersDeclarations.isRecord numbersDeclarations.recordFirst numbersDeclarations.recordCount numbersDeclarations.fieldsTaken numbersDeclarations.fieldBelow numbersDeclarations.recordRanged numbersDeclarations.arrayRanged numbersDeclarations.typeRanged numbersDeclarations.moduleOf numbersDeclarations.named numbersDeclarations.namedOnce numbersDeclarations.modulesOnce numbersDeclarations.varRanged numbersBlocks.variablesTaken numbersBlocks.programPlaced numbersBlocks.ownerRanged numbersBlocks.spaceRanged numbersBlocks.modePlaced numbersBlocks.variablesPlaced numbersBlocks.blockPlaced numbersBlocks.blockRanged numbersOperands.argRanged numbersOperands.pRanged numbersOperands.placeRanged numbersOperands.qRanged numbersOperands.nodeRanged numbersOperands.aVariable numbersOperands.aExpression numbersOperands.aBlock numbersOperands.aRanged numbersOperands.bExpression numbersOperands.bRanged numbersOperands.linkRanged numbersOperands.stmtRanged numbersOperands.isCall numbersOperands.callFirst numbersOperands.callCount numbersOperands.argumentsTaken numbersRanges.inOrder numbersRanges.typesRanged numbersRanges.declarationsRanged numbersRanges.operandsRanged numbersRanges.inRange numbersMarking.moduleMarked usesUses.operands usesUses.stmtNodes usesUses.firstOf usesUses.nodeUses usesUses.stmtUses usesUses.argUses usesUses.uses usesUses.once usesUses.usedOnce nestingNest.classOf nestingNest.class nestingNest.stmtEnd nestingNest.bodyFrom nestingNest.armEnd nestingNest.closed nestingNest.armsFrom nestingNest.finished nestingNest.blockEnd nestingNest.blockOk nestingNest.nested nestingNest.blockStep nestingNest.blockOf nestingNest.stmtLimit nestingNest.bodyEnd nestingNest.armsEnd sizesSizes.sumBelow sizesSizes.fieldsWords sizesSizes.typeWords sizesSizes.wordsOf sizesSizes.partWords sizesSizes.offsetIn sizesSizes.inIndex sizesSizes.boundsOk sizesSizes.evenString sizesSizes.typeOk sizesSizes.typeSized sizesSizes.typesSized sizesSizes.varOffset sizesSizes.moduleWords sizesSizes.blockSized sizesSizes.blocksSized sizesSizes.sized sizesSizes.kept scopesScopes.among scopesScopes.visible scopesScopes.hasSecond scopesScopes.nodeScope scopesScopes.nodeScoped scopesScopes.argumentScoped scopesScopes.argumentsScoped scopesScopes.namesA scopesScopes.namesB scopesScopes.hasArguments scopesScopes.fieldsScoped scopesScopes.staysIn scopesScopes.stmtScoped scopesScopes.scoped scopesScopes.scopedIn typingTyping.isVariable typingTyping.isExpression typingTyping.constantTyped typingTyping.elementTyped typingTyping.unaryTyped typingTyping.alikeTyped typingTyping.binaryTyped typingTyping.nodeTyped typingTyping.argumentTyped typingTyping.parameterTyped typingTyping.argumentsTyped typingTyping.processCallTyped typingTyping.startTyped typingTyping.callTyped typingTyping.writeTyped typingTyping.stmtTyped typingTyping.simple typingTyping.paramSimple typingTyping.paramsSimple typingTyping.typed typingTyping.parameterIn judgedLate judgedUses judged verdict
+unfolding basicsChoice.both basicsChoice.either basicsChoice.between basicsChoice.allBelow basicsCourse.upto basicsCourse.course basicsChain.free basicsChain.carried basicsChain.chained basicsChain.stepTake basicsChain.testTake basicsChain.taken basicsChain.always basicsMarks.occurs basicsMarks.gather basicsMarks.marked tableBytes.shorts tableBytes.words tableBytes.rowSize tableBytes.fieldAt tableBytes.fieldWidth tableBytes.sectionEnd tableBytes.sectionFits tableBytes.whole tableBytes.begins tableTable.countAt tableTable.cellAt tableTable.tableAt tableEmpty.field tableEmpty.fieldsOf tableEmpty.listing tableEmpty.bytesRead tableEntries.declared typesTypes.fieldOf typesTypes.elementOf typesTypes.unaryType typesTypes.binaryType typesTypes.operandType typesTypes.nodeType typesTypes.typeOf typesMatch.offset typesMatch.span typesMatch.elements typesMatch.isString typesMatch.matches entriesKnown.spare entriesKnown.typeKnown entriesKnown.varKnown entriesKnown.blockKnown entriesKnown.usesQ entriesKnown.usesV entriesKnown.operatorKnown entriesKnown.nodeKnown entriesKnown.usesA entriesKnown.usesB entriesKnown.usesArgs entriesKnown.usesLink entriesKnown.operandsKnown entriesKnown.argsKnown entriesKnown.stmtKnown entriesKnown.declarationsKnown entriesKnown.known numbersSorts.variableKind numbersSorts.expressionKind numbersSorts.variableBelow numbersSorts.expressionBelow numbersSorts.blockOf numbersDeclarations.isRecord numbersDeclarations.recordFirst numbersDeclarations.recordCount numbersDeclarations.fieldsTaken numbersDeclarations.fieldBelow numbersDeclarations.recordRanged numbersDeclarations.arrayRanged numbersDeclarations.typeRanged numbersDeclarations.moduleOf numbersDeclarations.named numbersDeclarations.namedOnce numbersDeclarations.modulesOnce numbersDeclarations.varRanged numbersBlocks.variablesTaken numbersBlocks.programPlaced numbersBlocks.ownerRanged numbersBlocks.spaceRanged numbersBlocks.modePlaced numbersBlocks.variablesPlaced numbersBlocks.blockPlaced numbersBlocks.blockRanged numbersOperands.argRanged numbersOperands.pRanged numbersOperands.placeRanged numbersOperands.qRanged numbersOperands.nodeRanged numbersOperands.aVariable numbersOperands.aExpression numbersOperands.aBlock numbersOperands.aRanged numbersOperands.bExpression numbersOperands.bRanged numbersOperands.linkRanged numbersOperands.stmtRanged numbersOperands.isCall numbersOperands.callFirst numbersOperands.callCount numbersOperands.argumentsTaken numbersRanges.inOrder numbersRanges.typesRanged numbersRanges.declarationsRanged numbersRanges.operandsRanged numbersRanges.inRange numbersMarking.moduleMarked usesUses.operands usesUses.stmtNodes usesUses.firstOf usesUses.nodeUses usesUses.stmtUses usesUses.argUses usesUses.uses usesUses.once usesUses.usedOnce nestingNest.classOf nestingNest.class nestingNest.stmtEnd nestingNest.bodyFrom nestingNest.armEnd nestingNest.closed nestingNest.armsFrom nestingNest.finished nestingNest.blockEnd nestingNest.blockOk nestingNest.nested nestingNest.blockStep nestingNest.blockOf nestingNest.stmtLimit nestingNest.bodyEnd nestingNest.armsEnd sizesSizes.sumBelow sizesSizes.fieldsWords sizesSizes.typeWords sizesSizes.wordsOf sizesSizes.partWords sizesSizes.offsetIn sizesSizes.inIndex sizesSizes.boundsOk sizesSizes.evenString sizesSizes.typeOk sizesSizes.typeSized sizesSizes.typesSized sizesSizes.varOffset sizesSizes.moduleWords sizesSizes.blockSized sizesSizes.blocksSized sizesSizes.sized sizesSizes.kept scopesScopes.among scopesScopes.visible scopesScopes.hasSecond scopesScopes.nodeScope scopesScopes.nodeScoped scopesScopes.argumentScoped scopesScopes.argumentsScoped scopesScopes.namesA scopesScopes.namesB scopesScopes.hasArguments scopesScopes.fieldsScoped scopesScopes.staysIn scopesScopes.stmtScoped scopesScopes.scoped scopesScopes.scopedIn typingTyping.isVariable typingTyping.isExpression typingTyping.constantTyped typingTyping.elementTyped typingTyping.unaryTyped typingTyping.alikeTyped typingTyping.binaryTyped typingTyping.nodeTyped typingTyping.argumentTyped typingTyping.parameterTyped typingTyping.argumentsTyped typingTyping.processCallTyped typingTyping.startTyped typingTyping.callTyped typingTyping.writeTyped typingTyping.stmtTyped typingTyping.simple typingTyping.paramSimple typingTyping.paramsSimple typingTyping.typed typingTyping.parameterIn judgedLate judgedUses judged judgedBytes verdict
 examples = (refl, refl, refl, refl, refl, refl, refl, refl, refl, refl, refl, refl, refl, refl, refl)

@@ -1,3 +1,3 @@
 pub mod Rooming
 pub mod Promise
-mod Examples
+pub mod Examples

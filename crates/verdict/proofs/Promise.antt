@@ -5,6 +5,7 @@ use mathlib.Core.List.{List}
 use native.Mathlib.Omega.{arith}
 use Rattle.basics.proofs.Bools.{zero-test}
 use Rattle.table.specs.Bytes.{whole}
+use Rattle.table.specs.Empty.{bytesRead}
 use Rattle.table.specs.Table.{Table, tableOf}
 use Rattle.entries.specs.Known.{known}
 use Rattle.numbers.specs.Ranges.{inRange}
@@ -13,7 +14,7 @@ use Rattle.nesting.specs.Nest.{nested}
 use Rattle.sizes.specs.Sizes.{sized}
 use Rattle.scopes.specs.Scopes.{scoped}
 use Rattle.typing.specs.Typing.{typed}
-use Rattle.verdict.specs.Verdict.{judgedLate, judgedUses, judged, verdict}
+use Rattle.verdict.specs.Verdict.{judgedLate, judgedUses, judged, judgedBytes, verdict}
 use Rattle.verdict.specs.Accepted.{Accepted}
 
 pub accepted : (T : Table) → judged T ≡ 0 → Accepted T
@@ -37,5 +38,5 @@ accepted T h =
     }
 
 pub promise : (w : ℕ) (t : List ℕ) → verdict w t ≡ 0 → Accepted (tableOf w t)
-unfolding verdict
-promise w t h = accepted (tableOf w t) (zero-test (whole w t) _ 2 (λ e. omega arith) h .1)
+unfolding verdict judgedBytes tableOf
+promise w t h = accepted (tableOf w t) (zero-test (whole w (bytesRead w t)) _ 2 (λ e. omega arith) h .1)

@@ -1,11 +1,12 @@
 -- The arrays of the small edition suffice: a count of one byte is at most 255. Assumes nothing.
 use Prim.Native.Nat.{ℕ, _<_}
 use mathlib.Core.Path.{_≡_}
-use mathlib.Core.List.{List}
+use mathlib.Core.List.{List, [], _∷_}
 use lib.ListN.{length, getD, replicate, length-replicate, getD-replicate}
 use native.Mathlib.Omega.{arith}
-use Rattle.table.specs.Bytes.{begins}
-use Rattle.table.specs.Table.{tableOf, countAt}
+use Rattle.table.specs.Empty.{field, fieldsOf, listing, bytesRead}
+use Rattle.table.specs.Table.{tableAt, tableOf}
+use Rattle.table.proofs.ReadBytes.{count-byte}
 use Rattle.table.specs.Entries.{nodeCount}
 use Rattle.table.specs.Reading.{Of}
 use Rattle.table.specs.declared.Sections.{Sections}
@@ -14,25 +15,19 @@ use Rattle.code.specs.Decoding.{Blank, Decodable}
 use Rattle.code.proofs.Blanks.{new-room}
 use Rattle.uses.proofs.Blanks.{blank-new}
 use Rattle.sizes.proofs.Counting.{kind-none}
-use mathlib.Core.Path.{sym, _∙_}
+use mathlib.Core.Path.{refl, sym, _∙_}
 use mathlib.Core.Bool.{Bool, true, false}
-use lib.Dec.{ltb}
 use Rattle.table.specs.Bytes.{whole}
-use Rattle.basics.specs.Choice.{cases}
 use Rattle.verdict.specs.Rooms.{Rooms}
-use Rattle.verdict.specs.Checked.{Checked}
-use Rattle.verdict.specs.Verdict.{judged, verdict}
+use Rattle.verdict.specs.Checked.{Checked, CheckedBytes}
+use Rattle.verdict.specs.Verdict.{judged, judgedBytes, verdict}
 
 module _ (t : List ℕ) (bytes : (i : ℕ) → getD t i 0 < 256) where
-  count-small : (k : ℕ) → tableOf 1 t .count k < 256
-  unfolding tableOf countAt
-  count-small k = cases (ltb k 7) (λ e. rw e (bytes (begins 1 t k))) (λ e. rw e (omega arith))
-
-  rooms-1 : Rooms (tableOf 1 t) (replicate 256 0) (replicate 258 0) (replicate 256 0) (replicate 256 0)
+  rooms-1 : Rooms (tableAt 1 t) (replicate 256 0) (replicate 258 0) (replicate 256 0) (replicate 256 0)
   rooms-1 =
-      let n = count-small 5 in
-      let k = count-small 0 in
-      let b = count-small 3 in
+      let n = count-byte t bytes 5 in
+      let k = count-byte t bytes 0 in
+      let b = count-byte t bytes 3 in
       record {
         forTypes = record { room = rw (length-replicate {A = ℕ} 256 0) (omega arith) };
         forSizes = record { room = rw (length-replicate {A = ℕ} 258 0) (omega arith); beyond = kind-none 1 t };
@@ -40,7 +35,7 @@ module _ (t : List ℕ) (bytes : (i : ℕ) → getD t i 0 < 256) where
           long = rw (length-replicate {A = ℕ} 256 0) (omega arith);
           clear = λ j h. getD-replicate {A = ℕ} 256 j 0 0 (rw (length-replicate {A = ℕ} 256 0) at h);
         };
-        forNodes = blank-new (nodeCount (tableOf 1 t)) 256 (omega arith);
+        forNodes = blank-new (nodeCount (tableAt 1 t)) 256 (omega arith);
       }
 
   pub rooms-small : (s : Sections) (c : List ℕ) → Decodes t s c → s .w ≡ 1 → Rooms (decoded c) (replicate 256 0) (replicate 258 0) (replicate 256 0) (replicate 256 0)
@@ -52,13 +47,25 @@ module _ (t : List ℕ) (bytes : (i : ℕ) → getD t i 0 < 256) where
 
 -- the verdict, from what the reader of the sections answered
 module _ (t : List ℕ) (f : Bool) (e : f ≡ whole 1 t) where
-  pub checked-found : (w r : ℕ) (c : List ℕ) → f ≡ true → w ≡ 1 → decoded c ≡ tableOf w t → length c ≡ 8256 → r ≡ judged (decoded c) → Checked t r c
-  unfolding verdict
+  pub checked-found : (w r : ℕ) (c : List ℕ) → f ≡ true → w ≡ 1 → decoded c ≡ tableAt w t → length c ≡ 8256 → r ≡ judged (decoded c) → CheckedBytes t r c
+  unfolding judgedBytes
   checked-found w r c h g d l x =
       let y : whole 1 t ≡ true = sym e ∙ h in
-      let q : decoded c ≡ tableOf 1 t = rw (← g) d in
+      let q : decoded c ≡ tableAt 1 t = rw (← g) d in
       record { is = rw y (rw q at x); table = λ z. q; long = l }
 
-  pub checked-none : (c : List ℕ) → f ≡ false → length c ≡ 8256 → Checked t 2 c
-  unfolding verdict
+  pub checked-none : (c : List ℕ) → f ≡ false → length c ≡ 8256 → CheckedBytes t 2 c
+  unfolding judgedBytes
   checked-none c h l = let y : whole 1 t ≡ false = sym e ∙ h in record { is = rw y; table = λ z. absurd (omega arith); long = l }
+
+-- zero bytes are read as the listing table, others as themselves
+pub checked-empty : (t c : List ℕ) (r : ℕ) → length t ≡ 0
+    → CheckedBytes (0 ∷ 0 ∷ 0 ∷ 1 ∷ 0 ∷ 0 ∷ 0 ∷ 0 ∷ 0 ∷ 0 ∷ 0 ∷ 0 ∷ 0 ∷ 0 ∷ 2 ∷ 0 ∷ 0 ∷ 0 ∷ 0 ∷ 0 ∷ 0 ∷ 13 ∷ 0 ∷ 0 ∷ 0 ∷ 0 ∷ 0 ∷ []) r c → Checked t r c
+unfolding verdict tableOf bytesRead listing fieldsOf field
+checked-empty [] c r e h = record { is = h .is; table = h .table; long = h .long }
+checked-empty (b ∷ t) c r e h = absurd (omega arith)
+
+pub checked-some : (t c : List ℕ) (r : ℕ) → (length t ≡ 0 → ⊥) → CheckedBytes t r c → Checked t r c
+unfolding verdict tableOf bytesRead
+checked-some [] c r e h = absurd (e refl)
+checked-some (b ∷ t) c r e h = record { is = h .is; table = h .table; long = h .long }

@@ -2,7 +2,8 @@
 use Prim.Native.Nat.{ℕ}
 use mathlib.Core.List.{List}
 use Rattle.basics.specs.Choice.{pick}
-use Rattle.table.specs.Table.{Table, tableOf}
+use Rattle.table.specs.Empty.{bytesRead}
+use Rattle.table.specs.Table.{Table, tableAt}
 use Rattle.table.specs.Bytes.{whole}
 use Rattle.entries.specs.Known.{known}
 use Rattle.numbers.specs.Ranges.{inRange}
@@ -24,6 +25,10 @@ judgedUses T = pick (usedOnce T) (pick (nested T) (judgedLate T) 6) 5
 unfoldable pub judged : Table → ℕ
 judged T = pick (known T) (pick (inRange T) (judgedUses T) 4) 3
 
--- THE VERDICT on any bytes, in the edition of width w
+-- all refusals of the bytes that are read, in the edition of width w
+unfoldable pub judgedBytes : ℕ → List ℕ → ℕ
+judgedBytes w t = pick (whole w t) (judged (tableAt w t)) 2
+
+-- THE VERDICT on any bytes
 unfoldable pub verdict : ℕ → List ℕ → ℕ
-verdict w t = pick (whole w t) (judged (tableOf w t)) 2
+verdict w t = judgedBytes w (bytesRead w t)

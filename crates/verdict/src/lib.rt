@@ -8,7 +8,7 @@ ghost use Rattle.sizes.specs.Sizes.{Room};
 ghost use Rattle.uses.specs.Marked.{Blank};
 ghost use Rattle.verdict.specs.Verdict.{judged, judgedUses, judgedLate, verdict};
 ghost use Rattle.verdict.specs.Rooms.{Rooms};
-ghost use Rattle.verdict.specs.Checked.{Checked};
+ghost use Rattle.verdict.specs.Checked.{Checked, CheckedBytes};
 
 // Refusals 7 to 9, of a table that the earlier rules accept.
 fn judge_late(
@@ -105,10 +105,41 @@ fn judge_small(t: &[u8], s: table::Sections, c: &code::Slots) -> u32
     )
 }
 
-// The verdict on any bytes, in the small edition; the table of bytes that are accepted is left decoded.
-pub fn check_into(t: &[u8], c: &mut code::Slots) -> u32
+// The bytes of the listing table of 01, as which zero bytes are read.
+const LISTING: [u8; 27] = [
+    0,
+    0,
+    0,
+    1,
+    0,
+    0,
+    0,
+    0,
+    0,
+    0,
+    0,
+    0,
+    0,
+    0,
+    2,
+    0,
+    0,
+    0,
+    0,
+    0,
+    0,
+    13,
+    0,
+    0,
+    0,
+    0,
+    0,
+];
+
+// All refusals of the bytes that are read; the table of bytes that are accepted is left decoded.
+fn check_bytes(t: &[u8], c: &mut code::Slots) -> u32
     requires { ⌜ decoding.Blank (now c) ⌝ }
-    ensures { λ r. ⌜ Checked (now (t .entry)) r (now (c .exit)) ⌝ }
+    ensures { λ r. ⌜ CheckedBytes (now (t .entry)) r (now (c .exit)) ⌝ }
 {
     let r = table::read_sections(t, 1);
     if r.found {
@@ -117,6 +148,18 @@ pub fn check_into(t: &[u8], c: &mut code::Slots) -> u32
         return judge_small(t, s, c);
     }
     2
+}
+
+// The verdict on any bytes, in the small edition; the table of bytes that are accepted is left decoded.
+pub fn check_into(t: &[u8], c: &mut code::Slots) -> u32
+    requires { ⌜ decoding.Blank (now c) ⌝ }
+    ensures { λ r. ⌜ Checked (now (t .entry)) r (now (c .exit)) ⌝ }
+{
+    if t.len() == 0 {
+        let listing = LISTING;
+        return check_bytes(&listing[..], c);
+    }
+    check_bytes(t, c)
 }
 
 // The verdict alone.

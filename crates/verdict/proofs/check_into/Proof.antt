@@ -1,5 +1,5 @@
 use native.Mathlib.Omega.{arith}
-use Rattle.verdict.proofs.Rooming.{decodable-small, checked-found, checked-none}
+use Rattle.verdict.proofs.Rooming.{checked-empty, checked-some}
 use borrow.Author.Needs.{needs}
 use Rattle.verdict.proofs.check_into.Statement.{statement}
 use Rattle.verdict.proofs.check_into.Tie as tie
@@ -8,8 +8,8 @@ pub check-into-spec : {M : Type 1} → statement M
 check-into-spec =
     tie.close
     (tie.spec
+    (λ c. search needs)
     (λ c κs. search needs)
-    (λ c κs. let e = c .before .before .before .read-sections .ensures in let f = c .before .before .if1 .taken in decodable-small _ (λ i. omega (arith, c .before .before .before .before .shared-slice-known .given i)) _ _ (e .sections f) (e .width f) (c .before .before .before .before .before .pre))
-    (λ c κs. let e = c .before .before .before .before .before .read-sections .ensures in let f = c .before .before .before .before .if1 .taken in (record { table = e .sections f; is = c .before .decode .ensures .0 }, e .width f))
-    (λ c. let e = c .before .before .before .before .before .before .read-sections .ensures in let f = c .before .before .before .before .before .if1 .taken in checked-found _ _ (e .found) _ _ _ f (e .width f) (c .before .before .decode .ensures .0) (c .before .before .decode .ensures .1) (c .judge-small .ensures))
-    (λ c. checked-none _ _ (c .before .read-sections .ensures .found) _ (c .if1 .left) (c .before .before .before .pre .long)))
+    (λ c. checked-empty _ _ _ (c .before .before .before .if1 .taken) (c .check-bytes .ensures))
+    (λ c κs. search needs)
+    (λ c. search checked-some))
