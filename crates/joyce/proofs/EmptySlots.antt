@@ -1,9 +1,10 @@
 -- Zero bytes are the listing table to every call; a table of one byte is refused with 2. Assumes nothing.
-use Prim.Native.Nat.{ℕ, _≤_}
+use Prim.Native.Nat.{ℕ, _+_, _≤_}
 use mathlib.Core.Path.{_≡_, refl}
 use mathlib.Core.Bool.{false}
 use mathlib.Core.List.{[], _∷_}
 use native.Mathlib.Omega.{arith}
+use lib.ListN.{length}
 use borrow.Author.Tests.{lt-leb}
 use Rattle.basics.specs.Chain.{free, carried, chained}
 use Rattle.basics.proofs.Bools.{both-false-l, all-fail}
@@ -28,10 +29,14 @@ same-table : (w : ℕ) → tableOf w [] ≡ tableOf w (listing w)
 unfolding tableOf
 same-table w = rw (same-bytes w)
 
--- the second section has no room for its count
+-- the first section ends behind its count, so that the second has no room for its own
+first-end : (w b : ℕ) → w ≤ sectionEnd w (b ∷ []) 0 0
+unfolding sectionEnd
+first-end w b = omega arith
+
 no-count : (w b : ℕ) → 1 ≤ w → sectionFits w (b ∷ []) 1 (sectionEnd w (b ∷ []) 0 0) ≡ false
-unfolding sectionFits sectionEnd
-no-count w b h = rw (lt-leb _ _ (omega arith))
+unfolding sectionFits
+no-count w b h = rw (lt-leb (sectionEnd w (b ∷ []) 0 0 + w) (length (b ∷ [])) (omega (arith, first-end w b)))
 
 not-whole : (w b : ℕ) → 1 ≤ w → whole w (b ∷ []) ≡ false
 unfolding whole chained carried free

@@ -11,7 +11,8 @@ use borrow.Author.Tests.{eq-eqb, ne-eqb, eqb-true, eqb-false}
 use Rattle.basics.specs.Choice.{pick, cases}
 use Rattle.basics.proofs.Bools.{no-true}
 use Rattle.words.specs.Memory.{Bytes}
-use Rattle.table.specs.Table.{Table, tableOf}
+use Rattle.table.specs.Empty.{bytesRead}
+use Rattle.table.specs.Table.{Table, tableAt, tableOf}
 use Rattle.table.specs.Bytes.{whole}
 use Rattle.entries.specs.Known.{known}
 use Rattle.numbers.specs.Ranges.{inRange}
@@ -20,7 +21,7 @@ use Rattle.nesting.specs.Nest.{nested}
 use Rattle.sizes.specs.Sizes.{sized}
 use Rattle.scopes.specs.Scopes.{scoped}
 use Rattle.typing.specs.Typing.{typed}
-use Rattle.verdict.specs.Verdict.{judgedLate, judgedUses, judged, verdict}
+use Rattle.verdict.specs.Verdict.{judgedLate, judgedUses, judged, judgedBytes, verdict}
 use Rattle.verdict.proofs.Promise.{promise}
 use Rattle.machine.specs.Memory.{memoryOf}
 use Rattle.machine.specs.Public.{refusal, look, called, finished, beginRefusal, beginCall, runRefusal, runCall, lookRefusal, lookCall}
@@ -51,8 +52,8 @@ judged-checked T =
     (accepts refl)))))))
 
 verdict-checked : (t : List ℕ) → Checked (verdict 1 t)
-unfolding verdict
-verdict-checked t = pick-checked (whole 1 t) _ 2 (omega arith) (omega arith) (judged-checked (tableOf 1 t))
+unfolding verdict judgedBytes
+verdict-checked t = pick-checked (whole 1 (bytesRead 1 t)) _ 2 (omega arith) (omega arith) (judged-checked (tableAt 1 (bytesRead 1 t)))
 
 -- ---- the rows
 
