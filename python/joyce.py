@@ -9,9 +9,9 @@
 The calls themselves are check, begin, run and look below; they return the numbers of joyce.h. pack makes a table of lists of entries, and
 unpack lists of a table. The enums have the names and numbers of joyce.h.
 
-The archive is linked into a shared object the first time, by $CC or gcc, beside it or, where that cannot be written, in a folder of its own
-that goes when Python ends. $JOYCE_LIBRARY names the archive or a shared object; else it is found beside this folder: target/staticlib in the
-repository, lib where it is installed. Linux on x86-64 only, as the archive."""
+The archive is linked into a shared object _joyce.so the first time, by $CC or gcc, beside it or, where that cannot be written, in a folder of its own
+that goes when Python ends. $JOYCE_LIBRARY names the archive or a shared object; else it is target/staticlib/libjoyce.a of the repository, or
+lib/libjoyce.a of the prefix that this file was installed below, in share/joyce. Linux on x86-64 only, as the archive."""
 import atexit
 import ctypes
 import enum
@@ -98,12 +98,12 @@ def integer(word):
 def _archive():
     if "JOYCE_LIBRARY" in os.environ:
         return pathlib.Path(os.environ["JOYCE_LIBRARY"])
-    top = pathlib.Path(__file__).resolve().parent.parent
-    places = [top / "target/staticlib/libjoyce.a", top / "lib/libjoyce.a"]
+    here = pathlib.Path(__file__).resolve()
+    places = [here.parents[1] / "target/staticlib/libjoyce.a", *(top / "lib/libjoyce.a" for top in here.parents[1:3])]
     for place in places:
         if place.exists():
             return place
-    raise OSError(f"no libjoyce.a: neither {places[0]} nor {places[1]}. Run make, or set JOYCE_LIBRARY")
+    raise OSError(f"no libjoyce.a: {', '.join(map(str, places))} are not there. Run make, or set JOYCE_LIBRARY")
 
 
 def _link(archive, shared):
@@ -120,7 +120,7 @@ def _load():
     archive = _archive()
     if archive.suffix != ".a":
         return ctypes.CDLL(str(archive))
-    shared = archive.with_suffix(".so")
+    shared = archive.with_name("_joyce.so")     # not libjoyce.so, which -ljoyce would take before the archive
     if not shared.exists() or shared.stat().st_mtime < archive.stat().st_mtime:
         if not os.access(archive.parent, os.W_OK):
             folder = tempfile.mkdtemp(prefix="joyce.")

@@ -139,8 +139,8 @@ def elsewhere():
     words = [sys.executable, "-B", "-c", "import joyce; print(joyce.check(b''))"]
     clean = {k: v for k, v in os.environ.items() if k != "JOYCE_LIBRARY"} | {"PYTHONPATH": str(top / "python")}
     assert subprocess.run(words, env=clean, capture_output=True, text=True, check=True).stdout == "2\n"
-    assert (top / "lib/libjoyce.so").exists()
-    named = clean | {"JOYCE_LIBRARY": str((top / "lib/libjoyce.so").resolve())}
+    assert (top / "lib/_joyce.so").exists()
+    named = clean | {"JOYCE_LIBRARY": str((top / "lib/_joyce.so").resolve())}
     assert subprocess.run(words, env=named, capture_output=True, text=True, check=True).stdout == "2\n"
     (top / "lib/libjoyce.a").unlink()
     failed = subprocess.run(words, env=clean, capture_output=True, text=True, check=False)
