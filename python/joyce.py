@@ -66,8 +66,10 @@ def pack(**sections):
         table.append(len(entries))
         for entry in entries:
             fields = list(entry) if isinstance(entry, (list, tuple)) else [entry]
+            if len(fields) > len(layout) - 1:
+                raise ValueError(f"an entry of {name} has {len(layout) - 1} fields: {entry}")
             fields += [0] * (len(layout) - 1 - len(fields))
-            table += struct.pack(layout, *(f & (0xFFFF if size == "H" else ~0) for f, size in zip(fields, layout[1:], strict=True)))
+            table += struct.pack(layout, *(f & 0xFFFF if size == "H" else f for f, size in zip(fields, layout[1:])))
     return bytes(table)
 
 
