@@ -100,8 +100,8 @@ def integer(word):
 def _archive():
     if "JOYCE_LIBRARY" in os.environ:
         return pathlib.Path(os.environ["JOYCE_LIBRARY"])
-    here = pathlib.Path(__file__).resolve()
-    places = [here.parents[1] / "target/staticlib/libjoyce.a", *(top / "lib/libjoyce.a" for top in here.parents[1:3])]
+    above = pathlib.Path(__file__).resolve().parent.parent
+    places = [above / "target/staticlib/libjoyce.a", above / "lib/libjoyce.a", above.parent / "lib/libjoyce.a"]
     for place in places:
         if place.exists():
             return place
