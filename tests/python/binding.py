@@ -1,4 +1,6 @@
 """python/joyce.py: a line 'ok NAME' or 'FAIL NAME: why' a test."""
+import base64
+import hashlib
 import os
 import pathlib
 import re
@@ -6,6 +8,7 @@ import shutil
 import subprocess
 import sys
 import traceback
+import zlib
 
 sys.path.insert(0, "python")
 import joyce  # noqa: E402
@@ -84,6 +87,25 @@ def cut_anywhere():
     copy = once.copy()
     copy.run(schedule)
     assert single.state == once.state != copy.state
+
+
+# The state of bench/boards/calls after 600 steps, as 1.0.0 left it, and what 600 more steps leave: answers, state and page. A release that cannot
+# read it needs another JOYCE_VERSION_MAJOR.
+STORED = (
+    "eNrt3cFqhDAUBdBnNEZbcFEGZtH//8/GaLsojHZZyDkiIjwykquJ4yYpxpgixxwllljrTl9yvQPoVYrhzP/RRoIxUtIrPeX/Hfd2pB/JcNBV/mOd"
+    "+1PLf58J6h0w6ZWe8hd33/nn+tZf2vNf6tOfI816paf855/5fznmgqJXesq/nP/5tzoOjPUs+QQAAAAAAAAAAAAAAAAAAAAAAAAAAAAAAAAAAAAA"
+    "v+yLPa9tH9r5+rJuiPd2vF4xdl9PeqvHqa0lfF33WaveWnvDZd1Hay/X7S+/O8d8U3e0V6Lc1D3P61turu/R2ltf9h0AwH/yBWbDArY=")
+AFTER = "f301a12759460d7c45db618588f6d58a8bfc3e0f4b2799444bbbf7f1b73cea25"
+
+
+@test
+def stored_state():
+    """A state that was stored by another release with the same major number is read, and goes on."""
+    table, schedule = pathlib.Path("bench/boards/calls.tab").read_bytes(), pathlib.Path("bench/boards/calls.sch").read_bytes()
+    run = joyce.Run(table, zlib.decompress(base64.b64decode(STORED)))
+    answers = run.run(schedule[600:1200])
+    assert hashlib.sha256(answers + run.state + run.page).hexdigest() == AFTER
+    assert re.search(r"#define JOYCE_VERSION_MAJOR 1$", pathlib.Path("include/joyce.h").read_text(encoding="utf-8"), re.M)
 
 
 @test
