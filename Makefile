@@ -2,10 +2,12 @@
 #
 #     make                      target/staticlib/libjoyce.a and target/joyce, the tool
 #     make example              builds the example, examples/film.c, and runs it
-#     make install PREFIX=DIR   header, archive, pkg-config file and tool below DIR (default /usr/local); DESTDIR is honoured
+#     make install PREFIX=DIR   header, archive, pkg-config and CMake files, tool, manual page, documents and the binding for Python below DIR
+#                               (default /usr/local); DESTDIR is honoured
 #     make uninstall PREFIX=DIR
 #     make test                 the gate
-#     make fuzz                 a fuzzer of the four calls, with clang's libFuzzer: target/fuzz, and inputs to begin with in target/corpus
+#     make fuzz                 a fuzzer of the four calls, with clang's libFuzzer: target/fuzz, and inputs to begin with in target/corpus;
+#                               SANITIZERS=fuzzer,address,undefined for a slower one that sees more
 #     make clean                removes what make built; proofs are kept
 .POSIX:
 .SUFFIXES:
@@ -18,16 +20,16 @@ DESTDIR =
 BINDIR = $(PREFIX)/bin
 INCLUDEDIR = $(PREFIX)/include
 LIBDIR = $(PREFIX)/lib
+DATADIR = $(PREFIX)/share
 
 LIBRARY = target/staticlib/libjoyce.a
 C99 = $(CC) -std=c99 $(WARNINGS) $(CFLAGS) $(CPPFLAGS) -Iinclude -Iexamples
-VERSION_LINE = s/^.define JOYCE_VERSION "\(.*\)"$$/\1/p
 
 all: $(LIBRARY) target/joyce
 
-# The first time, the kit proves every crate below it: some minutes.
+# The first time, the kit proves every crate below it: see tools/library.
 $(LIBRARY): FORCE
-	@tools/library
+	@CC='$(CC)' tools/library -q
 
 FORCE:
 
@@ -48,40 +50,29 @@ target/rewind: $(LIBRARY) examples/rewind.c examples/board.c examples/board.h ex
 example: target/film
 	target/film
 
-target/joyce.pc: include/joyce.h FORCE
-	@mkdir -p target
-	@{ echo 'prefix=$(PREFIX)'; \
-	echo 'includedir=$(INCLUDEDIR)'; \
-	echo 'libdir=$(LIBDIR)'; \
-	echo; \
-	echo 'Name: joyce'; \
-	echo 'Description: checker and stepper of Joyce program tables'; \
-	echo "Version: $$(sed -n '$(VERSION_LINE)' include/joyce.h)"; \
-	echo 'Cflags: -I$${includedir}'; \
-	echo 'Libs: -L$${libdir} -ljoyce'; } > $@
+PLACES = PREFIX='$(PREFIX)' BINDIR='$(BINDIR)' INCLUDEDIR='$(INCLUDEDIR)' LIBDIR='$(LIBDIR)' DATADIR='$(DATADIR)' DESTDIR='$(DESTDIR)'
 
-install: all target/joyce.pc
-	mkdir -p '$(DESTDIR)$(INCLUDEDIR)' '$(DESTDIR)$(LIBDIR)/pkgconfig' '$(DESTDIR)$(BINDIR)'
-	install -m 644 include/joyce.h '$(DESTDIR)$(INCLUDEDIR)/joyce.h'
-	install -m 644 $(LIBRARY) '$(DESTDIR)$(LIBDIR)/libjoyce.a'
-	install -m 644 target/joyce.pc '$(DESTDIR)$(LIBDIR)/pkgconfig/joyce.pc'
-	install -m 755 target/joyce '$(DESTDIR)$(BINDIR)/joyce'
+install: all
+	@$(PLACES) tools/install
 
 uninstall:
-	rm -f '$(DESTDIR)$(INCLUDEDIR)/joyce.h' '$(DESTDIR)$(LIBDIR)/libjoyce.a'
-	rm -f '$(DESTDIR)$(LIBDIR)/pkgconfig/joyce.pc' '$(DESTDIR)$(BINDIR)/joyce'
+	@$(PLACES) tools/install --remove
 
 test:
 	bash .ci/run
 
-fuzz: $(LIBRARY) fuzz/calls.c fuzz/short.c include/joyce.h
-	clang -std=c11 -g -O1 $(WARNINGS) -fsanitize=fuzzer,address,undefined -Iinclude fuzz/calls.c $(LIBRARY) -o target/fuzz
-	$(CC) -std=c11 -O2 $(WARNINGS) -Iinclude fuzz/calls.c fuzz/short.c $(LIBRARY) -o target/inputs
+# The plain interpreter is compared with, and its branches guide the fuzzer: the archive has no counters of its own.
+SANITIZERS = fuzzer
+FUZZ = fuzz/calls.c fuzz/mutator.c bench/plain.c bench/interpreter.c
+
+fuzz: $(LIBRARY) $(FUZZ) fuzz/short.c include/joyce.h
+	clang -std=c11 -g -O2 $(WARNINGS) -fsanitize=$(SANITIZERS) -DPLAIN $(FUZZ_FLAGS) -Iinclude -Ibench $(FUZZ) $(LIBRARY) -o target/fuzz
+	$(CC) -std=c11 -O2 $(WARNINGS) -Iinclude fuzz/calls.c fuzz/short.c fuzz/mutator.c $(LIBRARY) -o target/inputs
 	mkdir -p target/corpus
 	target/inputs crates/verdicts/data/verdicts.bin 1000 target/corpus
 
 clean:
-	rm -f target/joyce target/film target/rewind target/joyce.pc target/fuzz target/inputs
-	rm -rf target/corpus
+	rm -f target/joyce target/film target/rewind target/fuzz target/inputs
+	rm -rf target/corpus target/install
 
 .PHONY: all example install uninstall test fuzz clean FORCE

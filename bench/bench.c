@@ -1,7 +1,7 @@
 /* Ours against the plain interpreter, on boards: a table BOARD.tab with a schedule BOARD.sch.
  *
- *     bench time COUNTS BOARD..   prints the tables: nanoseconds, and the instructions that the file COUNTS gives
- *     bench count BOARD..         makes each call that is measured once; under callgrind, each leaves a dump with its name
+ *     bench time ROUNDS COUNTS BOARD..   prints the tables: nanoseconds, the least of so many rounds, and the instructions that the file COUNTS gives
+ *     bench count BOARD..                makes each call that is measured once; under callgrind, each leaves a dump with its name
  *
  * bench/run makes COUNTS of those dumps: lines of board, whose, what, number. Built with -DPLAIN, the plain interpreter stands in for ours. */
 #define _POSIX_C_SOURCE 199309L
@@ -28,7 +28,7 @@
 
 enum { STATE = 35328, PAGE = 8192, LONGEST = 7657, STEPS = 100000, FAILURE = 2 * (16384 + 9) };
 enum { OURS, PLAIN_ONE, BOTH };
-enum { TURNS = 100, CALLS = 200 };
+enum { CALLS = 200 };
 
 struct calls {
     const char *name;
@@ -52,7 +52,7 @@ static const char *const kinds[KINDS] = {"check", "begin", "nothing", "one", "al
 
 struct board {
     const char *name;
-    uint8_t table[LONGEST + 1], schedule[STEPS], answers[STEPS];
+    uint8_t table[LONGEST + 1], schedule[STEPS + 1], answers[STEPS];
     size_t length, steps;
     uint8_t state[STATE], page[PAGE];       /* as begin leaves them */
     uint8_t later_state[STATE], later_page[PAGE]; /* half the schedule later */
@@ -111,6 +111,8 @@ static struct board *load(const char *name)
     b->name = strrchr(name, '/') ? strrchr(name, '/') + 1 : name;
     b->length = read_file(name, "tab", b->table, sizeof b->table);
     b->steps = read_file(name, "sch", b->schedule, sizeof b->schedule);
+    if (b->steps < 2 * CALLS || b->steps > STEPS)
+        stop(name, "a schedule of 400 to 100,000 steps is needed");
     compare(b);
     return b;
 }
@@ -150,9 +152,9 @@ static double turn(const struct calls *c, struct board *b, int kind)
 
 /* Ours and the plain one take turns, board by board, so that no board meets a busy machine alone. The least of the turns counts: what else
  * the machine does only adds to one. */
-static void measure(struct board **boards, int n)
+static void measure(struct board **boards, int n, int rounds)
 {
-    for (int i = 0; i < TURNS * n; i++)
+    for (int i = 0; i < rounds * n; i++)
         for (int kind = 0; kind < KINDS; kind++)
             for (int j = 0; j < BOTH; j++) {
                 struct board *b = boards[i % n];
@@ -284,21 +286,21 @@ static void print_tables(struct board **boards, int n)
 int main(int argc, char **argv)
 {
     bool is_time = argc > 2 && !strcmp(argv[1], "time");
-    int first = is_time ? 3 : 2, n = argc - first;
-    if (argc < 3 || n < 1 || (!is_time && strcmp(argv[1], "count"))) {
-        fprintf(stderr, "usage: bench time COUNTS BOARD.. | bench count BOARD..\n");
+    int first = is_time ? 4 : 2, n = argc - first, rounds = is_time ? atoi(argv[2]) : 1;
+    if (argc < 3 || n < 1 || rounds < 1 || rounds > 100000 || (!is_time && strcmp(argv[1], "count"))) {
+        fprintf(stderr, "usage: bench time ROUNDS COUNTS BOARD.. | bench count BOARD..\n");
         return 2;
     }
     struct board **boards = calloc((size_t)n, sizeof *boards);
     for (int i = 0; i < n; i++) {
         boards[i] = load(argv[first + i]);
         if (is_time)
-            read_counts(boards[i], argv[2]);
+            read_counts(boards[i], argv[3]);
         else
             count(boards[i]);
     }
     if (is_time) {
-        measure(boards, n);
+        measure(boards, n, rounds);
         print_tables(boards, n);
     }
     return 0;

@@ -5,7 +5,9 @@
  *
  * What must hold of any input: nothing crashes or is touched beside a slice; a refusal changes no lent byte; begin, run and look give a table the
  * verdict of check; each answer is one of joyce.h, and after a failure all are the same; a state after a run is a state of its program; a run
- * cut into single steps is the same run. With -DPLAIN, also: the plain interpreter of bench/ leaves the same. */
+ * cut into single steps is the same run. With -DPLAIN, also: the plain interpreter of bench/ leaves the same.
+ *
+ * With -DCOUNT it says at its end what the inputs were: their verdicts, and how many made an accepted program step. */
 #include "joyce.h"
 #ifdef PLAIN
 #include "plain.h"
@@ -127,6 +129,53 @@ static uint32_t run(const struct input *in, struct lent *l, size_t first, size_t
                      l->answers_len - first);
 }
 
+/* ---- what the inputs were */
+
+#ifdef COUNT
+static struct {
+    unsigned long inputs, verdicts[JOYCE_TYPES + 1], accepted_long, stepped;
+    bool has_stepped; /* the input at hand */
+} seen;
+
+static double share(unsigned long part)
+{
+    return 100.0 * (double)part / (double)(seen.inputs ? seen.inputs : 1);
+}
+
+static void tell(void)
+{
+    fprintf(stderr, "%lu inputs, %.1f %% step an accepted program; accepted and longer than 100 bytes: %.1f %%; verdicts", seen.inputs,
+            share(seen.stepped), share(seen.accepted_long));
+    for (int i = 0; i <= JOYCE_TYPES; i++)
+        if (i != JOYCE_LENGTH)
+            fprintf(stderr, " %d: %.1f %%", i, share(seen.verdicts[i]));
+    fprintf(stderr, "\n");
+}
+
+static void count_input(void)
+{
+    if (seen.inputs++ == 0)
+        atexit(tell);
+}
+
+static void count_steps(const uint8_t *answers, size_t turns)
+{
+    seen.has_stepped |= memchr(answers, JOYCE_DONE, turns) != NULL;
+}
+
+static void count(const struct input *in, uint32_t verdict)
+{
+    seen.verdicts[verdict]++;
+    seen.accepted_long += verdict == JOYCE_ACCEPTED && in->table_len > 100;
+    seen.stepped += seen.has_stepped;
+    seen.has_stepped = false;
+}
+#else
+#define count_input() ((void)0)
+#define count_steps(answers, turns) ((void)(answers), (void)(turns))
+#define count(in, verdict) ((void)0)
+#endif
+
 /* ---- begin */
 
 static void try_begin(const struct input *in, struct lent *l, uint32_t verdict)
@@ -151,6 +200,7 @@ static void warm_up(const struct input *in, struct lent *l)
     uint32_t result = joyce_run(in->table, in->table_len, l->state, l->state_len, l->page, l->page_len, in->schedule, in->turns, answers,
                                 in->turns);
     expect(result == JOYCE_OK, "a run from the beginning is refused");
+    count_steps(answers, in->turns);
 }
 
 /* ---- run */
@@ -181,7 +231,7 @@ static uint32_t run_verdict(const struct lent *l, size_t turns, uint32_t verdict
     return is_wrong ? (uint32_t)JOYCE_LENGTH : verdict;
 }
 
-static uint32_t try_run(const struct input *in, struct lent *l, uint32_t verdict)
+static void try_run(const struct input *in, struct lent *l, uint32_t verdict)
 {
     struct lent before = copy_of(l);
     uint32_t result = run(in, l, 0, in->turns), expected = run_verdict(l, in->turns, verdict);
@@ -189,6 +239,7 @@ static uint32_t try_run(const struct input *in, struct lent *l, uint32_t verdict
     expect(result == JOYCE_OK || is_same(l, &before), "run refused and changed something");
     if (result == JOYCE_OK) {
         check_answers(in, l);
+        count_steps(l->answers, in->turns);
         expect(run(in, l, in->turns, 0) == JOYCE_OK, "the state after a run is refused");
         if (in->flags & SINGLE_STEPS) {
             struct lent again = copy_of(&before);
@@ -202,7 +253,6 @@ static uint32_t try_run(const struct input *in, struct lent *l, uint32_t verdict
     expect(plain == result && is_same(l, &before), "run is not that of the plain interpreter");
 #endif
     release(&before);
-    return result;
 }
 
 /* ---- look */
@@ -232,6 +282,7 @@ static void try_look(const struct input *in, const struct lent *l, uint32_t verd
 int LLVMFuzzerTestOneInput(const uint8_t *data, size_t size)
 {
     struct input in;
+    count_input();
     if (!read_input(&in, data, size))
         return 0;
     uint8_t *table = filled(in.table_len, 0);
@@ -248,6 +299,7 @@ int LLVMFuzzerTestOneInput(const uint8_t *data, size_t size)
         l.state[(in.damage[3 * i] + 256u * in.damage[3 * i + 1]) % l.state_len] ^= in.damage[3 * i + 2];
     try_look(&in, &l, verdict);
     try_run(&in, &l, verdict);
+    count(&in, verdict);
     expect(memcmp(table, data + (size - in.table_len), in.table_len) == 0, "the table was changed");
     release(&l);
     free(table);

@@ -1,15 +1,19 @@
 /* A short run of the fuzz target, the same each time: inputs made from outside vectors by a fixed pseudo-random sequence.
  *
  *     short VERDICTS ROUNDS          tries so many inputs
- *     short VERDICTS ROUNDS FOLDER   writes them there instead, as a first corpus for a fuzzer */
+ *     short VERDICTS ROUNDS FOLDER   writes them there instead, as a first corpus for a fuzzer
+ *     short VERDICTS ROUNDS --mutate tries what fuzz/mutator.c makes of them, and of what it has made: a small fuzzer without coverage */
 #include <stdint.h>
 #include <stdio.h>
 #include <stdlib.h>
 #include <string.h>
 
 int LLVMFuzzerTestOneInput(const uint8_t *data, size_t size);
+size_t LLVMFuzzerCustomMutator(uint8_t *data, size_t size, size_t max_size, unsigned int seed);
+size_t LLVMFuzzerCustomCrossOver(const uint8_t *one, size_t one_size, const uint8_t *two, size_t two_size, uint8_t *out, size_t max_size,
+                                 unsigned int seed);
 
-enum { TABLES_MAX = 65536, INPUT_MAX = 65536 + 1024 };
+enum { TABLES_MAX = 65536, INPUT_MAX = 65536 + 1024, POOL = 200, MUTATED_MAX = 8192 };
 
 static const uint8_t *tables[TABLES_MAX];
 static size_t lengths[TABLES_MAX], accepted[TABLES_MAX], table_count, accepted_count;
@@ -102,15 +106,46 @@ static void write_input(const char *folder, long round, const uint8_t *input, si
     }
 }
 
+/* A pool of inputs. Each round changes one, tries it, and mostly puts it back. */
+static void mutate(long rounds)
+{
+    static uint8_t pool[POOL][INPUT_MAX], input[INPUT_MAX], crossed[INPUT_MAX];
+    static size_t sizes[POOL];
+    for (int i = 0; i < POOL; i++) {
+        do {
+            sizes[i] = put_head(pool[i]);
+            sizes[i] += put_table(pool[i] + sizes[i]);
+        } while (sizes[i] > MUTATED_MAX);
+    }
+    for (long round = 0; round < rounds; round++) {
+        uint32_t i = below(POOL), other = below(POOL);
+        size_t size = sizes[i];
+        memcpy(input, pool[i], size);
+        if (below(20) == 0 && (size = LLVMFuzzerCustomCrossOver(pool[i], sizes[i], pool[other], sizes[other], crossed, MUTATED_MAX, below(1000))) > 0)
+            memcpy(input, crossed, size);
+        size = LLVMFuzzerCustomMutator(input, size ? size : sizes[i], MUTATED_MAX, below(1u << 30));
+        LLVMFuzzerTestOneInput(input, size);
+        if (below(4)) {
+            memcpy(pool[i], input, size);
+            sizes[i] = size;
+        }
+    }
+    printf("%ld inputs\n", rounds);
+}
+
 int main(int argc, char **argv)
 {
     static uint8_t input[INPUT_MAX];
     long rounds = argc == 3 || argc == 4 ? strtol(argv[2], NULL, 10) : 0;
     if (rounds <= 0) {
-        fprintf(stderr, "usage: short VERDICTS ROUNDS [FOLDER]\n");
+        fprintf(stderr, "usage: short VERDICTS ROUNDS [FOLDER | --mutate]\n");
         return 2;
     }
     load(argv[1]);
+    if (argc == 4 && strcmp(argv[3], "--mutate") == 0) {
+        mutate(rounds);
+        return 0;
+    }
     for (long round = 0; round < rounds; round++) {
         size_t length = put_head(input);
         length += put_table(input + length);

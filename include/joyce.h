@@ -1,4 +1,5 @@
-/* joyce.h: the C interface of the checker and stepper of Joyce program tables. This page is the whole manual.
+/* joyce.h: the C interface of the checker and stepper of Joyce program tables. This page is the manual of the calls, and has a name for every
+ * number that a table holds; docs/LANGUAGE.md is the guide to tables, with examples.
  *
  * A host lends bytes, calls, and gets a number back. There are four calls:
  *
@@ -14,7 +15,8 @@
  *         joyce_run(table, length, state, sizeof state, page, sizeof page, turns, 3, answers, 3) == JOYCE_OK)
  *         printf("the first step answered %u\n", answers[0]);
  *
- * Link with libjoyce.a. It needs the functions memcpy, memmove, memset and memcmp at most, and nothing else of a C library.
+ * Link with libjoyce.a. It needs the functions memcpy, memmove, memset and memcmp at most, and nothing else of a C library. It is code for
+ * Linux on x86-64: the kit that proves and compiles it writes no other.
  *
  * ---- What holds for every call
  *
@@ -37,7 +39,10 @@
  * call allocates nothing and needs less than 256 KiB of stack.
  *
  * States are bytes. A state may be copied, stored, compared and put back at any time. With the same table, and the same device words, equal
- * states behave alike, wherever the schedule is cut into calls.
+ * states behave alike, wherever the schedule is cut into calls, if nobody changes the page between them.
+ *
+ * States across versions. Within one JOYCE_VERSION_MAJOR, a state that one release left is read by all others, with the same table, and
+ * means the same. A new major number may refuse it, with JOYCE_LENGTH or JOYCE_STATE, and will say so here. Keep the number with what you store.
  *
  * ---- Tables
  *
@@ -52,6 +57,9 @@
  *     arguments   node
  *     nodes       kind, p, q, v
  *     statements  kind, a, b, c, d, link
+ *
+ * Entries are numbered from 0 in each section, types from JOYCE_DECLARED. What the fields hold stands at the enums below, kind by kind; a field
+ * that is not named there is 0.
  */
 #ifndef JOYCE_H
 #define JOYCE_H
@@ -63,11 +71,12 @@
 extern "C" {
 #endif
 
-/* The version of this interface. The first number changes where a host must be changed, the second where something is added. */
+/* The version of this interface. The first number changes where a host must be changed, the second where something is added. There is no
+ * function for it: the archive exports the four proved calls and nothing else, and is linked statically with the header that it came with. */
 #define JOYCE_VERSION_MAJOR 1
-#define JOYCE_VERSION_MINOR 0
+#define JOYCE_VERSION_MINOR 1
 #define JOYCE_VERSION_PATCH 0
-#define JOYCE_VERSION "1.0.0"
+#define JOYCE_VERSION "1.1.0"
 
 /* Sizes, in bytes. */
 #define JOYCE_STATE_SIZE 35328 /* a state: 64 areas of 512 bytes, then 64 control records of 40 */
@@ -88,6 +97,88 @@ extern "C" {
  * JOYCE_PAGE_SIZE on, low byte first. */
 #define JOYCE_ADDRESS_MIN (-8192)
 #define JOYCE_ADDRESS_MAX (-2)
+
+/* ---- The numbers of a table
+ *
+ * In the comments an entry of another section is named by its section; 'variable node' and 'expression node' are the two sorts of nodes. */
+
+/* A number of a type: a standard one, or JOYCE_DECLARED plus its place in the section of types. */
+enum joyce_standard { JOYCE_INTEGER = 0, JOYCE_BOOLEAN = 1, JOYCE_CHARACTER = 2, JOYCE_DECLARED = 3 };
+
+/* The kind of a type. */
+enum joyce_type {
+    JOYCE_TYPE_RECORD = 1, /* p first field, q number of fields, at least 1 */
+    JOYCE_TYPE_ARRAY = 2,  /* p index type, a standard one; q element type; low, high the bounds */
+    JOYCE_TYPE_PROCESS = 3 /* p block: a reference to processes of that module */
+};
+
+/* The mode of a variable. */
+enum joyce_mode {
+    JOYCE_MODE_LOCAL = 0,
+    JOYCE_MODE_VALUE = 1, /* value parameter */
+    JOYCE_MODE_VAR = 2    /* var parameter: another name of the variable that is its argument */
+};
+
+/* The kind of a block. */
+enum joyce_block {
+    JOYCE_BLOCK_PROGRAM = 0,  /* block 0 and no other; owns itself */
+    JOYCE_BLOCK_MODULE = 1,   /* what a process carries out; owns itself */
+    JOYCE_BLOCK_PROCEDURE = 2 /* owner: the program or a module */
+};
+
+/* The kind of a node. */
+enum joyce_node {
+    JOYCE_NODE_CONSTANT = 0, /* expression: p standard type, v value */
+    JOYCE_NODE_WHOLE = 1,    /* variable: p variable */
+    JOYCE_NODE_FIELD = 2,    /* variable: p variable node, q place of the field in its record, from 0 */
+    JOYCE_NODE_ELEMENT = 3,  /* variable: p variable node, q expression node, the index */
+    JOYCE_NODE_VALUE = 4,    /* expression: p variable node */
+    JOYCE_NODE_UNARY = 5,    /* expression: p expression node, q enum joyce_unary */
+    JOYCE_NODE_BINARY = 6,   /* expression: p, q expression nodes, v enum joyce_binary */
+    JOYCE_NODE_TRANSFER = 7  /* expression: p expression node, q standard type */
+};
+
+enum joyce_unary {
+    JOYCE_UNARY_MINUS = 1,
+    JOYCE_UNARY_NOT = 2, /* of a boolean, or of an integer bit by bit */
+    JOYCE_UNARY_VAL = 3  /* the device word with that address */
+};
+
+enum joyce_binary {
+    JOYCE_BINARY_EQUAL = 1,
+    JOYCE_BINARY_UNEQUAL = 2,
+    JOYCE_BINARY_LESS = 3,
+    JOYCE_BINARY_AT_MOST = 4,
+    JOYCE_BINARY_GREATER = 5,
+    JOYCE_BINARY_AT_LEAST = 6,
+    JOYCE_BINARY_ADD = 7,
+    JOYCE_BINARY_SUBTRACT = 8,
+    JOYCE_BINARY_MULTIPLY = 9,
+    JOYCE_BINARY_DIVIDE = 10, /* rounds towards zero */
+    JOYCE_BINARY_MOD = 11,    /* has the sign of the dividend */
+    JOYCE_BINARY_AND = 12,    /* of booleans, or of integers bit by bit; both sides are evaluated */
+    JOYCE_BINARY_OR = 13      /* the same */
+};
+
+/* The kind of a statement. */
+enum joyce_statement {
+    JOYCE_STATEMENT_SKIP = 0,
+    JOYCE_STATEMENT_ASSIGN = 1,       /* a variable node, b expression node */
+    JOYCE_STATEMENT_CALL = 2,         /* local call: a block, c first argument, d number of arguments */
+    JOYCE_STATEMENT_PROCESS_CALL = 3, /* a variable node, the reference; b block, c first argument, d number of arguments */
+    JOYCE_STATEMENT_CREATE = 4,       /* a variable node */
+    JOYCE_STATEMENT_START = 5,        /* a variable node, c first argument, d number of arguments */
+    JOYCE_STATEMENT_IF = 6,           /* an opener: its first arm follows */
+    JOYCE_STATEMENT_WHILE = 7,        /* an opener */
+    JOYCE_STATEMENT_WHEN = 8,         /* an opener */
+    JOYCE_STATEMENT_CYCLE = 9,        /* an opener */
+    JOYCE_STATEMENT_ARM = 10,         /* a expression node, the guard; link statement: the next arm, or the end */
+    JOYCE_STATEMENT_END = 11,         /* link statement: the opener */
+    JOYCE_STATEMENT_WRITE = 12,       /* a expression node, the device address; b expression node, the value */
+    JOYCE_STATEMENT_BLOCK_END = 13    /* a block */
+};
+
+/* ---- Results and answers */
 
 /* What the calls return. Which call returns which stands at the call. */
 enum joyce_result {
@@ -200,7 +291,8 @@ uint32_t joyce_begin(const uint8_t *table, size_t table_len, uint8_t *state, siz
  * A step that fails changes nothing but the state's failure mark. Each later step then answers the same number, whatever process it names, and
  * changes nothing; the call still returns JOYCE_OK. Only joyce_begin, or an earlier copy of the state, leads out of it.
  *
- * A run may be cut into calls anywhere: one call of n steps and n calls of one step leave the same answers, state and page.
+ * A run may be cut into calls anywhere, if nobody changes the page between them: one call of n steps and n calls of one step then leave the
+ * same answers, state and page.
  */
 uint32_t joyce_run(const uint8_t *table, size_t table_len, uint8_t *state, size_t state_len, uint8_t *page, size_t page_len,
                    const uint8_t *schedule, size_t schedule_len, uint8_t *answers, size_t answers_len);

@@ -76,9 +76,9 @@ for folder, runner in [("check", "run"), ("calls", "run_test")]:
     report(f"tests_{folder}", missing, count)
 
 # files and folders of the repository, in any document
-places = r"(?<![\w/])((?:crates|docs|include|examples|tests|bench|tools|fuzz)/(?:[\w./-]*[\w/])?)(?![\w*/])"
+places = r"(?<![\w/])((?:crates|docs|include|examples|tests|bench|tools|fuzz|python)/(?:[\w./-]*[\w/])?)(?![\w*/])"
 missing, count = [], 0
-for document in [pathlib.Path("README.md"), *sorted(pathlib.Path("docs").glob("**/*.md"))]:
+for document in [pathlib.Path("README.md"), *sorted(pathlib.Path().glob("*/README.md")), *sorted(pathlib.Path("docs").glob("**/*.md"))]:
     for path in re.findall(places, document.read_text(encoding="utf-8")):
         count += 1
         if not pathlib.Path(path).exists():

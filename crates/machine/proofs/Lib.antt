@@ -1,6 +1,7 @@
 pub mod Rows
 pub mod Programs
 pub mod Examples
+pub mod Edges
 pub mod Stuck
 pub mod Frames
 pub mod Damaged

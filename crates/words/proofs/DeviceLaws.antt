@@ -15,7 +15,7 @@ use Rattle.basics.proofs.Bools.{no-true, both-l, both-r}
 use Rattle.words.specs.Memory.{wordAtByte, putAtByte}
 use Rattle.words.specs.Numbers.{intOf, between}
 use Rattle.words.specs.Outcomes.{word, fail}
-use Rattle.words.specs.Devices.{isDevice, positionOf, positionW, readDevice, writeDevice, pageAfter}
+use Rattle.words.specs.Devices.{isDevice, positionOf, readDevice, writeDevice, pageAfter}
 use Rattle.words.proofs.Arithmetic.{back}
 
 module _ (a : ℕ) (k : a < 65536) where
@@ -70,10 +70,6 @@ module _ (a : ℕ) (f : Fits w16 a) (b : Bool) (e : b ≡ isDevice (intOf a)) wh
     pub device-room : (page : List ℕ) → length page ≡ 8192 → a - 57344 + 1 < length page
     device-room page l = let d = device in omega arith
 
-    pub position-in : word (a - 57344) ≡ positionW a
-    unfolding positionW
-    position-in = rw (← e, t, device .is)
-
     pub read-in : (page : List ℕ) (w : ℕ) → w ≡ wordAtByte page (a - 57344) → word w ≡ readDevice page a
     unfolding readDevice
     read-in page w h = rw (← e, t, device .is, h)
@@ -87,10 +83,6 @@ module _ (a : ℕ) (f : Fits w16 a) (b : Bool) (e : b ≡ isDevice (intOf a)) wh
     page-in v page after h = rw (← e, t, device .is) h
 
   module _ (t : b ≡ false) where
-    pub position-out : fail 21 ≡ positionW a
-    unfolding positionW
-    position-out = rw (← e, t)
-
     pub read-out : (page : List ℕ) → fail 21 ≡ readDevice page a
     unfolding readDevice
     read-out page = rw (← e, t)
@@ -110,4 +102,4 @@ position-even a k t = let d = device a (record { fits = k }) true (sym t) refl i
 pub position-le : (a : ℕ) → a < 65536 → isDevice (intOf a) ≡ true → positionOf (intOf a) ≤ 8190
 position-le a k t = let d = device a (record { fits = k }) true (sym t) refl in rw (d .is) (omega arith)
 
-pub ruleset devices = (even-device, odd-none, device-low, device-room, position-in, position-out, read-in, read-out, write-in, write-out, page-in, page-out)
+pub ruleset devices = (even-device, odd-none, device-low, device-room, read-in, read-out, write-in, write-out, page-in, page-out)

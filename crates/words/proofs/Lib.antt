@@ -5,4 +5,3 @@ pub mod Divisions
 pub mod StandardTypes
 pub mod DeviceLaws
 pub mod BitLaws
-pub mod Edges

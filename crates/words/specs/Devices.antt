@@ -17,9 +17,6 @@ isDevice x = both (eqb (natAbs x % 2) 0) (between (negsuc 8191) (negsuc 1) x)
 unfoldable pub positionOf : ℤ → ℕ
 positionOf x = natAbs (x +ℤ pos 8192)
 
-unfoldable pub positionW : ℕ → Outcome
-positionW a = pick (isDevice (intOf a)) (word (positionOf (intOf a))) (fail 21)
-
 -- 10.2, val
 unfoldable pub readDevice : List ℕ → ℕ → Outcome
 readDevice page a = pick (isDevice (intOf a)) (word (wordAtByte page (positionOf (intOf a)))) (fail 21)

@@ -9,7 +9,7 @@ ghost use mathlib.Core.Path.{_≡_};
 ghost use lib.ListN.{length};
 ghost use Rattle.words.specs.Numbers.{intOf};
 ghost use Rattle.words.specs.Outcomes.{outcomeOf};
-ghost use Rattle.words.specs.Devices.{isDevice, positionW, readDevice, writeDevice, pageAfter};
+ghost use Rattle.words.specs.Devices.{isDevice, readDevice, writeDevice, pageAfter};
 
 fn is_device(address: u16) -> bool
     ensures { λ r. ⌜ r ≡ isDevice (intOf address) ⌝ }
@@ -20,17 +20,7 @@ fn is_device(address: u16) -> bool
     false
 }
 
-// The byte of the page where the device word stands: address + 8,192.
-pub fn device_position(address: u16) -> Value
-    ensures { λ r. ⌜ outcomeOf r ≡ positionW address ⌝ }
-{
-    if is_device(address) {
-        return Value::Word(address - 57344);
-    }
-    Value::Fail(Failure::DeviceAddress)
-}
-
-// 10.2, val.
+// 10.2, val. The word stands at byte address + 8,192 of the page.
 pub fn read_device(page: &[u8], address: u16) -> Value
     requires { ⌜ length (now page) ≡ 8192 ⌝ }
     ensures { λ r. ⌜ outcomeOf r ≡ readDevice (now (page .entry)) address ⌝ }

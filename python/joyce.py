@@ -1,0 +1,215 @@
+"""The four calls of libjoyce, from Python by ctypes. One file: copy it, or put its folder into PYTHONPATH.
+
+    import joyce
+    run = joyce.Run(table)                  # bytes; joyce.Refused where begin refuses
+    answers = run.run([1, 1, 2])            # one step each
+    run.look(1, 0)                          # process 1, variable 0, place 0
+    run.put(-8192, 5); run.get(-2)          # device words
+
+The calls themselves are check, begin, run and look below; they return the numbers of joyce.h. pack makes a table of lists of entries, and
+unpack lists of a table. The enums have the names and numbers of joyce.h.
+
+The archive is linked into a shared object _joyce.so the first time, by $CC or gcc, beside it or, where that cannot be written, in a folder of its own
+that goes when Python ends. $JOYCE_LIBRARY names the archive or a shared object; else it is target/staticlib/libjoyce.a of the repository, or
+lib/libjoyce.a of the prefix that this file was installed below, in share/joyce. Linux on x86-64 only, as the archive."""
+import atexit
+import ctypes
+import enum
+import os
+import pathlib
+import shutil
+import struct
+import subprocess
+import tempfile
+
+STATE_SIZE, PAGE_SIZE, TABLE_MAX = 35328, 8192, 7657
+ADDRESS_MIN, ADDRESS_MAX = -8192, -2
+WORD, FAILURE = 65536, 16
+
+Standard = enum.IntEnum("Standard", "INTEGER BOOLEAN CHARACTER DECLARED", start=0)
+Type = enum.IntEnum("Type", "RECORD ARRAY PROCESS", start=1)
+Mode = enum.IntEnum("Mode", "LOCAL VALUE VAR", start=0)
+Block = enum.IntEnum("Block", "PROGRAM MODULE PROCEDURE", start=0)
+Node = enum.IntEnum("Node", "CONSTANT WHOLE FIELD ELEMENT VALUE UNARY BINARY TRANSFER", start=0)
+Unary = enum.IntEnum("Unary", "MINUS NOT VAL", start=1)
+Binary = enum.IntEnum("Binary", "EQUAL UNEQUAL LESS AT_MOST GREATER AT_LEAST ADD SUBTRACT MULTIPLY DIVIDE MOD AND OR", start=1)
+Statement = enum.IntEnum(
+    "Statement", "SKIP ASSIGN CALL PROCESS_CALL CREATE START IF WHILE WHEN CYCLE ARM END WRITE BLOCK_END", start=0)
+Result = enum.IntEnum("Result", "OK LENGTH SECTIONS KINDS NUMBERS USES NESTING SIZES SCOPES TYPES STATE ABSENT", start=0)
+Answer = enum.IntEnum("Answer", {
+    "DONE": 0, "WAITS": 1, "ENDED": 2, "NO_PROCESS": 3, "OVERFLOW": 16, "DIVISOR": 17, "INDEX": 18, "EMPTY": 19, "TWICE": 20,
+    "ADDRESS": 21, "AREA": 22, "TRANSFER": 23, "PROCESSES": 24})
+
+# The sections of a table in order, each with the layout of an entry.
+SECTIONS = {"types": "<BBBHH", "fields": "<B", "variables": "<BB", "blocks": "<BBBBBBH", "arguments": "<B", "nodes": "<BBBH",
+            "statements": "<BBBBBB"}
+
+
+class Refused(Exception):
+    """A call was refused; its number is .number."""
+
+    def __init__(self, number):
+        super().__init__(f"refused with {number}: {Result(number).name.lower()}")
+        self.number = number
+
+
+# ---- tables
+
+def pack(**sections):
+    """The table with these sections: lists of entries, each a number or a tuple of its first fields; the fields after them are 0."""
+    unknown = set(sections) - set(SECTIONS)
+    if unknown:
+        raise TypeError(f"no section: {', '.join(sorted(unknown))}")
+    table = bytearray()
+    for name, layout in SECTIONS.items():
+        entries = list(sections.get(name, []))
+        table.append(len(entries))
+        for entry in entries:
+            fields = list(entry) if isinstance(entry, (list, tuple)) else [entry]
+            if len(fields) > len(layout) - 1:
+                raise ValueError(f"an entry of {name} has {len(layout) - 1} fields: {entry}")
+            fields += [0] * (len(layout) - 1 - len(fields))
+            table += struct.pack(layout, *(f & 0xFFFF if size == "H" else f for f, size in zip(fields, layout[1:])))
+    return bytes(table)
+
+
+def unpack(table):
+    """The sections of a table as lists of tuples, words as 0..65,535; ValueError where they end early or bytes are left over."""
+    sections, at = {}, 0
+    for name, layout in SECTIONS.items():
+        size = struct.calcsize(layout)
+        count = table[at] if at < len(table) else 0
+        end = at + 1 + count * size
+        if end > len(table):
+            raise ValueError(f"the table ends in its {name}")
+        sections[name] = [struct.unpack_from(layout, table, i) for i in range(at + 1, end, size)]
+        at = end
+    if at != len(table):
+        raise ValueError(f"{len(table) - at} bytes are left over")
+    return sections
+
+
+def integer(word):
+    """The integer that a word stands for."""
+    word &= 0xFFFF
+    return word - 0x10000 if word & 0x8000 else word
+
+
+# ---- the library
+
+def _archive():
+    if "JOYCE_LIBRARY" in os.environ:
+        return pathlib.Path(os.environ["JOYCE_LIBRARY"])
+    above = pathlib.Path(__file__).resolve().parent.parent
+    places = [above / "target/staticlib/libjoyce.a", above / "lib/libjoyce.a", above.parent / "lib/libjoyce.a"]
+    for place in places:
+        if place.exists():
+            return place
+    raise OSError(f"no libjoyce.a: {', '.join(map(str, places))} are not there. Run make, or set JOYCE_LIBRARY")
+
+
+def _link(archive, shared):
+    """Makes a shared object of the archive. It appears at once, so others may load it meanwhile."""
+    new = shared.with_name(f".{shared.name}.{os.getpid()}")
+    words = [*os.environ.get("CC", "gcc").split(), "-shared", "-Wl,--whole-archive", str(archive), "-Wl,--no-whole-archive", "-o", str(new)]
+    made = subprocess.run(words, capture_output=True, text=True, check=False)
+    if made.returncode:
+        raise OSError(f"{' '.join(words)}: {made.stderr.strip()}")
+    os.replace(new, shared)
+
+
+def _load():
+    archive = _archive()
+    if archive.suffix != ".a":
+        return ctypes.CDLL(str(archive))
+    shared = archive.with_name("_joyce.so")     # not libjoyce.so, which -ljoyce would take before the archive
+    if not shared.exists() or shared.stat().st_mtime < archive.stat().st_mtime:
+        if not os.access(archive.parent, os.W_OK):
+            folder = tempfile.mkdtemp(prefix="joyce.")
+            atexit.register(shutil.rmtree, folder, ignore_errors=True)
+            shared = pathlib.Path(folder, shared.name)
+        _link(archive, shared)
+    return ctypes.CDLL(str(shared))
+
+
+_library = _load()
+_slice = [ctypes.c_void_p, ctypes.c_size_t]
+for _name, _slices, _numbers in [("check", 1, 0), ("begin", 2, 0), ("run", 5, 0), ("look", 2, 3)]:
+    _function = getattr(_library, f"joyce_{_name}")
+    _function.argtypes = _slice * _slices + [ctypes.c_uint32] * _numbers
+    _function.restype = ctypes.c_uint32
+
+
+def _lend(*slices):
+    """Pointer and length of each; what is no bytearray is copied, so the call cannot change it."""
+    words = []
+    for data in slices:
+        held = data if isinstance(data, bytearray) else bytearray(data)
+        words += [(ctypes.c_char * len(held)).from_buffer(held) if held else None, len(held)]
+    return words
+
+
+def check(table):
+    """The verdict on a table, 0 or 2..9."""
+    return _library.joyce_check(*_lend(table))
+
+
+def begin(table, state):
+    """Fills the bytearray state; 0, or a refusal."""
+    return _library.joyce_begin(*_lend(table, state))
+
+
+def run(table, state, page, schedule, answers):
+    """Steps. State, page and answers are bytearrays; 0, or a refusal."""
+    return _library.joyce_run(*_lend(table, state, page, schedule, answers))
+
+
+def look(table, state, process, variable, place):
+    """65,536 plus a word, or a refusal."""
+    return _library.joyce_look(*_lend(table, state), process, variable, place)
+
+
+class Run:
+    """A run of a program: its table, state and page. Copy it to go on from there twice."""
+
+    def __init__(self, table, state=None, page=None):
+        self.table, self.page = bytes(table), bytearray(PAGE_SIZE if page is None else page)
+        self.state = bytearray(STATE_SIZE if state is None else state)
+        refused = begin(self.table, self.state) if state is None else run(self.table, self.state, self.page, b"", bytearray())
+        if refused:
+            raise Refused(refused)
+
+    def run(self, schedule):
+        """One step for each process number; their answers as bytes."""
+        schedule = bytes(schedule)
+        answers = bytearray(len(schedule))
+        refused = run(self.table, self.state, self.page, schedule, answers)
+        if refused:
+            raise Refused(refused)
+        return bytes(answers)
+
+    def look(self, process, variable, place=0):
+        """The word, as an integer."""
+        word = look(self.table, self.state, process, variable, place)
+        if word < WORD:
+            raise Refused(word)
+        return integer(word)
+
+    def get(self, address):
+        """The device word with an even address, -8192..-2."""
+        at = self._place(address)
+        return integer(self.page[at] + 256 * self.page[at + 1])
+
+    def put(self, address, value):
+        """Makes it value."""
+        at = self._place(address)
+        self.page[at:at + 2] = struct.pack("<H", value & 0xFFFF)
+
+    def copy(self):
+        return Run(self.table, self.state, self.page)
+
+    @staticmethod
+    def _place(address):
+        if address % 2 or not ADDRESS_MIN <= address <= ADDRESS_MAX:
+            raise ValueError(f"{address} is no device address: even, {ADDRESS_MIN}..{ADDRESS_MAX}")
+        return address - ADDRESS_MIN

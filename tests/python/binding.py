@@ -1,0 +1,182 @@
+"""python/joyce.py: a line 'ok NAME' or 'FAIL NAME: why' a test."""
+import base64
+import hashlib
+import os
+import pathlib
+import re
+import shutil
+import subprocess
+import sys
+import traceback
+import zlib
+
+sys.path.insert(0, "python")
+import joyce  # noqa: E402
+
+failures = 0
+tests = []
+
+
+def test(function):
+    tests.append(function)
+    return function
+
+
+def refused(function, *words):
+    try:
+        function(*words)
+    except joyce.Refused as error:
+        return error.number
+    return 0
+
+
+SMALLEST = joyce.pack(blocks=[0], statements=[joyce.Statement.SKIP, joyce.Statement.BLOCK_END])
+
+
+@test
+def numbers():
+    """The enums and sizes are those of joyce.h."""
+    header = pathlib.Path("include/joyce.h").read_text(encoding="utf-8")
+    compared = 0
+    for name, kind in [("standard", joyce.Standard), ("type", joyce.Type), ("mode", joyce.Mode), ("block", joyce.Block), ("node", joyce.Node),
+                       ("unary", joyce.Unary), ("binary", joyce.Binary), ("statement", joyce.Statement), ("result", joyce.Result),
+                       ("answer", joyce.Answer)]:
+        body = re.search(rf"enum joyce_{name} {{(.*?)}};", header, re.S)[1]
+        listed = {n: int(v) for n, v in re.findall(rf"JOYCE_(?:{name.upper()}_)?(\w+) = (\d+)", body)}
+        listed.pop("ACCEPTED", None)
+        listed.pop("WORD", None)
+        assert listed == {m.name: m.value for m in kind}, name
+        compared += len(listed)
+    for name in ["STATE_SIZE", "PAGE_SIZE", "TABLE_MAX", "FAILURE"]:
+        assert int(re.search(rf"#define JOYCE_{name} (\d+)", header)[1]) == getattr(joyce, name), name
+    assert compared > 60
+
+
+@test
+def pages_table():
+    """The table of the scope document, and its run."""
+    assert SMALLEST == bytes([0, 0, 0, 1] + [0] * 8 + [0, 0, 2] + [0] * 6 + [13] + [0] * 5)
+    assert joyce.check(SMALLEST) == joyce.Result.OK
+    assert list(joyce.Run(SMALLEST).run([1, 1, 1, 2])) == [0, 2, 2, 3]
+
+
+@test
+def tables_both_ways():
+    """A table is what its sections make."""
+    for path in sorted(pathlib.Path("bench").glob("**/*.tab")) + [pathlib.Path("examples/board.tab")]:
+        table = path.read_bytes()
+        assert joyce.pack(**joyce.unpack(table)) == table, path
+        assert joyce.check(table) == 0, path
+    for table in [b"", SMALLEST[:-1], SMALLEST + b"\0"]:
+        try:
+            joyce.unpack(table)
+        except ValueError:
+            assert joyce.check(table) == joyce.Result.SECTIONS
+        else:
+            raise AssertionError(table.hex())
+
+
+@test
+def cut_anywhere():
+    """One call and single steps leave the same; a copy goes on by itself."""
+    table, schedule = pathlib.Path("bench/boards/calls.tab").read_bytes(), pathlib.Path("bench/boards/calls.sch").read_bytes()[:600]
+    once, single = joyce.Run(table), joyce.Run(table)
+    answers = once.run(schedule)
+    assert b"".join(single.run([p]) for p in schedule) == answers
+    assert single.state == once.state and single.page == once.page
+    copy = once.copy()
+    copy.run(schedule)
+    assert single.state == once.state != copy.state
+
+
+# The state of bench/boards/calls after 600 steps, as 1.0.0 left it, and what 600 more steps leave: answers, state and page. A release that cannot
+# read it needs another JOYCE_VERSION_MAJOR.
+STORED = (
+    "eNrt3cFqhDAUBdBnNEZbcFEGZtH//8/GaLsojHZZyDkiIjwykquJ4yYpxpgixxwllljrTl9yvQPoVYrhzP/RRoIxUtIrPeX/Hfd2pB/JcNBV/mOd"
+    "+1PLf58J6h0w6ZWe8hd33/nn+tZf2vNf6tOfI816paf855/5fznmgqJXesq/nP/5tzoOjPUs+QQAAAAAAAAAAAAAAAAAAAAAAAAAAAAAAAAAAAAA"
+    "v+yLPa9tH9r5+rJuiPd2vF4xdl9PeqvHqa0lfF33WaveWnvDZd1Hay/X7S+/O8d8U3e0V6Lc1D3P61turu/R2ltf9h0AwH/yBWbDArY=")
+AFTER = "f301a12759460d7c45db618588f6d58a8bfc3e0f4b2799444bbbf7f1b73cea25"
+
+
+@test
+def stored_state():
+    """A state that was stored by another release with the same major number is read, and goes on."""
+    table, schedule = pathlib.Path("bench/boards/calls.tab").read_bytes(), pathlib.Path("bench/boards/calls.sch").read_bytes()
+    run = joyce.Run(table, zlib.decompress(base64.b64decode(STORED)))
+    answers = run.run(schedule[600:1200])
+    assert hashlib.sha256(answers + run.state + run.page).hexdigest() == AFTER
+    assert re.search(r"#define JOYCE_VERSION_MAJOR 1$", pathlib.Path("include/joyce.h").read_text(encoding="utf-8"), re.M)
+
+
+@test
+def words():
+    """write(-2, val -8192 - 7), and n := -3: device words, and a look."""
+    table = joyce.pack(
+        variables=[(joyce.Mode.LOCAL, joyce.Standard.INTEGER)], blocks=[(0, 0, 0, 0, 1)],
+        nodes=[(0, 0, 0, -2), (0, 0, 0, -8192), (joyce.Node.UNARY, 1, joyce.Unary.VAL), (0, 0, 0, 7),
+               (joyce.Node.BINARY, 2, 3, joyce.Binary.SUBTRACT), joyce.Node.WHOLE, (0, 0, 0, -3)],
+        statements=[(joyce.Statement.WRITE, 0, 4), (joyce.Statement.ASSIGN, 5, 6), joyce.Statement.BLOCK_END])
+    run = joyce.Run(table)
+    run.put(-8192, -5)
+    assert list(run.run([1, 1, 1])) == [0, 0, 2]
+    assert run.get(-2) == -12 and run.get(-8192) == -5 and run.look(1, 0) == -3
+    assert refused(run.look, 1, 1) == refused(run.look, 2, 0) == joyce.Result.ABSENT
+    for address in [-8194, -1, 0]:
+        try:
+            run.get(address)
+        except ValueError:
+            continue
+        raise AssertionError(address)
+
+
+@test
+def refusals():
+    """Wrong lengths, tables and states."""
+    state, page = bytearray(joyce.STATE_SIZE), bytearray(joyce.PAGE_SIZE)
+    assert joyce.begin(SMALLEST, bytearray(5)) == joyce.Result.LENGTH
+    assert joyce.begin(SMALLEST, state) == 0 and any(state)
+    assert joyce.run(SMALLEST, state, page, b"\1\1", bytearray(1)) == joyce.Result.LENGTH
+    assert joyce.look(SMALLEST, state, 1, 0, 0) == joyce.Result.ABSENT
+    assert refused(joyce.Run, b"") == joyce.Result.SECTIONS
+    assert refused(joyce.Run, SMALLEST, bytes(joyce.STATE_SIZE)) == joyce.Result.STATE
+    assert str(joyce.Refused(10)) == "refused with 10: state"
+    kept = bytes(state)
+    assert joyce.begin(SMALLEST, kept) == 0     # bytes are lent as a copy
+    for error, sections in [(TypeError, {"type": []}), (ValueError, {"fields": [(0, 0)]})]:
+        try:
+            joyce.pack(**sections)
+        except error:
+            continue
+        raise AssertionError(sections)
+
+
+@test
+def elsewhere():
+    """Installed, beside an archive that cannot be written to, and with a shared object named."""
+    top = pathlib.Path("target/tests/python")
+    shutil.rmtree(top, ignore_errors=True)
+    for folder in ["python", "lib"]:
+        (top / folder).mkdir(parents=True)
+    shutil.copy("python/joyce.py", top / "python")
+    shutil.copy("target/staticlib/libjoyce.a", top / "lib")
+    words = [sys.executable, "-B", "-c", "import joyce; print(joyce.check(b''))"]
+    clean = {**{k: v for k, v in os.environ.items() if k != "JOYCE_LIBRARY"}, "PYTHONPATH": str(top / "python")}
+    assert subprocess.run(words, env=clean, capture_output=True, text=True, check=True).stdout == "2\n"
+    assert (top / "lib/_joyce.so").exists()
+    named = {**clean, "JOYCE_LIBRARY": str((top / "lib/_joyce.so").resolve())}
+    assert subprocess.run(words, env=named, capture_output=True, text=True, check=True).stdout == "2\n"
+    (top / "lib/libjoyce.a").unlink()
+    failed = subprocess.run(words, env=clean, capture_output=True, text=True, check=False)
+    assert failed.returncode != 0 and "no libjoyce.a" in failed.stderr
+
+
+for one in tests:
+    try:
+        one()
+    except Exception:
+        failures += 1
+        print(f"FAIL python/{one.__name__}: {traceback.format_exc().strip().splitlines()[-1]}")
+        traceback.print_exc()
+    else:
+        print(f"ok python/{one.__name__}")
+sys.exit(failures > 0)
