@@ -58,6 +58,8 @@
  *     nodes       kind, p, q, v
  *     statements  kind, a, b, c, d, link
  *
+ * Zero bytes are a table too, an empty cartridge slot: they are read as the program that skips and ends, to every call, from any pointer.
+ *
  * Entries are numbered from 0 in each section, types from JOYCE_DECLARED. What the fields hold stands at the enums below, kind by kind; a field
  * that is not named there is 0.
  */
@@ -74,9 +76,9 @@ extern "C" {
 /* The version of this interface. The first number changes where a host must be changed, the second where something is added. There is no
  * function for it: the archive exports the four proved calls and nothing else, and is linked statically with the header that it came with. */
 #define JOYCE_VERSION_MAJOR 1
-#define JOYCE_VERSION_MINOR 1
+#define JOYCE_VERSION_MINOR 2
 #define JOYCE_VERSION_PATCH 0
-#define JOYCE_VERSION "1.1.0"
+#define JOYCE_VERSION "1.2.0"
 
 /* Sizes, in bytes. */
 #define JOYCE_STATE_SIZE 35328 /* a state: 64 areas of 512 bytes, then 64 control records of 40 */

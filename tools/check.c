@@ -26,8 +26,8 @@ int judge_table(const char *name, struct bytes table, struct fault *fault, bool 
     uint32_t verdict = joyce_check(table.at, table.length);
     explain(table.at, table.length, fault);
     if (verdict != JOYCE_ACCEPTED || is_accepted_said)
-        printf("%s: %s%zu bytes, verdict %u: %s\n", name, table.length > JOYCE_TABLE_MAX ? "at least " : "", table.length, (unsigned)verdict,
-               result_words(verdict));
+        printf("%s: %s%zu bytes%s, verdict %u: %s\n", name, table.length > JOYCE_TABLE_MAX ? "at least " : "", table.length,
+               table.length == 0 ? " (no cartridge: a program that skips and ends)" : "", (unsigned)verdict, result_words(verdict));
     if (fault->verdict != verdict) {
         complain("%s: the library says %u, and the explanation %u: one of them is wrong. Please report it, with the table.", name, (unsigned)verdict,
                  (unsigned)fault->verdict);

@@ -32,9 +32,16 @@ static const char *const kinds[SECTIONS][KINDS_MAX] = {
                     "block end"},
 };
 
+/* an empty cartridge slot: block 0 skips and ends */
+static const uint8_t empty_slot[] = {0, 0, 0, 1, 0, 0, 0, 0, 0, 0, 0, 0, 0, 0, 2, 0, 0, 0, 0, 0, 0, 13, 0, 0, 0, 0, 0};
+
 bool read_sections(struct table *t, const uint8_t *bytes, size_t length, int *broken)
 {
     size_t at = 0;
+    if (length == 0) {
+        bytes = empty_slot;
+        length = sizeof empty_slot;
+    }
     *t = (struct table){.bytes = bytes, .length = length};
     for (int i = 0; i < SECTIONS; i++) {
         *broken = i;

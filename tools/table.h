@@ -36,6 +36,7 @@ struct table {
 
 /* Finds the sections. True where all seven are there and nothing is left over; else *broken is the section that is cut, or SECTIONS where bytes are
  * left over. */
+/* Zero bytes are read as the program of an empty cartridge slot. */
 bool read_sections(struct table *t, const uint8_t *bytes, size_t length, int *broken);
 
 bool has_entry(const struct table *t, int section, int entry);

@@ -466,9 +466,9 @@ static bool refusals(void)
     seed = 11;
     for (size_t i = 0; is_ok && i < count; i++) {
         const struct record *d = &records[i];
-        is_ok = lend(&x, d, d->calls) && lengths_refused(d->length) && looks_refused(d->length) && table_refused(d->length - 1)
-            && table_refused(d->length + 1);
-        for (int round = 0; is_ok && round < 10; round++) {
+        is_ok = lend(&x, d, d->calls) && lengths_refused(d->length) && looks_refused(d->length)
+            && (d->length == 0 || table_refused(d->length - 1)) && table_refused(d->length + 1);
+        for (int round = 0; is_ok && d->length > 0 && round < 10; round++) {
             size_t at = below((uint32_t)d->length);
             now.table[at] = before.table[at] = (uint8_t)below(20);
             is_ok = table_refused(d->length);

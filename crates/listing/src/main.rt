@@ -1,5 +1,6 @@
 // The listing program (01): it reads joyce.tab and joyce.sch, prints the verdict and, where that is 0, a line for each step over zeroed
 // device words: step number, process, answer. The schedule is run in pieces, however long it is; demand 3 makes the pieces agree.
+use libc::STDERR_FILENO;
 use libc::STDOUT_FILENO;
 
 // The file can be opened, and a read of it does not fail; a directory can only be opened.
@@ -94,12 +95,20 @@ fn list(table: &[u8]) {
     }
 }
 
+// Zero bytes are an empty slot: a word of it on standard error, and then the listing as of any table.
+fn tell_empty(n: usize) {
+    if n == 0 {
+        io::write_all(STDERR_FILENO, b"joyce.tab: 0 bytes, no cartridge\n");
+    }
+}
+
 // Reads the table. A file longer than the room is longer than any table, and so are the bytes of it that fill the room.
 fn list_file() {
     let fd = os::open_read(b"joyce.tab");
     let mut room = io::large_buffer();
     let n = io::read_full(fd, &mut room);
     libc::close(fd);
+    tell_empty(n);
     list(&room[..n]);
 }
 
