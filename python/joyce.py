@@ -75,6 +75,8 @@ def pack(**sections):
 
 def unpack(table):
     """The sections of a table as lists of tuples, words as 0..65,535; ValueError where they end early or bytes are left over."""
+    if len(table) == 0:     # an empty cartridge slot: block 0 skips and ends
+        return {**{name: [] for name in SECTIONS}, "blocks": [(0,) * 7], "statements": [(0,) * 6, (13,) + (0,) * 5]}
     sections, at = {}, 0
     for name, layout in SECTIONS.items():
         size = struct.calcsize(layout)

@@ -67,7 +67,8 @@ def tables_both_ways():
         table = path.read_bytes()
         assert joyce.pack(**joyce.unpack(table)) == table, path
         assert joyce.check(table) == 0, path
-    for table in [b"", SMALLEST[:-1], SMALLEST + b"\0"]:
+    assert joyce.unpack(b"") == joyce.unpack(SMALLEST) and joyce.check(b"") == 0    # an empty cartridge slot
+    for table in [SMALLEST[:1], SMALLEST[:-1], SMALLEST + b"\0"]:
         try:
             joyce.unpack(table)
         except ValueError:
@@ -137,7 +138,8 @@ def refusals():
     assert joyce.begin(SMALLEST, state) == 0 and any(state)
     assert joyce.run(SMALLEST, state, page, b"\1\1", bytearray(1)) == joyce.Result.LENGTH
     assert joyce.look(SMALLEST, state, 1, 0, 0) == joyce.Result.ABSENT
-    assert refused(joyce.Run, b"") == joyce.Result.SECTIONS
+    assert refused(joyce.Run, SMALLEST[:1]) == joyce.Result.SECTIONS
+    assert list(joyce.Run(b"").run([1, 1, 1, 2])) == [0, 2, 2, 3]
     assert refused(joyce.Run, SMALLEST, bytes(joyce.STATE_SIZE)) == joyce.Result.STATE
     assert str(joyce.Refused(10)) == "refused with 10: state"
     kept = bytes(state)
@@ -159,7 +161,7 @@ def elsewhere():
         (top / folder).mkdir(parents=True)
     shutil.copy("python/joyce.py", top / "python")
     shutil.copy("target/staticlib/libjoyce.a", top / "lib")
-    words = [sys.executable, "-B", "-c", "import joyce; print(joyce.check(b''))"]
+    words = [sys.executable, "-B", "-c", "import joyce; print(joyce.check(bytes(1)))"]
     clean = {**{k: v for k, v in os.environ.items() if k != "JOYCE_LIBRARY"}, "PYTHONPATH": str(top / "python")}
     assert subprocess.run(words, env=clean, capture_output=True, text=True, check=True).stdout == "2\n"
     assert (top / "lib/_joyce.so").exists()
