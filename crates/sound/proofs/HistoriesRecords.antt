@@ -154,7 +154,7 @@ module _ (m : Memory) (n μ i c p : ℕ) (over : m createdAt < n) (most : n ≤ 
 
 -- a failing step
 module _ (m : Memory) (n : ℕ) where
-  pub fail-word : (r k : ℕ) → Unlike k 9 → update m failureAt n (recordAt r k) ≡ m (recordAt r k)
+  fail-word : (r k : ℕ) → Unlike k 9 → update m failureAt n (recordAt r k) ≡ m (recordAt r k)
   fail-word r k u = update-other m failureAt n (recordAt r k) (unlike-words r 1 k 9 u)
 
   pub fail-count : update m failureAt n createdAt ≡ m createdAt

@@ -7,12 +7,12 @@ use Rattle.machine.specs.Context.{Context}
 use Rattle.machine.specs.Entries.{Statement}
 use Rattle.sound.specs.Conditions.{NodeFails, result, inverted, divisor, index, device, transferred, inRecord, inArray, inIndex, inVariable, inUnary, inTransfer, inLeft, inRight, ArgumentsFail, thisArgument, laterArgument, GuardsFail, thisGuard, laterGuard, StatementFails, target, source, localArgument, localArea, callee, calleeEmpty, callArgument, callArea, createe, limit, startee, starteeEmpty, startedTwice, startArgument, guard, address, datum, location}
 
-pub record Listed (n : ℕ) : Type 0 where
+pub record FailureNumber (n : ℕ) : Type 0 where
   pub least : 16 ≤ n
   pub most : n ≤ 24
 
 module _ (T : Table) (m page : Memory) (x : Context) where
-  node-listed : (f n : ℕ) → NodeFails T m page x f n → Listed f
+  node-listed : (f n : ℕ) → NodeFails T m page x f n → FailureNumber f
   node-listed _ n (result e y w q r) = omega arith
   node-listed _ n (inverted e y r) = omega arith
   node-listed _ n (divisor e y w q r) = omega arith
@@ -28,15 +28,15 @@ module _ (T : Table) (m page : Memory) (x : Context) where
   node-listed f n (inLeft {a = a} e h) = node-listed f a h
   node-listed f n (inRight {b = b} e y h) = node-listed f b h
 
-  arguments-listed : (f k v i : ℕ) → ArgumentsFail T m page x f k v i → Listed f
+  arguments-listed : (f k v i : ℕ) → ArgumentsFail T m page x f k v i → FailureNumber f
   arguments-listed f _ v i (thisArgument h) = node-listed f _ h
   arguments-listed f _ v i (laterArgument {k = k} e h) = arguments-listed f k (v + 1) (i + 1) h
 
-  guards-listed : (f i : ℕ) → GuardsFail T m page x f i → Listed f
+  guards-listed : (f i : ℕ) → GuardsFail T m page x f i → FailureNumber f
   guards-listed f i (thisGuard {g = g} e h) = node-listed f g h
   guards-listed f i (laterGuard {l = l} e y z h) = guards-listed f l h
 
-  pub statement-listed : (f : ℕ) (S : Statement) → StatementFails T m page x f S → Listed f
+  pub statement-listed : (f : ℕ) (S : Statement) → StatementFails T m page x f S → FailureNumber f
   statement-listed f _ (target h) = node-listed f _ h
   statement-listed f _ (source y h) = node-listed f _ h
   statement-listed f _ (localArgument h) = arguments-listed f _ _ _ h

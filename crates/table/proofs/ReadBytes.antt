@@ -10,7 +10,7 @@ use borrow.Author.Tests.{ltb-true}
 use Rattle.basics.specs.Choice.{cases, both}
 use Rattle.basics.proofs.Bools.{both-l, both-r}
 use Rattle.table.specs.Bytes.{begins}
-use Rattle.table.specs.Empty.{field, fieldsOf, listing, bytesRead}
+use Rattle.table.specs.Empty.{field, fieldsOf, beforeSpace, afterSpace, listing, bytesRead}
 use Rattle.table.specs.Table.{countAt, tableAt}
 
 -- each number of a list is a byte
@@ -49,18 +49,11 @@ small-fields w [] h = small-none
 small-fields w (n ∷ ns) h =
     small-append (n ∷ replicate (w - 1) 0) (fieldsOf w ns) (small-more n (replicate (w - 1) 0) (h zero) (small-zeros (w - 1))) (small-fields w ns (λ i. h (suc i)))
 
--- the fields of the listing table before the space of its block, and after it
-abbrev front : List ℕ
-front = 0 ∷ 0 ∷ 0 ∷ 1 ∷ 0 ∷ 0 ∷ 0 ∷ 0 ∷ 0 ∷ 0 ∷ []
-
-abbrev back : List ℕ
-back = 0 ∷ 0 ∷ 2 ∷ 0 ∷ 0 ∷ 0 ∷ 0 ∷ 0 ∷ 0 ∷ 13 ∷ 0 ∷ 0 ∷ 0 ∷ 0 ∷ 0 ∷ []
-
 small-listing : (w : ℕ) → Small (listing w)
 unfolding listing below both
 small-listing w =
-    small-append (fieldsOf w front) (0 ∷ 0 ∷ fieldsOf w back) (small-fields w front (small-below front refl))
-    (small-more 0 (0 ∷ fieldsOf w back) (omega arith) (small-more 0 (fieldsOf w back) (omega arith) (small-fields w back (small-below back refl))))
+    small-append (fieldsOf w beforeSpace) (0 ∷ 0 ∷ fieldsOf w afterSpace) (small-fields w beforeSpace (small-below beforeSpace refl))
+    (small-more 0 (0 ∷ fieldsOf w afterSpace) (omega arith) (small-more 0 (fieldsOf w afterSpace) (omega arith) (small-fields w afterSpace (small-below afterSpace refl))))
 
 pub read-bytes : (w : ℕ) (t : List ℕ) → ((i : ℕ) → getD t i 0 < 256) → (i : ℕ) → getD (bytesRead w t) i 0 < 256
 unfolding bytesRead

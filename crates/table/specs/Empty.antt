@@ -12,12 +12,17 @@ unfoldable pub fieldsOf : ℕ → List ℕ → List ℕ
 fieldsOf w [] = []
 fieldsOf w (n ∷ ns) = field w n ++ fieldsOf w ns
 
--- THE LISTING TABLE of 01: no types, fields or variables; block 0, which has the statements from 0 on and space 0; no arguments or nodes;
--- two statements, skip and the end of block 0
+-- the listing table of 01: no types, fields or variables; block 0, which has the statements from 0 on
+abbrev pub beforeSpace : List ℕ
+beforeSpace = 0 ∷ 0 ∷ 0 ∷ 1 ∷ 0 ∷ 0 ∷ 0 ∷ 0 ∷ 0 ∷ 0 ∷ []
+
+-- no arguments or nodes; two statements, skip and the end of block 0
+abbrev pub afterSpace : List ℕ
+afterSpace = 0 ∷ 0 ∷ 2 ∷ 0 ∷ 0 ∷ 0 ∷ 0 ∷ 0 ∷ 0 ∷ 13 ∷ 0 ∷ 0 ∷ 0 ∷ 0 ∷ 0 ∷ []
+
+-- THE LISTING TABLE: between the two the block's space, the word 0
 unfoldable pub listing : ℕ → List ℕ
-listing w =
-    fieldsOf w (0 ∷ 0 ∷ 0 ∷ 1 ∷ 0 ∷ 0 ∷ 0 ∷ 0 ∷ 0 ∷ 0 ∷ []) ++ 0 ∷ 0 ∷
-    fieldsOf w (0 ∷ 0 ∷ 2 ∷ 0 ∷ 0 ∷ 0 ∷ 0 ∷ 0 ∷ 0 ∷ 13 ∷ 0 ∷ 0 ∷ 0 ∷ 0 ∷ 0 ∷ [])
+listing w = fieldsOf w beforeSpace ++ 0 ∷ 0 ∷ fieldsOf w afterSpace
 
 -- WHICH BYTES ARE READ, of those that a call is lent: of zero bytes those of the listing table, of any others themselves
 unfoldable pub bytesRead : ℕ → List ℕ → List ℕ

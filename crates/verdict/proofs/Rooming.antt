@@ -4,7 +4,7 @@ use mathlib.Core.Path.{_≡_}
 use mathlib.Core.List.{List, [], _∷_}
 use lib.ListN.{length, getD, replicate, length-replicate, getD-replicate}
 use native.Mathlib.Omega.{arith}
-use Rattle.table.specs.Empty.{field, fieldsOf, listing, bytesRead}
+use Rattle.table.specs.Empty.{listing, bytesRead}
 use Rattle.table.specs.Table.{tableAt, tableOf}
 use Rattle.table.proofs.ReadBytes.{count-byte}
 use Rattle.table.specs.Entries.{nodeCount}
@@ -59,9 +59,8 @@ module _ (t : List ℕ) (f : Bool) (e : f ≡ whole 1 t) where
   checked-none c h l = let y : whole 1 t ≡ false = sym e ∙ h in record { is = rw y; table = λ z. absurd (omega arith); long = l }
 
 -- zero bytes are read as the listing table, others as themselves
-pub checked-empty : (t c : List ℕ) (r : ℕ) → length t ≡ 0
-    → CheckedBytes (0 ∷ 0 ∷ 0 ∷ 1 ∷ 0 ∷ 0 ∷ 0 ∷ 0 ∷ 0 ∷ 0 ∷ 0 ∷ 0 ∷ 0 ∷ 0 ∷ 2 ∷ 0 ∷ 0 ∷ 0 ∷ 0 ∷ 0 ∷ 0 ∷ 13 ∷ 0 ∷ 0 ∷ 0 ∷ 0 ∷ 0 ∷ []) r c → Checked t r c
-unfolding verdict tableOf bytesRead listing fieldsOf field
+pub checked-empty : (t c : List ℕ) (r : ℕ) → length t ≡ 0 → CheckedBytes (listing 1) r c → Checked t r c
+unfolding verdict tableOf bytesRead
 checked-empty [] c r e h = record { is = h .is; table = h .table; long = h .long }
 checked-empty (b ∷ t) c r e h = absurd (omega arith)
 

@@ -1,10 +1,11 @@
-use native.Mathlib.Omega.{arith}
+use Rattle.table.specs.Empty.{field, fieldsOf, listing}
 use Rattle.verdict.proofs.Rooming.{checked-empty, checked-some}
 use borrow.Author.Needs.{needs}
 use Rattle.verdict.proofs.check_into.Statement.{statement}
 use Rattle.verdict.proofs.check_into.Tie as tie
 
 pub check-into-spec : {M : Type 1} → statement M
+unfolding listing fieldsOf field
 check-into-spec =
     tie.close
     (tie.spec
