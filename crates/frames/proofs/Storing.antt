@@ -1,44 +1,24 @@
--- Loops that read and write words one after the other. Assumes nothing.
+-- Loops that write words one after the other. Assumes nothing.
 use Prim.Native.Nat.{ℕ, _+_, _-_, _<_, _≤_}
-use mathlib.Core.Path.{_≡_, refl, sym, _∙_}
+use mathlib.Core.Path.{_≡_, sym, _∙_}
 use mathlib.Core.List.{List, [], _∷_, _++_}
 use native.Mathlib.Numerals.{add-one}
 use native.Mathlib.Omega.{arith}
 use borrow.Author.Needs.{needs}
-use lib.ListN.{length, getD, set, take, length-set}
-use lib.Seq.{take-suc, take-suc-set, length-take-le}
+use lib.ListN.{length, getD, take}
+use lib.Seq.{take-suc, length-take-le}
 use Rattle.machine.specs.Memory.{Memory, memoryOf, update, store, clear, wordsAt}
 use Rattle.machine.specs.Lent.{Lent, Changed}
+use Rattle.machine.specs.Places.{SameOrApart, same, before, after}
+use Rattle.machine.proofs.Memories.{length-words, store-below, store-above}
 use Rattle.machine.proofs.Copies.{store-none, store-more, clear-none, clear-more, words-more}
+use Rattle.frames.specs.Frames.{Direct}
 
 -- a changed memory is still lent
 pub still-lent : (n : ℕ) (s : List ℕ) (m : Memory) → Changed n s m → Lent n s
 still-lent n s m c = record { long = c .long }
 
--- the loop that fills a buffer
-pub record Loading (m : Memory) (a n : ℕ) (b₀ b : List ℕ) (k : ℕ) : Type 0 where
-  pub upto : k ≤ n
-  pub room : n ≤ length b
-  pub same : length b ≡ length b₀
-  pub is : take k b ≡ wordsAt m a k
-
-module _ (m : Memory) (a n : ℕ) where
-  pub load-none : (b : List ℕ) → n ≤ length b → Loading m a n b b 0
-  unfolding wordsAt
-  load-none b h = record { upto = omega arith; room = h; same = refl; is = refl }
-
-  pub load-more : (b₀ b : List ℕ) (k w : ℕ) → Loading m a n b₀ b k → k < n → w ≡ m (a + k) → Loading m a n b₀ (set b k w) (k + 1)
-  load-more b₀ b k w l h v = record {
-    upto = omega arith;
-    room = simp length-set (l .room);
-    same = simp length-set (l .same);
-    is = let g : k < length b = omega (arith, l .room) in rw (words-more m a k, add-one k, take-suc-set b k w g, l .is, v);
-  }
-
-  pub load-all : (b₀ b : List ℕ) (k : ℕ) → Loading m a n b₀ b k → n ≤ k → take n b ≡ wordsAt m a n
-  load-all b₀ b k l h = let e : k ≡ n = omega arith in rw e at (l .is)
-
--- the loop that writes it
+-- the loop that writes a buffer
 pub record Storing (m : Memory) (a n : ℕ) (b s : List ℕ) (k : ℕ) : Type 0 where
   pub upto : k ≤ n
   pub is : Changed 17664 s (store m a (take k b))
@@ -71,6 +51,46 @@ module _ (s₀ : List ℕ) (a n : ℕ) (b : List ℕ) where
   pub stores-all : (s : List ℕ) (k : ℕ) → Storing (memoryOf s₀) a n b s k → n ≤ k → Changed 17664 s (store (memoryOf s₀) a (take n b))
   stores-all s k l h = let e : k ≡ n = omega (arith, l .upto) in rw e at (l .is)
 
+-- the loop that copies from one location to another
+pub record Moving (m : Memory) (from to n : ℕ) (s : List ℕ) (k : ℕ) : Type 0 where
+  pub upto : k ≤ n
+  pub is : Changed 17664 s (store m to (wordsAt m from k))
+
+module _ (s₀ : List ℕ) (from to n : ℕ) where
+  pub moves-none : Lent 17664 s₀ → Moving (memoryOf s₀) from to n s₀ 0
+  unfolding wordsAt
+  moves-none l = record { upto = omega arith; is = record { long = l .long; is = sym (store-none (memoryOf s₀) to) } }
+
+  pub moves-lent : (s : List ℕ) (k : ℕ) → Moving (memoryOf s₀) from to n s k → Lent 17664 s
+  moves-lent s k l = record { long = l .is .long }
+
+  -- what is still to be read is as it was
+  unread : (d : Direct from to n) (k : ℕ) → k < n → store (memoryOf s₀) to (wordsAt (memoryOf s₀) from k) (from + k) ≡ memoryOf s₀ (from + k)
+  unread d k h = by (d .apart)
+    where
+      long : length (wordsAt (memoryOf s₀) from k) ≡ k
+      long = length-words (memoryOf s₀) from k
+
+      by : SameOrApart from to n → store (memoryOf s₀) to (wordsAt (memoryOf s₀) from k) (from + k) ≡ memoryOf s₀ (from + k)
+      by (same e) = store-above (memoryOf s₀) to _ (from + k) (omega (arith, long))
+      by (before l) = store-below (memoryOf s₀) to _ (from + k) (omega (arith, long))
+      by (after l) = store-above (memoryOf s₀) to _ (from + k) (omega (arith, long))
+
+  pub moves-more : (s r : List ℕ) (k w : ℕ) → Direct from to n → Moving (memoryOf s₀) from to n s k → k < n → w ≡ memoryOf s (from + k)
+      → Changed 17664 r (update (memoryOf s) (to + k) w) → Moving (memoryOf s₀) from to n r (k + 1)
+  moves-more s r k w d l h v c = record {
+    upto = omega arith;
+    is = record { long = c .long; is = c .is ∙ rw (v, l .is .is, unread d k h, words-more (memoryOf s₀) from k) (sym more) };
+  }
+    where
+      more :
+          store (memoryOf s₀) to (wordsAt (memoryOf s₀) from k ++ memoryOf s₀ (from + k) ∷ [])
+          ≡ update (store (memoryOf s₀) to (wordsAt (memoryOf s₀) from k)) (to + k) (memoryOf s₀ (from + k))
+      more = rw (length-words (memoryOf s₀) from k) at (store-more (memoryOf s₀) to (wordsAt (memoryOf s₀) from k) (memoryOf s₀ (from + k)))
+
+  pub moves-all : (s : List ℕ) (k : ℕ) → Moving (memoryOf s₀) from to n s k → n ≤ k → Changed 17664 s (store (memoryOf s₀) to (wordsAt (memoryOf s₀) from n))
+  moves-all s k l h = let e : k ≡ n = omega (arith, l .upto) in rw e at (l .is)
+
 -- the loop that clears
 pub record Clearing (m : Memory) (a n : ℕ) (s : List ℕ) (k : ℕ) : Type 0 where
   pub upto : k ≤ n
@@ -93,4 +113,4 @@ module _ (s₀ : List ℕ) (a n : ℕ) where
   pub clears-all : (s : List ℕ) (k : ℕ) → Clearing (memoryOf s₀) a n s k → n ≤ k → Changed 17664 s (clear (memoryOf s₀) a n)
   clears-all s k l h = let e : k ≡ n = omega (arith, l .upto) in rw e at (l .is)
 
-pub ruleset copies = (load-none, load-more, load-all, stores-none, stores-lent, stores-more, stores-all, clears-none, clears-lent, clears-more, clears-all, needs)
+pub ruleset copies = (moves-none, moves-lent, moves-more, moves-all, stores-none, stores-lent, stores-more, stores-all, clears-none, clears-lent, clears-more, clears-all, needs)

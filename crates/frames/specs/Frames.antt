@@ -5,7 +5,14 @@ use mathlib.Core.List.{List, _∷_, _++_}
 use lib.ListN.{length, replicate}
 use Rattle.machine.specs.Memory.{Memory, update, store, clear}
 use Rattle.machine.specs.Layout.{location, recordAt, statusAt, statementAt, frameAt, topAt, worksAt, holderAt, depthAt, callerFrame, callerWorks}
+use Rattle.machine.specs.Places.{SameOrApart}
 use Rattle.machine.specs.Calls.{standing}
+
+-- n words of a state from one location on can be copied to another, one after the other
+pub record Direct (from to n : ℕ) : Type 0 where
+  pub source : from + n ≤ 17664
+  pub target : to + n ≤ 17664
+  pub apart : SameOrApart from to n
 
 -- process p is at a statement, its innermost frame and its first free word are these
 unfoldable pub placed : Memory → ℕ → ℕ → ℕ → ℕ → Memory

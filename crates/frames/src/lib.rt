@@ -13,20 +13,7 @@ ghost use Rattle.machine.specs.Variables.{frameWords};
 ghost use Rattle.machine.specs.Context.{contextOf};
 ghost use Rattle.machine.specs.Calls.{standing, pushed, popped};
 ghost use Rattle.machine.specs.Processes.{created, started};
-ghost use Rattle.frames.specs.Frames.{placed, padded, linked, framed, entered, left, wiped, given, begun, ended, Fits, Called};
-
-// The n words from `at` on, into the buffer.
-pub fn load_words(state: &[u8], at: usize, n: usize, words: &mut [u16])
-    requires { ⌜ Lent 17664 (now state) ⌝ }
-    requires { ⌜ (at + n ≤ 17664) × (n ≤ length (now words)) ⌝ }
-    ensures { λ _. ⌜ take n (now (words .exit)) ≡ wordsAt (memoryOf (now (state .entry))) at n ⌝ }
-{
-    let mut k: usize = 0;
-    while k < n {
-        words[k] = machine::word_of(state, 17664, at + k);
-        k += 1;
-    }
-}
+ghost use Rattle.frames.specs.Frames.{Direct, placed, padded, linked, framed, entered, left, wiped, given, begun, ended, Fits, Called};
 
 // The first n words of the buffer, to the words from `at` on.
 pub fn copy_words(state: &mut [u8], at: usize, n: usize, words: &[u16])
@@ -37,6 +24,21 @@ pub fn copy_words(state: &mut [u8], at: usize, n: usize, words: &[u16])
     let mut k: usize = 0;
     while k < n {
         machine::set_word(state, 17664, at + k, words[k]);
+        k += 1;
+    }
+}
+
+// The n words from `from` on, to `to`, one after the other: the two are the same words or share none, so that no word is read after
+// another was stored in its place (02, d).
+pub fn move_words(state: &mut [u8], from: usize, to: usize, n: usize)
+    requires { ⌜ Lent 17664 (now state) ⌝ }
+    requires { ⌜ Direct from to n ⌝ }
+    ensures { λ _. ⌜ Changed 17664 (now (state .exit)) (store (memoryOf (now (state .entry))) to (wordsAt (memoryOf (now (state .entry))) from n)) ⌝ }
+{
+    let mut k: usize = 0;
+    while k < n {
+        let w = machine::word_of(state, 17664, from + k);
+        machine::set_word(state, 17664, to + k, w);
         k += 1;
     }
 }
@@ -341,17 +343,6 @@ pub fn start(
 {
     let first = code::first_stmt(c, b);
     begin(state, r, first as u16, size as u16, n, words);
-}
-
-// An assignment: the first n words of the buffer to `at`; process p goes on at statement c.
-pub fn assign(state: &mut [u8], p: usize, c: u16, at: usize, n: usize, words: &[u16])
-    requires { ⌜ Lent 17664 (now state) ⌝ }
-    requires { ⌜ (1 ≤ p) × (p ≤ 64) ⌝ }
-    requires { ⌜ (at + n ≤ 17664) × (n ≤ length (now words)) ⌝ }
-    ensures { λ _. ⌜ Changed 17664 (now (state .exit)) (update (store (memoryOf (now (state .entry))) at (take n (now (words .entry)))) (statementAt p) c) ⌝ }
-{
-    copy_words(state, at, n, words);
-    go_to(state, p, c);
 }
 
 // Process p enters an arm at statement c, and holds the variables of process w.

@@ -5,6 +5,7 @@ pub mod Entries
 pub mod Variables
 pub mod Context
 pub mod Operands
+pub mod Places
 pub mod Calls
 pub mod Processes
 pub mod Statements

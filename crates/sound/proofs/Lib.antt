@@ -26,6 +26,8 @@ pub mod OpenCallsEntered
 pub mod OpenCallsKept
 pub mod OpenCallsListed
 pub mod OpenCallsRecords
+pub mod PlacesApart
+pub mod PlacesParts
 pub mod RefusalsHold
 pub mod Rows
 pub mod RowsListed

@@ -83,12 +83,12 @@ unfolding offsetIn fieldsWords
 offset-up T τ i k l = sum-up (λ n. partWords T τ (fieldAt T τ n)) i k l
 
 -- a field ends where the next begins, or before
-field-apart : (T : Table) (τ i k : ℕ) → fieldAt T τ i < τ → i < k → offsetIn T τ i + wordsOf T (fieldAt T τ i) ≤ offsetIn T τ k
+pub field-apart : (T : Table) (τ i k : ℕ) → fieldAt T τ i < τ → i < k → offsetIn T τ i + wordsOf T (fieldAt T τ i) ≤ offsetIn T τ k
 field-apart T τ i k l g =
     let e : offsetIn T τ (i + 1) ≡ offsetIn T τ i + wordsOf T (fieldAt T τ i) = offset-more T τ i ∙ rw (part-lower T τ (fieldAt T τ i) l) in
     omega (arith, offset-up T τ (i + 1) k (omega arith))
 
-element-apart : (n i k : ℕ) → i < k → i * n + n ≤ k * n
+pub element-apart : (n i k : ℕ) → i < k → i * n + n ≤ k * n
 element-apart n i k l = let u : suc i * n ≤ k * n = mul-le-mul-right n l in omega (arith, suc-mul i n)
 
 module _ (T : Table) (ok : Accepted T) (m n : Memory) (keeps : Keeps m n) where

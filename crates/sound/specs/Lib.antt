@@ -4,6 +4,7 @@ pub mod Evaluated
 pub mod Histories
 pub mod Reached
 pub mod InUse
+pub mod Places
 pub mod Bindings
 pub mod Conditions
 pub mod Carried

@@ -1,9 +1,9 @@
 -- Assignments that are not stuck (11.2): what each call may ask, and each return. Assumes nothing.
 use Prim.Native.Nat.{ℕ, _+_, _<_, _≤_}
-use mathlib.Core.Path.{_≡_, sym, subst, _∙_}
+use mathlib.Core.Path.{_≡_, sym, ap, subst, _∙_}
 use mathlib.Core.Bool.{true}
 use mathlib.Core.List.{List, [], _∷_}
-use lib.ListN.{length, take}
+use lib.ListN.{length}
 use native.Mathlib.Nat.{add-zero}
 use native.Mathlib.Omega.{arith}
 use Rattle.table.specs.Entries.{nodeCount, nodeP, stmtKind, stmtA, stmtB}
@@ -21,6 +21,7 @@ use Rattle.machine.specs.Lent.{Lent, Changed}
 use Rattle.machine.specs.Outcomes.{ok, fail, stuck, need, place, value, onValue}
 use Rattle.machine.specs.Entries.{stmtAt}
 use Rattle.machine.specs.Variables.{fits}
+use Rattle.machine.specs.Places.{SameOrApart}
 use Rattle.machine.specs.Statements.{effect, goOn, doAssign, perform}
 use Rattle.machine.proofs.Copies.{store-none, store-more}
 use Rattle.code.specs.Code.{decoded}
@@ -34,7 +35,7 @@ use Rattle.operands.proofs.Typed.{OfType, typed-variable, typed-expression}
 use Rattle.operands.proofs.TypeWords.{some-words, match-words}
 use Rattle.operands.proofs.Yielding.{place-fits, failed, single}
 use Rattle.operands.proofs.Selecting.{out, Sel, fits-low, fits-high}
-use Rattle.operands.proofs.Evaluating.{Ev, only-retrieval, got-selectable, got-failed, got-fits, got-value}
+use Rattle.operands.proofs.Evaluating.{Ev, only-retrieval, got-selectable, got-type, got-failed, got-fits, got-value}
 use Rattle.effects.specs.Effects.{carried, Stepped, Standing}
 use Rattle.effects.proofs.Carrying.{performs-assign}
 use Rattle.transfers.specs.Assignments.{Assigning, Copying, copied}
@@ -43,12 +44,12 @@ use Rattle.transfers.proofs.Steps.{goes-on, stands-there, stands-below,
 
 -- ---- the laws of `copy`
 
-pub copy-returns : (s s1 : List ℕ) (x : Context) (from to n c : ℕ) (b : List ℕ)
-    → take n b ≡ wordsAt (memoryOf s) from n → c ≡ x .statement + 1
-    → Changed 17664 s1 (update (store (memoryOf s) to (take n b)) (statementAt (x .process)) c)
-    → Changed 17664 s1 (copied (memoryOf s) x from to n)
+pub copy-returns : (s s1 s2 : List ℕ) (x : Context) (from to n : ℕ)
+    → Changed 17664 s1 (store (memoryOf s) to (wordsAt (memoryOf s) from n))
+    → Changed 17664 s2 (update (memoryOf s1) (statementAt (x .process)) (x .statement + 1))
+    → Changed 17664 s2 (copied (memoryOf s) x from to n)
 unfolding copied
-copy-returns s s1 x from to n c b e k i = rw (← e, ← k) i
+copy-returns s s1 s2 x from to n c d = record { long = d .long; is = d .is ∙ rw (c .is) }
 
 -- ---- one word
 
@@ -215,17 +216,27 @@ module _ (t m p : List ℕ) (x : Context) (i : ℕ) (c : Assigning t m p x i) wh
               ≡ ok (value (typeOf (decoded t) (stmtB (decoded t) (x .statement))) (wordsAt (memoryOf m) j n))
           found = got-value t m p x (c .standing .ready) _ is-retrieval v at-node l hl j g ∙ rw (← count)
 
-          pub words-copying : n ≤ 200 → Copying x j i n
-          words-copying few =
+          target-words : n ≡ wordsOf (decoded t) (typeOf (decoded t) (stmtA (decoded t) (x .statement)))
+          target-words = count ∙ sym (same-words (wordsAt (memoryOf m) j n) found)
+
+          source-words : n ≡ wordsOf (decoded t) (typeOf (decoded t) v)
+          source-words = count ∙ ap (wordsOf (decoded t)) (got-type t m p x (c .standing .ready) _ is-retrieval v at-node)
+
+          -- the two variables are the same or apart
+          copied-apart : SameOrApart j i n
+          copied-apart =
+              rw (← source-words) at (c .standing .places .apart v (stmtA (decoded t) (x .statement)) j i _ _
+              (sym hl ∙ rw g) (c .target) (sym source-words ∙ target-words))
+
+          pub words-copying : Copying x j i n
+          words-copying =
               let a = fits-high (decoded t) j (typeOf (decoded t) (stmtB (decoded t) (x .statement))) (got-fits t m p x (c .standing .ready) _ is-retrieval v at-node l hl j g) in
               let b = fits-high (decoded t) i (typeOf (decoded t) (stmtA (decoded t) (x .statement))) target-fits in
               record {
                 processLow = assigning-bounds .0;
                 processHigh = assigning-bounds .1 .0;
                 statement = assigning-bounds .1 .1;
-                source = above j n _ count a;
-                target = above i n _ (count ∙ sym (same-words (wordsAt (memoryOf m) j n) found)) b;
-                few = few;
+                words = record { source = above j n _ count a; target = above i n _ target-words b; apart = copied-apart };
               }
             where
               above : (a n k : ℕ) → n ≡ k → a + k ≤ 16384 → a + n ≤ 17664

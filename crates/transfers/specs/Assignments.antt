@@ -11,6 +11,7 @@ use Rattle.machine.specs.Operands.{operand}
 use Rattle.code.specs.Code.{decoded}
 use Rattle.operands.specs.declared.Context.{Context}
 use Rattle.operands.specs.Ready.{contextIn}
+use Rattle.frames.specs.Frames.{Direct}
 use Rattle.effects.specs.Effects.{Standing}
 
 -- the statement is an assignment to a variable that stands at i; another statement can follow
@@ -27,9 +28,7 @@ pub record Copying (x : Context) (from to n : ℕ) : Type 0 where
   pub processLow : 1 ≤ x .process
   pub processHigh : x .process ≤ 64
   pub statement : x .statement < 65535
-  pub source : from + n ≤ 17664
-  pub target : to + n ≤ 17664
-  pub few : n ≤ 200
+  pub words : Direct from to n
 
 unfoldable pub copied : Memory → Context → ℕ → ℕ → ℕ → Memory
 copied m x from to n = update (store m to (wordsAt m from n)) (statementAt (x .process)) (x .statement + 1)

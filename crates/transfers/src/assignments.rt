@@ -17,22 +17,14 @@ ghost use Rattle.operands.specs.Ready.{contextIn};
 ghost use Rattle.effects.specs.Effects.{carried, Stepped, Standing};
 ghost use Rattle.transfers.specs.Assignments.{Assigning, Copying, copied};
 
-// The n words from `from` on, to `to`. They are all read before one is stored: the variables may overlap.
+// The n words from `from` on, to `to`, directly (02, d); then the process goes on.
 fn copy(state: &mut [u8], x: Context, from: usize, to: usize, n: usize)
     requires { ⌜ Lent 17664 (now state) ⌝ }
     requires { ⌜ Copying x from to n ⌝ }
     ensures { λ _. ⌜ Changed 17664 (now (state .exit)) (copied (memoryOf (now (state .entry))) x from to n) ⌝ }
 {
-    let mut words = [0u16; 200];
-    frames::load_words(state, from, n, &mut words[..]);
-    frames::assign(
-        state,
-        x.process,
-        (x.statement + 1) as u16,
-        to,
-        n,
-        &words[..],
-    );
+    frames::move_words(state, from, to, n);
+    effects::go_on(state, x);
 }
 
 // A value of several words is that of a variable (8.7).
