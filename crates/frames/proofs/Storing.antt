@@ -65,22 +65,16 @@ module _ (s₀ : List ℕ) (from to n : ℕ) where
   moves-lent s k l = record { long = l .is .long }
 
   -- what is still to be read is as it was
-  unread : (d : Direct from to n) (k : ℕ) → k < n → store (memoryOf s₀) to (wordsAt (memoryOf s₀) from k) (from + k) ≡ memoryOf s₀ (from + k)
-  unread d k h = by (d .apart)
-    where
-      long : length (wordsAt (memoryOf s₀) from k) ≡ k
-      long = length-words (memoryOf s₀) from k
-
-      by : SameOrApart from to n → store (memoryOf s₀) to (wordsAt (memoryOf s₀) from k) (from + k) ≡ memoryOf s₀ (from + k)
-      by (same e) = store-above (memoryOf s₀) to _ (from + k) (omega (arith, long))
-      by (before l) = store-below (memoryOf s₀) to _ (from + k) (omega (arith, long))
-      by (after l) = store-above (memoryOf s₀) to _ (from + k) (omega (arith, long))
+  unread : (c k : ℕ) → SameOrApart from to c → k < c → store (memoryOf s₀) to (wordsAt (memoryOf s₀) from k) (from + k) ≡ memoryOf s₀ (from + k)
+  unread c k (same e) h = store-above (memoryOf s₀) to _ (from + k) (omega (arith, length-words (memoryOf s₀) from k))
+  unread c k (before l) h = store-below (memoryOf s₀) to _ (from + k) (omega arith)
+  unread c k (after l) h = store-above (memoryOf s₀) to _ (from + k) (omega (arith, length-words (memoryOf s₀) from k))
 
   pub moves-more : (s r : List ℕ) (k w : ℕ) → Direct from to n → Moving (memoryOf s₀) from to n s k → k < n → w ≡ memoryOf s (from + k)
       → Changed 17664 r (update (memoryOf s) (to + k) w) → Moving (memoryOf s₀) from to n r (k + 1)
   moves-more s r k w d l h v c = record {
     upto = omega arith;
-    is = record { long = c .long; is = c .is ∙ rw (v, l .is .is, unread d k h, words-more (memoryOf s₀) from k) (sym more) };
+    is = record { long = c .long; is = c .is ∙ rw (v, l .is .is, unread _ k (d .apart) h, words-more (memoryOf s₀) from k) (sym more) };
   }
     where
       more :

@@ -35,7 +35,7 @@ pub fn move_words(state: &mut [u8], from: usize, to: usize, n: usize)
     requires { ⌜ Direct from to n ⌝ }
     ensures { λ _. ⌜ Changed 17664 (now (state .exit)) (store (memoryOf (now (state .entry))) to (wordsAt (memoryOf (now (state .entry))) from n)) ⌝ }
 {
-    let mut k: usize = 0;
+    let mut k = 0;
     while k < n {
         let w = machine::word_of(state, 17664, from + k);
         machine::set_word(state, 17664, to + k, w);
