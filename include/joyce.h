@@ -77,8 +77,8 @@ extern "C" {
  * function for it: the archive exports the four proved calls and nothing else, and is linked statically with the header that it came with. */
 #define JOYCE_VERSION_MAJOR 1
 #define JOYCE_VERSION_MINOR 2
-#define JOYCE_VERSION_PATCH 0
-#define JOYCE_VERSION "1.2.0"
+#define JOYCE_VERSION_PATCH 1
+#define JOYCE_VERSION "1.2.1"
 
 /* Sizes, in bytes. */
 #define JOYCE_STATE_SIZE 35328 /* a state: 64 areas of 512 bytes, then 64 control records of 40 */
