@@ -27,7 +27,7 @@ unfolding answers
 listing-answers = refl
 
 -- process store  var n: integer  procedure put(x: integer) begin n := x end  begin skip end
--- var s: store  begin create s; start s; s.put(5) end
+-- var s: store  begin create s; start s; s.put(5) end.
 -- the call waits while process 2 holds its own variables
 abbrev pub waiting : Table
 waiting = tableFrom record {
@@ -56,7 +56,7 @@ unfolding answers looks keeps
 waiting-runs = (refl, refl, refl)
 
 -- process cell  var full: boolean  procedure put begin full := true end  begin when full do full := false end end
--- var s: cell  begin create s; start s; s.put; s.put end
+-- var s: cell  begin create s; start s; s.put; s.put end.
 -- the blocked when gives up the variables of process 2, so that process 1 can call; a true guard takes them back
 abbrev pub cell : Table
 cell = tableFrom record {
@@ -88,7 +88,7 @@ unfolding answers looks keeps
 cell-runs = (refl, refl, refl)
 
 -- process child(n: integer)  begin write(-2, n) end
--- var c: child  begin create c; start c(7); start c(8) end
+-- var c: child  begin create c; start c(7); start c(8) end.
 -- a process that is created and not started waits; the second start fails with 20, and then every step answers 20
 abbrev pub starting : Table
 starting = tableFrom record {
@@ -116,7 +116,7 @@ unfolding answers device keeps
 starting-runs = (refl, refl, refl)
 
 -- process child  begin skip end
--- var a, b, c: child; same: boolean  begin create a; create b; same := a = b; start c end
+-- var a: child; b: child; c: child; same: boolean  begin create a; create b; same := a = b; start c end.
 -- processes are numbered from 2 in the order of creation; a start through an empty reference fails with 19
 abbrev pub creating : Table
 creating = tableFrom record {
@@ -146,7 +146,7 @@ unfolding answers looks keeps
 creating-runs = (refl, refl, refl, refl, refl, refl)
 
 -- process store  var n: integer  procedure get(var x: integer) begin x := n + x end  begin n := 5 end
--- var s: store; y: integer  begin y := 2; create s; start s; s.get(y) end
+-- var s: store; y: integer  begin y := 2; create s; start s; s.get(y) end.
 -- a var parameter of a process call stands for the caller's variable
 abbrev pub fetching : Table
 fetching = tableFrom record {
@@ -176,7 +176,7 @@ pub fetching-runs :
 unfolding answers looks keeps
 fetching-runs = (refl, refl, refl, refl)
 
--- begin if false and (1 / 0 = 1) do skip end end
+-- begin if false and (1 / 0 = 1) do skip end end.
 -- both sides of and are evaluated, and the right one fails with 17
 abbrev pub failing : Table
 failing = tableFrom record {
@@ -195,7 +195,7 @@ unfolding answers
 failing-answers = refl
 
 -- type point = record x: integer; set: boolean end
--- var a, b: point  begin a.x := 7; a.set := true; b := a; write(-2, b.x) end
+-- var a: point; b: point  begin a.x := 7; a.set := true; b := a; write(-2, b.x) end.
 abbrev pub copying : Table
 copying = tableFrom record {
   types = records 0 2 ∷ [];
@@ -224,7 +224,7 @@ unfolding answers device looks keeps
 copying-runs = (refl, refl, refl, refl, refl)
 
 -- type row = array 'a'..'c' of integer
--- var r: row; c: char  begin c := 'c'; r[c] := 5; c := (c: integer + 1): char; r[c] := 6 end
+-- var r: row; c: char  begin c := 'c'; r[c] := 5; c := (c: integer + 1): char; r[c] := 6 end.
 -- an index of 'd' is out of range: 18
 abbrev pub indexing : Table
 indexing = tableFrom record {
@@ -253,7 +253,7 @@ unfolding answers looks keeps
 indexing-runs = (refl, refl, refl, refl)
 
 -- type block = array 1..50 of integer
--- procedure again  var b: block  begin again end   begin again end
+-- procedure again  var b: block  begin again end   begin again end.
 -- four frames of 54 words fit an area of 256 words; the fifth answers 22
 abbrev pub recursion : Table
 recursion = tableFrom record {
@@ -276,7 +276,7 @@ unfolding answers keeps
 recursion-runs = (refl, refl)
 
 -- process self(me: self)  procedure p begin skip end  begin me.p end
--- var s: self  begin create s; start s(s) end
+-- var s: self  begin create s; start s(s) end.
 -- a call on one's own reference waits for ever
 abbrev pub selfish : Table
 selfish = tableFrom record {
@@ -301,7 +301,7 @@ pub selfish-runs :
 unfolding answers keeps
 selfish-runs = (refl, refl)
 
--- begin write(-4, val -2 + 1); write(-8192, val -4); write(-1, 0) end
+-- begin write(-4, val (-2) + 1); write(-8192, val (-4)); write(-1, 0) end.
 -- over a page whose last word is 41; the address -1 answers 21
 abbrev pub devices : Table
 devices = tableFrom record {
@@ -324,7 +324,7 @@ pub devices-run :
 unfolding runOn answersOf pageOf
 devices-run = (refl, refl, refl)
 
--- var x, y: integer  begin x := 6; y := 4; while x > y do x := x - y else y > x do y := y - x end; write(-2, x) end
+-- var x: integer; y: integer  begin x := 6; y := 4; while x > y do x := x - y else y > x do y := y - x end; write(-2, x) end.
 abbrev pub divisor : Table
 divisor = tableFrom record {
   types = [];
@@ -357,7 +357,7 @@ divisor-runs = (refl, refl, refl)
 
 -- process lower  procedure put begin skip end  begin skip end
 -- process upper(b: lower)  procedure poke begin skip end  begin b.put end
--- var a: upper; b: lower  begin create a; create b; start b; start a(b); a.poke end
+-- var a: upper; b: lower  begin create a; create b; start b; start a(b); a.poke end.
 -- while process 2 is inside its call on process 3 it still holds its own variables, and the call of process 1 on it waits
 abbrev pub holding : Table
 holding = tableFrom record {
@@ -387,7 +387,7 @@ unfolding answers keeps
 holding-runs = (refl, refl)
 
 -- process cell  var full: boolean  procedure put begin full := true; skip end  begin when full do skip end end
--- var s: cell  begin create s; start s; s.put end
+-- var s: cell  begin create s; start s; s.put end.
 -- while process 1 is inside its call it holds the variables of process 2, which waits although its guard is true
 abbrev pub excluding : Table
 excluding = tableFrom record {
