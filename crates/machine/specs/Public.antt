@@ -52,7 +52,7 @@ finished Run.stuck c answers = c
 unfoldable pub runLengths : ℕ → ℕ → ℕ → ℕ → Bool
 runLengths state page schedule answers = both (eqb state 35328) (both (eqb page 8192) (leb schedule answers))
 
--- the verdicts on tables, and the width of fields in the edition (01: 1)
+-- the verdict on a table in each edition, and the edition: the width w of its fields
 module _ (verdict : ℕ → List ℕ → ℕ) (w : ℕ) where
   unfoldable pub checkCall : List ℕ → ℕ
   checkCall table = verdict w table
