@@ -5,6 +5,7 @@ pub mod Edges
 pub mod Stuck
 pub mod Frames
 pub mod Damaged
+pub mod Tests
 pub mod Memories
 pub mod Ends
 pub mod Failures

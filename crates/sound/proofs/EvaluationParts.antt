@@ -7,7 +7,7 @@ use native.Mathlib.Nat.{zero-add}
 use lib.Dec.{eqb, leb}
 use borrow.Author.Tests.{leb-true, le-leb}
 use Rattle.basics.specs.Choice.{both}
-use Rattle.basics.proofs.Bools.{both-l, both-r, both-i}
+use Rattle.basics.proofs.Bools.{both-l, both-r, both-i, either-l, either-r, either-case}
 use Rattle.table.specs.Table.{Table}
 use Rattle.table.specs.Entries.{typeCount, blockCount, varType, fieldType, firstVar}
 use Rattle.types.specs.Match.{elements}
@@ -19,11 +19,12 @@ use Rattle.machine.specs.Variables.{offsetOf, fits}
 use Rattle.machine.specs.Values.{part, partOfBlock}
 use Rattle.machine.specs.Step.{inRange}
 use Rattle.machine.specs.Rule.{isCreated, owns, lives}
+use Rattle.machine.proofs.Tests.{range-low, range-high}
 use Rattle.verdict.specs.Accepted.{Accepted}
 use Rattle.sound.specs.Claims.{PlaceLaws}
 use Rattle.sound.specs.Ruled.{Chained, bottom, called, Ruled}
 use Rattle.sound.specs.Evaluated.{Live}
-use Rattle.sound.proofs.Ruled.{either-l, either-r, either-case, range-low, range-high, block-there}
+use Rattle.sound.proofs.Ruled.{block-there}
 use Rattle.sound.proofs.StoresBlocks.{plain-words, variable-type, part-of, part-of-i}
 use Rattle.sound.proofs.EvaluationVariables.{live}
 

@@ -7,7 +7,7 @@ use native.Mathlib.Nat.{zero-add}
 use lib.Dec.{eqb, leb}
 use borrow.Author.Tests.{eqb-true, leb-true, le-leb, lt-ltb}
 use Rattle.basics.specs.Choice.{both}
-use Rattle.basics.proofs.Bools.{no-true, both-l, both-r, both-i}
+use Rattle.basics.proofs.Bools.{no-true, both-l, both-r, both-i, either-case}
 use Rattle.table.specs.Table.{Table}
 use Rattle.table.specs.Entries.{typeCount, blockCount, varMode, varType, firstVar, vars}
 use Rattle.sizes.specs.Sizes.{wordsOf}
@@ -17,10 +17,11 @@ use Rattle.machine.specs.Variables.{frameWords, offsetOf, fits}
 use Rattle.machine.specs.Values.{holds, partOfBlock}
 use Rattle.machine.specs.Step.{inRange}
 use Rattle.machine.specs.Rule.{isCreated, owns, lives}
+use Rattle.machine.proofs.Tests.{range-low, range-high}
 use Rattle.verdict.specs.Accepted.{Accepted}
 use Rattle.sound.specs.Claims.{PlaceLaws}
 use Rattle.sound.specs.Ruled.{Framed, Chained, bottom, called, Ruled, PartOf}
-use Rattle.sound.proofs.Ruled.{either-case, range-low, range-high, block-there, block-kind}
+use Rattle.sound.proofs.Ruled.{block-there, block-kind}
 use Rattle.sound.proofs.StoresMemory.{location-add, location-of}
 use Rattle.sound.proofs.StoresBlocks.{variable-in, plain-words, variable-type, module-fits, part-of, part-of-i}
 use Rattle.sound.proofs.EvaluationBasics.{location-area, location-word}

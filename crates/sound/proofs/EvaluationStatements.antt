@@ -9,7 +9,7 @@ use lib.Dec.{eqb, leb, ltb}
 use borrow.Author.Tests.{eqb-true, eqb-false, ltb-false, lt-ltb, le-leb, eq-eqb, not-true, not-false}
 use Rattle.basics.specs.Choice.{pick, both, either, cases}
 use Rattle.basics.specs.Course.{course}
-use Rattle.basics.proofs.Bools.{both-l, both-r, both-i}
+use Rattle.basics.proofs.Bools.{both-l, both-r, both-i, either-case}
 use Rattle.table.specs.Table.{Table}
 use Rattle.table.specs.Entries.{blockCount, argCount, nodeCount, stmtCount, typeKind, typeP, blockKind, owner, firstVar, params, argNode, stmtKind, stmtA, stmtB, stmtC, stmtD, stmtLink}
 use Rattle.types.specs.Types.{typeOf}
@@ -38,7 +38,6 @@ use Rattle.sound.specs.Claims.{PlaceLaws, Small}
 use Rattle.sound.specs.Ruled.{Ruled}
 use Rattle.sound.specs.Reached.{WordTable}
 use Rattle.sound.specs.Evaluated.{Live, GoodPlace, GoodValue, Scoping, Bound, GoodArguments, the-words, no-words, Performed, assigns, calls, serves, waits, creates, starts, writes, fails}
-use Rattle.sound.proofs.Ruled.{either-case}
 use Rattle.sound.proofs.EvaluationBasics.{on-need, on-fail, on-place, on-value, on-word}
 use Rattle.sound.proofs.ValueTypes.{at-process}
 use Rattle.sound.proofs.EvaluationTypes.{word-small}

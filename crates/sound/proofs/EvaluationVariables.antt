@@ -6,7 +6,7 @@ use native.Mathlib.Omega.{arith}
 use lib.Dec.{eqb, leb, ltb}
 use borrow.Author.Tests.{eqb-true, eqb-false, le-leb, lt-ltb, eq-eqb}
 use Rattle.basics.specs.Choice.{both, either, cases}
-use Rattle.basics.proofs.Bools.{no-true, both-r, both-i}
+use Rattle.basics.proofs.Bools.{no-true, both-r, both-i, either-l, either-r}
 use Rattle.table.specs.Table.{Table}
 use Rattle.table.specs.Entries.{varCount, blockCount, varMode, varType, owner, firstVar, vars}
 use Rattle.numbers.proofs.TypePromise.{var-type}
@@ -18,12 +18,14 @@ use Rattle.machine.specs.Values.{partOfBlock}
 use Rattle.machine.specs.Context.{contextOf, blockOf}
 use Rattle.machine.specs.Operands.{placeAt, moduleVariable, frameVariable, wholePlace}
 use Rattle.machine.specs.Rule.{isCreated, owns, lives}
+use Rattle.machine.proofs.Tests.{range-i}
+use Rattle.machine.proofs.Memories.{within-from, within-to}
 use Rattle.verdict.specs.Accepted.{Accepted}
 use Rattle.sound.specs.Claims.{PlaceLaws}
 use Rattle.sound.specs.Ruled.{Framed, Chained, bottom, called, Ruled, Standing}
 use Rattle.sound.specs.Evaluated.{Live, GoodPlace, at-place, no-place}
-use Rattle.sound.proofs.Ruled.{either-l, either-r, range-i, block-there, block-kind, block-owner, block-bottom, block-called, stands}
-use Rattle.sound.proofs.StoresBlocks.{within-from, within-to, variable-in, plain-words, bound-words, variable-type, module-plain, module-fits}
+use Rattle.sound.proofs.Ruled.{block-there, block-kind, block-owner, block-bottom, block-called, stands}
+use Rattle.sound.proofs.StoresBlocks.{variable-in, plain-words, bound-words, variable-type, module-plain, module-fits}
 use Rattle.sound.proofs.EvaluationBasics.{need-true, on-need, location-area, location-word}
 use Rattle.sound.proofs.ValueKnown.{known-type}
 use Rattle.sound.proofs.EvaluationPlaces.{whole-part, lives-housed}

@@ -9,7 +9,7 @@ use lib.Dec.{eqb, leb, ltb}
 use lib.ListN.{length, replicate, length-append, length-replicate}
 use borrow.Author.Tests.{eqb-true, eqb-false, leb-true, ltb-true, ltb-false, ne-eqb, lt-leb, le-ltb}
 use Rattle.basics.specs.Choice.{cases, both, either}
-use Rattle.basics.proofs.Bools.{both-l, both-r, both-false-l, both-false-r}
+use Rattle.basics.proofs.Bools.{both-l, both-r, both-false-l, both-false-r, either-case}
 use Rattle.table.specs.Table.{Table}
 use Rattle.table.specs.Entries.{firstVar}
 use Rattle.sizes.specs.Sizes.{wordsOf, moduleWords}
@@ -33,7 +33,7 @@ use Rattle.sound.specs.Claims.{PlaceLaws}
 use Rattle.sound.specs.Ruled.{Framed, Chained, called, Ruled}
 use Rattle.sound.specs.InUse.{Created, Call, innermost, caller}
 use Rattle.sound.specs.Bindings.{FrameWord, link, bound, BindingsKept}
-use Rattle.sound.proofs.Ruled.{either-case, block-there, block-kind}
+use Rattle.sound.proofs.Ruled.{block-there, block-kind}
 use Rattle.sound.proofs.StoresBlocks.{variable-in, variables-apart, bound-words, part-of, module-variables, module-fits}
 use Rattle.sound.proofs.StoresChains.{chain-over, created-low, created-high}
 use Rattle.sound.proofs.StoresProcesses.{chain-fits}

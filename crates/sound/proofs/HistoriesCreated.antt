@@ -21,6 +21,7 @@ use Rattle.machine.specs.Calls.{arguments, frame, topAfter, pushed, call, poppe
 use Rattle.machine.specs.Processes.{onProcess, onReference, refers, started}
 use Rattle.machine.specs.Statements.{Effect, effect, goTo, goOn, wait, moved, doLocalCall, free, doProcessCall, doStart, perform}
 use Rattle.machine.specs.Step.{done, settled, inRange, answers, performs, proceeds, exists, turn, step}
+use Rattle.machine.proofs.Tests.{range-low, range-high}
 use Rattle.sound.specs.Conditions.{ownBlock}
 use Rattle.sound.specs.Carried.{Inside, nextArm, lastEnd, Carries, skips, assigns, callsLocal, callsProcess, starts, enters, passes, leaves, again, writes, returnsLocal, returnsProcess}
 use Rattle.sound.specs.Rows.{next}
@@ -203,14 +204,6 @@ module _ (T : Table) (m page : Memory) (p : ℕ) where
   performs-left l b c y =
       g-need Left none _ _ (comes-left _ _ refl (comes T m page (contextOf m p) l b c y (next T m page p) _ refl (reports T m page (contextOf m p) (next T m page p))))
 
-  in-least : (a b n : ℕ) → inRange a b n ≡ true → a ≤ n
-  unfolding inRange
-  in-least a b n e = leb-true _ _ (both-l _ _ e)
-
-  in-most : (a b n : ℕ) → inRange a b n ≡ true → n ≤ b
-  unfolding inRange
-  in-most a b n e = leb-true _ _ (both-r _ _ e)
-
   exists-left : p ≤ 64 → m createdAt ≤ 64 → 1 ≤ m createdAt → Left (exists T m page p)
   unfolding exists proceeds
   exists-left l c y =
@@ -225,8 +218,8 @@ module _ (T : Table) (m page : Memory) (p : ℕ) where
   turn-left =
       g-pick Left none (eqb (m failureAt) 0) _ _
       (λ e. g-test Left none _ _ (λ c. g-pick Left none (inRange 1 (m createdAt) p) _ _
-      (λ l. let u = in-most 1 64 _ c in let v = in-most 1 _ p l in exists-left (omega arith) u (in-least 1 64 _ c)) (λ l. answers-left 3 (λ z. omega arith))))
-      (λ e. g-test Left none _ _ (λ c. let u = in-least 16 24 _ c in answers-left (m failureAt) (λ z. omega arith)))
+      (λ l. let u = range-high 1 64 _ c in let v = range-high 1 _ p l in exists-left (omega arith) u (range-low 1 64 _ c)) (λ l. answers-left 3 (λ z. omega arith))))
+      (λ e. g-test Left none _ _ (λ c. let u = range-low 16 24 _ c in answers-left (m failureAt) (λ z. omega arith)))
 
   failed-step : (n : ℕ) → 16 ≤ n → CreatedKept T m page p n (update m failureAt n)
   unfolding createsOne

@@ -11,9 +11,10 @@ use Rattle.machine.specs.Memory.{Memory, update, store}
 use Rattle.machine.specs.Layout.{location, recordAt, statusAt, moduleAt, statementAt, createdAt, failureAt}
 use Rattle.machine.specs.Calls.{standing}
 use Rattle.machine.specs.Processes.{created}
+use Rattle.machine.proofs.Memories.{update-at, update-other, store-above, clear-below, clear-above}
 use Rattle.sound.specs.InUse.{Created}
 use Rattle.sound.specs.Created.{NewProcess, ProcessesKept}
-use Rattle.sound.proofs.StoresMemory.{update-same, update-other, store-after, clear-before, clear-after, record-high}
+use Rattle.sound.proofs.StoresMemory.{record-high}
 
 pub location-end : (p k n : ℕ) → p ≤ 64 → k + n ≤ 256 → location p k + n ≤ 16384
 unfolding location
@@ -67,7 +68,7 @@ module _ (m : Memory) where
       count = update-other s _ v _ (unlike-words 1 q 8 0 (omega arith)) ∙ h .count;
       block = λ r. update-other s _ v _ (unlike-words r q 1 0 (omega arith)) ∙ h .block r;
       status = λ r. cases (eqb (statusAt r) (statusAt q))
-          (λ e. let z = eqb-true _ _ e in rw (update-same s (statusAt q) v (statusAt r) z, z) l)
+          (λ e. let z = eqb-true _ _ e in rw (update-at s (statusAt q) v (statusAt r) z, z) l)
           (λ e. rw (update-other s (statusAt q) v (statusAt r) (eqb-false _ _ e)) (h .status r));
       mark = update-other s _ v _ (unlike-words 1 q 9 0 (omega arith)) ∙ h .mark;
     }
@@ -81,7 +82,7 @@ module _ (m : Memory) where
     }
       where
         high : (r k : ℕ) → store s a ws (recordAt r k) ≡ s (recordAt r k)
-        high r k = let z = record-high r k in store-after s a ws (recordAt r k) (omega arith)
+        high r k = let z = record-high r k in store-above s a ws (recordAt r k) (omega arith)
 
   pub still-standing : (s : Memory) (q c f t w d : ℕ) → Still m s → Still m (standing s q c f t w d)
   unfolding standing
@@ -106,22 +107,22 @@ module _ (m : Memory) (n μ i c p : ℕ) (over : m createdAt < n) (most : n ≤ 
   new-status =
       update-other _ _ n _ (unlike-words n 1 0 8 (omega arith))
       ∙ update-other _ _ μ _ (unlike-words n n 0 1 (omega arith))
-      ∙ update-same _ _ 1 _ refl
+      ∙ update-at _ _ 1 _ refl
 
   new-block : created m n μ (moduleAt n) ≡ μ
   unfolding created
-  new-block = update-other _ _ n _ (unlike-words n 1 1 8 (omega arith)) ∙ update-same _ _ μ _ refl
+  new-block = update-other _ _ n _ (unlike-words n 1 1 8 (omega arith)) ∙ update-at _ _ μ _ refl
 
   new-count : created m n μ createdAt ≡ n
   unfolding created
-  new-count = update-same _ _ n _ refl
+  new-count = update-at _ _ n _ refl
 
   pub new-process : NewProcess after n μ i
   new-process = record {
     last = record-after 1 8 (omega arith) ∙ new-count;
     block = record-after n 1 (omega arith) ∙ new-block;
     unstarted = record-after n 0 (omega arith) ∙ new-status;
-    named = update-other _ _ c i (λ z. let a = record-high p 2 in omega arith) ∙ update-same _ i n i refl;
+    named = update-other _ _ c i (λ z. let a = record-high p 2 in omega arith) ∙ update-at _ i n i refl;
   }
 
   other-record : (r k : ℕ) → 1 ≤ r → r < n → k < 20 → (recordAt r k ≡ recordAt n 0 → ⊥) × (recordAt r k ≡ recordAt n 1 → ⊥) × (recordAt r k < recordAt n 0)
@@ -139,8 +140,8 @@ module _ (m : Memory) (n μ i c p : ℕ) (over : m createdAt < n) (most : n ≤ 
       update-other _ _ n _ (unlike-words r 1 k 8 (omega arith))
       ∙ update-other _ _ μ _ (u .1)
       ∙ update-other _ _ 1 _ (u .0)
-      ∙ clear-before _ (recordAt n 0) 20 _ (u .2)
-      ∙ clear-after m (location n 0) 256 _ (omega arith)
+      ∙ clear-below _ (recordAt n 0) 20 _ (u .2)
+      ∙ clear-above m (location n 0) 256 _ (omega arith)
 
   pub others-kept : ProcessesKept m after
   others-kept = record {

@@ -8,7 +8,7 @@ use lib.Dec.{eqb, ltb}
 use borrow.Author.Tests.{eqb-true, eqb-false, leb-true, ltb-true, eq-eqb, ne-eqb}
 use Rattle.basics.specs.Choice.{pick, cases, either}
 use Rattle.basics.specs.Course.{upto, course}
-use Rattle.basics.proofs.Bools.{both-l, both-r, no-true, all-at}
+use Rattle.basics.proofs.Bools.{both-l, both-r, no-true, all-at, either-case}
 use Rattle.basics.proofs.Courses.{upto-is}
 use Rattle.table.specs.Table.{Table}
 use Rattle.table.specs.Entries.{fieldType, varMode, varType, firstVar, vars, typeKind, typeP, typeQ, typeLow, typeHigh}
@@ -16,7 +16,7 @@ use Rattle.types.specs.Match.{elements}
 use Rattle.sizes.specs.Sizes.{wordsOf, offsetIn}
 use Rattle.words.specs.Types.{inType}
 use Rattle.words.proofs.StandardTypes.{integer-is, boolean-is, character-is}
-use Rattle.machine.specs.Memory.{Memory, within}
+use Rattle.machine.specs.Memory.{Memory}
 use Rattle.machine.specs.Layout.{location, statusAt, moduleAt, statementAt, topAt, worksAt, createdAt, callerFrame, callStatement, callerWorks, calledBlock}
 use Rattle.machine.specs.Entries.{TypeEntry, integer, boolean, character, recordType, arrayType, processType, noType, typeAt}
 use Rattle.machine.specs.Variables.{offsetOf}
@@ -24,15 +24,11 @@ use Rattle.machine.specs.Processes.{refers}
 use Rattle.machine.specs.Step.{inRange}
 use Rattle.machine.specs.Values.{someBelow, typeHolds, holdsAt, nowhere, holds, partIn, partAt, part, partOfVariable, partOfBlock}
 use Rattle.machine.specs.Rule.{isCreated, owns, lives, moduleHolds, modulesHold, frameHolds, framesHold, chain, startedOk, processOk, rule}
+use Rattle.machine.proofs.Memories.{within-from, location-plus}
 use Rattle.sound.specs.Claims.{Small}
 use Rattle.sound.specs.InUse.{Created, Reference, empty, names, HoldsValue, simple, reference, eachField, eachElement, Part, itself, ofField, ofElement, Call, innermost, caller, Of, moduleVariable, callVariable, InUse, ofModule, ofCall, Bound, ValuesHold}
 
 -- ---- tests
-
-pub either-true {ℓ} : {A : Type ℓ} (a b : Bool) → either a b ≡ true → (a ≡ true → A) → (b ≡ true → A) → A
-unfolding either
-either-true true b e f g = f refl
-either-true false b e f g = g e
 
 record Some (k : ℕ) (f : ℕ → Bool) : Type 0 where
   at : ℕ
@@ -43,7 +39,7 @@ some-at : (k : ℕ) (f : ℕ → Bool) → someBelow k f ≡ true → Some k f
 unfolding someBelow
 some-at zero f e = no-true e
 some-at (suc k) f e =
-    either-true (f k) (someBelow k f) e
+    either-case (f k) (someBelow k f) e
     (λ h. record { at = k; below = omega arith; is = h })
     (λ h. let s = some-at k f h in record { at = s .at; below = let l = s .below in omega arith; is = s .is })
 
@@ -57,10 +53,6 @@ lower F τ σ b e =
   where
     at : {g : ℕ → Bool} → pick (ltb σ τ) (course nowhere F σ) nowhere ≡ g → upto nowhere F τ σ b ≡ g b
     at h = ap (λ (g : ℕ → Bool). g b) (upto-is nowhere F τ σ ∙ h)
-
-within-least : (a n j : ℕ) → within a n j ≡ true → a ≤ j
-unfolding within
-within-least a n j e = leb-true a j (both-l _ _ e)
 
 -- ---- types
 
@@ -130,7 +122,7 @@ module _ (T : Table) where
   part-entry τ σ (recordType first count) k t f e =
       let s = some-at count _ e in
       let l = lower (partAt T τ) σ _ _ (both-r _ _ (s .is)) in
-      let w = within-least _ _ _ (both-l _ _ (s .is)) in
+      let w = within-from _ _ _ (both-l _ _ (s .is)) in
       let z : k ≡ offsetIn T σ (s .at) + (k - offsetIn T σ (s .at)) = omega arith in
       ofField first count (s .at) (k - offsetIn T σ (s .at)) t (s .below) z (f _ _ (l .0) (l .1))
   part-entry τ σ (arrayType ι ρ low high) k t f e =
@@ -143,7 +135,7 @@ module _ (T : Table) where
   unfolding part partAt course
   part-upto τ zero σ k h e = absurd (not-suc-le-zero h)
   part-upto τ (suc n) σ k h e =
-      either-true _ _ e
+      either-case _ _ e
       (λ b. itself (sym (eqb-true σ τ (both-l _ _ b))) (eqb-true k 0 (both-r _ _ b)))
       (λ b. part-entry τ σ (typeAt T σ) k refl (λ ρ j l p. part-upto τ n ρ j (omega arith) p) b)
 
@@ -186,7 +178,7 @@ module _ (T : Table) (m : Memory) where
     reference-of : (μ w : ℕ) → either (eqb w 0) (refers m μ w) ≡ true → Reference m μ w
     unfolding refers
     reference-of μ w e =
-        either-true _ _ e
+        either-case _ _ e
         (λ h. empty (eqb-true w 0 h))
         (λ h. let b = both-l _ _ h in
         let two = leb-true 2 w (both-l _ _ b) in
@@ -220,10 +212,6 @@ module _ (T : Table) (m : Memory) where
 
 -- ---- variables in use
 
-location-plus : (p k j : ℕ) → location p (k + j) ≡ location p k + j
-unfolding location
-location-plus p k j = omega arith
-
 location-is : (a : ℕ) → a ≡ location (a / 256 + 1) (a % 256)
 unfolding location
 location-is a = omega arith
@@ -241,7 +229,7 @@ unfolding partOfBlock partOfVariable
 in-block T b τ k e =
     let s = some-at (vars T b) _ e in
     let l = s .below in
-    let w = within-least _ _ _ (both-l _ _ (s .is)) in
+    let w = within-from _ _ _ (both-l _ _ (s .is)) in
     let p = both-r _ _ (s .is) in
     cases (eqb (varMode T (firstVar T b + s .at)) 2)
     (λ h. no-true (sym (ap (λ (c : Bool). pick c false (part T τ (varType T (firstVar T b + s .at)) (k - offsetOf T b (firstVar T b + s .at)))) h) ∙ p))
@@ -327,7 +315,7 @@ module _ (T : Table) (m : Memory) (small : Small m) (ruled : rule T m ≡ true) 
   unfolding owns
   owned p zero f τ k c e = no-true e
   owned p (suc d) f τ k c e =
-      either-true _ _ e
+      either-case _ _ e
       (λ h.
       let l = leb-true (f + 4) k (both-l _ _ h) in
       let b = in-block T (calledBlock m p f) τ (k - (f + 4)) (both-r _ _ h) in
@@ -339,7 +327,7 @@ module _ (T : Table) (m : Memory) (small : Small m) (ruled : rule T m ≡ true) 
   lives-bound : (p d f τ a : ℕ) → ((e : ℕ) → d ≡ suc e → Call T m p e f) → lives T m p d f τ a ≡ true → Bound T m τ a
   unfolding lives isCreated inRange
   lives-bound p d f τ a c e =
-      either-true _ _ e
+      either-case _ _ e
       (λ h.
       let g = both-l _ _ h in
       let b = in-block T (m (moduleAt (a / 256 + 1))) τ (a % 256) (both-r _ _ h) in

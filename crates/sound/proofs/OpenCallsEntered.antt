@@ -19,12 +19,13 @@ use Rattle.machine.specs.Layout.{location, linkAt, topAt, callerFrame, calledBl
 use Rattle.machine.specs.Variables.{firstWords, frameWords, offsetOf}
 use Rattle.machine.specs.Context.{Context, contextOf}
 use Rattle.machine.specs.Calls.{frame, pushed}
+use Rattle.machine.proofs.Memories.{store-at}
 use Rattle.verdict.specs.Accepted.{Accepted}
 use Rattle.sound.specs.Conditions.{Yields}
 use Rattle.sound.specs.Carried.{Passes, noMore, byValue, byVariable, Passed}
 use Rattle.sound.specs.OpenCalls.{variableAt, Gets, stores, binds, Enters}
 use Rattle.sound.proofs.StoresBlocks.{offset-is, first-up, variable-in, plain-words, bound-words}
-use Rattle.sound.proofs.StoresMemory.{location-add, store-at}
+use Rattle.sound.proofs.StoresMemory.{location-add}
 use Rattle.sound.proofs.StoresCalls.{frameOf, frame-length, frame-argument, frame-zero}
 use Rattle.sound.proofs.StoresStanding.{stand-area}
 use Rattle.sound.proofs.EvaluationArguments.{wordsFrom, words-first, Stands, stands-words, stands-front, stands-back}

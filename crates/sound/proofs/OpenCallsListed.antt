@@ -16,12 +16,12 @@ use Rattle.machine.specs.Layout.{recordAt, statusAt, frameAt, depthAt, createdA
 use Rattle.machine.specs.Calls.{standing}
 use Rattle.machine.specs.Run.{begin}
 use Rattle.machine.specs.Step.{inRange}
+use Rattle.machine.proofs.Tests.{range-low, range-high, range-i}
 use Rattle.sound.specs.InUse.{Created, Call, innermost, caller}
 use Rattle.sound.specs.Histories.{Seen, finally, Threaded, Every}
 use Rattle.sound.specs.OpenCalls.{OpenCall, callsFrom, openCalls, Among, CallsListed, callsAfter, callsMade, CallsKept}
 use Rattle.sound.proofs.HistoriesBegin.{begin-created}
 use Rattle.sound.proofs.HistoriesBindings.{Under, this, next, call-under, call-created, call-started}
-use Rattle.sound.proofs.Ruled.{range-low, range-high, range-i}
 
 -- ---- of a state
 

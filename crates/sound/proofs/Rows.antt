@@ -7,7 +7,7 @@ use native.Mathlib.Omega.{arith}
 use lib.Dec.{eqb}
 use borrow.Author.Tests.{eqb-true, eqb-false, eq-eqb, ne-eqb, leb-true, le-leb}
 use Rattle.basics.specs.Choice.{cases, either}
-use Rattle.basics.proofs.Bools.{no-true, both-l, both-r, both-i}
+use Rattle.basics.proofs.Bools.{no-true, both-l, both-r, both-i, either-l, either-r}
 use Rattle.table.specs.Table.{Table}
 use Rattle.machine.specs.Memory.{Memory, update}
 use Rattle.machine.specs.Layout.{statusAt, worksAt, holderAt, createdAt, failureAt}
@@ -20,15 +20,6 @@ use Rattle.sound.specs.InUse.{Created}
 use Rattle.sound.specs.Rows.{next, Ready, Waiting, unstarted, held, waiting, Ended, before, now, Absent, Failing, CarriedOut, Row, row0, row1, row2, row3, row16, Blocked, atGuards, Changes, failureMark, nothing, givesUp, endedBefore, endsNow, absent, carried, Answers, RowsHold, SameFailure}
 use Rattle.sound.proofs.RowsOutcomes.{g-need, Near, same, n-need, n-pick-true, n-pick-false, near-is}
 use Rattle.sound.proofs.RowsStatements.{Leaves, gives, keeps, Reports, went, waited, ended, failed, strays, reports, statement-near, carries-near, Gives, waits-near, ends-near}
-
-either-l : (a b : Bool) → a ≡ true → either a b ≡ true
-unfolding either
-either-l a b e = rw e
-
-either-r : (a b : Bool) → b ≡ true → either a b ≡ true
-unfolding either
-either-r true b e = refl
-either-r false b e = e
 
 either-none : (a b : Bool) → either a b ≡ false → (a ≡ false) × (b ≡ false)
 unfolding either

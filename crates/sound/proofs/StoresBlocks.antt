@@ -1,11 +1,10 @@
 -- Variables of a block lie one after the other, in the words of their block. Assumes nothing.
-use Prim.Native.Nat.{ℕ, zero, suc, _+_, _-_, _≤_, _<_}
-use mathlib.Core.Path.{_≡_, sym, ap, _∙_}
-use mathlib.Core.Bool.{Bool, true, false}
+use Prim.Native.Nat.{ℕ, _+_, _-_, _≤_, _<_}
+use mathlib.Core.Path.{_≡_}
+use mathlib.Core.Bool.{true}
 use native.Mathlib.Omega.{arith}
-use native.Mathlib.Nat.{not-suc-le-zero}
 use lib.Dec.{eqb, ltb}
-use borrow.Author.Tests.{eqb-true, eqb-false, leb-true, ltb-true, ltb-false, ne-eqb, le-leb, lt-ltb}
+use borrow.Author.Tests.{eqb-true, eqb-false, ltb-true, ltb-false, ne-eqb}
 use Rattle.basics.specs.Choice.{cases}
 use Rattle.basics.proofs.Bools.{no-true, both-l, both-r, both-i}
 use Rattle.table.specs.Table.{Table}
@@ -18,42 +17,11 @@ use Rattle.numbers.proofs.TypePromise.{var-type}
 use Rattle.typing.proofs.Promise.{module-param}
 use Rattle.machine.specs.Memory.{within}
 use Rattle.machine.specs.Variables.{varWords, firstWords, frameWords, offsetOf}
-use Rattle.machine.specs.Values.{someBelow, part, partOfVariable, partOfBlock}
+use Rattle.machine.specs.Values.{part, partOfVariable, partOfBlock}
+use Rattle.machine.proofs.Tests.{some-case, some-i}
+use Rattle.machine.proofs.Memories.{within-from, within-yes}
 use Rattle.verdict.specs.Accepted.{Accepted}
 use Rattle.sound.specs.Ruled.{PartOf}
-use Rattle.sound.proofs.Ruled.{either-l, either-r, either-case}
-
--- a test that holds somewhere
-pub some-in {ℓ} : {A : Type ℓ} (k : ℕ) (f : ℕ → Bool) → someBelow k f ≡ true → ((i : ℕ) → i < k → f i ≡ true → A) → A
-unfolding someBelow
-some-in zero f e g = no-true e
-some-in (suc k) f e g = either-case (f k) (someBelow k f) e (λ q. g k (omega arith) q) (λ q. some-in k f q (λ i l h. g i (omega arith) h))
-
-pub some-i : (k : ℕ) (f : ℕ → Bool) (i : ℕ) → i < k → f i ≡ true → someBelow k f ≡ true
-unfolding someBelow
-some-i zero f i l e = absurd (not-suc-le-zero l)
-some-i (suc k) f i l e =
-    cases (eqb i k)
-    (λ q. either-l _ _ (ap f (sym (eqb-true i k q)) ∙ e))
-    (λ q. either-r (f k) _ (some-i k f i (omega (arith, eqb-false i k q)) e))
-
-pub within-from : (a n j : ℕ) → within a n j ≡ true → a ≤ j
-unfolding within
-within-from a n j e = leb-true a j (both-l _ _ e)
-
-pub within-to : (a n j : ℕ) → within a n j ≡ true → j < a + n
-unfolding within
-within-to a n j e = ltb-true j (a + n) (both-r _ _ e)
-
-pub within-i : (a n j : ℕ) → a ≤ j → j < a + n → within a n j ≡ true
-unfolding within
-within-i a n j l h = both-i _ _ (le-leb a j l) (lt-ltb j (a + n) h)
-
-pub within-before : (a n j : ℕ) → j < a → within a n j ≡ false
-within-before a n j l = cases (within a n j) (λ e. let x = within-from a n j e in absurd (omega arith)) (λ e. e)
-
-pub within-after : (a n j : ℕ) → a + n ≤ j → within a n j ≡ false
-within-after a n j l = cases (within a n j) (λ e. let x = within-to a n j e in absurd (omega arith)) (λ e. e)
 
 module _ (T : Table) (b : ℕ) where
   -- variable i begins where the first i end
@@ -115,7 +83,7 @@ module _ (T : Table) (b τ k : ℕ) where
   pub part-of : partOfBlock T b τ k ≡ true → PartOf T b τ k
   unfolding partOfBlock partOfVariable
   part-of e =
-      some-in (vars T b) (λ i. partOfVariable T b τ k (firstVar T b + i)) e λ i l h.
+      some-case (vars T b) (λ i. partOfVariable T b τ k (firstVar T b + i)) e λ i l h.
       let w = both-l _ _ h in
       cases (eqb (varMode T (firstVar T b + i)) 2)
       (λ q. no-true (rw q at (both-r _ _ h)))
@@ -131,4 +99,4 @@ module _ (T : Table) (b τ k : ℕ) where
   unfolding partOfBlock partOfVariable
   part-of-i i g n l u e =
       some-i (vars T b) (λ i. partOfVariable T b τ k (firstVar T b + i)) i g
-      (both-i _ _ (within-i (offsetOf T b (firstVar T b + i)) (varWords T (firstVar T b + i)) k l u) (rw (ne-eqb (varMode T (firstVar T b + i)) 2 n) e))
+      (both-i _ _ (within-yes (offsetOf T b (firstVar T b + i)) (varWords T (firstVar T b + i)) k l u) (rw (ne-eqb (varMode T (firstVar T b + i)) 2 n) e))

@@ -20,11 +20,12 @@ use Rattle.machine.specs.Variables.{firstWords, frameWords, offsetOf}
 use Rattle.machine.specs.Values.{holds}
 use Rattle.machine.specs.Calls.{standing}
 use Rattle.machine.specs.Rule.{calls, lives}
+use Rattle.machine.proofs.Memories.{store-at}
 use Rattle.verdict.specs.Accepted.{Accepted}
 use Rattle.sound.specs.Claims.{PlaceLaws}
 use Rattle.sound.specs.Ruled.{Framed, Chained, bottom, called, Ruled, Carries, Fills}
 use Rattle.sound.proofs.StoresBlocks.{offset-is, first-more, first-up, variable-in, plain-words, bound-words, variable-type}
-use Rattle.sound.proofs.StoresMemory.{location-add, store-at, area-before, area-record}
+use Rattle.sound.proofs.StoresMemory.{location-add, area-before, area-record}
 use Rattle.sound.proofs.StoresChains.{Same, carries-keeps, chain-over, called-by, lives-part, owns-same, chain-same}
 use Rattle.sound.proofs.StoresProcesses.{process-keeps, variables-same}
 use Rattle.sound.proofs.StoresRule.{store-carries, store-ruled}

@@ -6,7 +6,7 @@ use native.Mathlib.Omega.{arith}
 use lib.Dec.{eqb, leb}
 use borrow.Author.Tests.{leb-true, le-leb}
 use Rattle.basics.specs.Choice.{both}
-use Rattle.basics.proofs.Bools.{no-true, both-l, both-r, both-i}
+use Rattle.basics.proofs.Bools.{no-true, both-l, both-r, both-i, either-l, either-r, either-case}
 use Rattle.table.specs.Table.{Table}
 use Rattle.table.specs.Entries.{varMode, varType, firstVar, vars}
 use Rattle.sizes.specs.Sizes.{wordsOf, moduleWords}
@@ -16,9 +16,9 @@ use Rattle.machine.specs.Variables.{offsetOf}
 use Rattle.machine.specs.Processes.{refers}
 use Rattle.machine.specs.Values.{holds, partOfBlock}
 use Rattle.machine.specs.Rule.{isCreated, owns, lives}
+use Rattle.machine.proofs.Tests.{range-low, range-high, range-i}
 use Rattle.sound.specs.Claims.{Keeps, PlaceLaws}
 use Rattle.sound.specs.Ruled.{Bottom, Framed, Chained, bottom, called, Carries}
-use Rattle.sound.proofs.Ruled.{either-l, either-r, either-case, range-low, range-high, range-i}
 use Rattle.sound.proofs.StoresBlocks.{variable-in, plain-words, bound-words}
 use Rattle.sound.proofs.StoresMemory.{location-add}
 

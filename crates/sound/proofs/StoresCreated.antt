@@ -17,12 +17,13 @@ use Rattle.machine.specs.Processes.{refers, created}
 use Rattle.machine.specs.Context.{blockOf}
 use Rattle.machine.specs.Values.{holds}
 use Rattle.machine.specs.Rule.{lives, liesIn, rule}
+use Rattle.machine.proofs.Memories.{update-at, update-other, store-below, store-above, store-at, clear-below, clear-above, clear-at}
 use Rattle.verdict.specs.Accepted.{Accepted}
 use Rattle.sound.specs.Claims.{IsValue, PlaceLaws, Started, Small}
 use Rattle.sound.specs.Ruled.{Process, Ruled, Carries}
 use Rattle.sound.proofs.Ruled.{ruled, rules}
 use Rattle.sound.proofs.StoresBlocks.{variable-in, variable-type, plain-words, module-plain, module-fits}
-use Rattle.sound.proofs.StoresMemory.{location-add, location-low, location-up, areas-apart, record-high, records-apart, words-apart, update-same, update-other, update-small, store-before, store-after, store-at, clear-before, clear-after, clear-in, clear-small}
+use Rattle.sound.proofs.StoresMemory.{location-add, location-low, location-up, areas-apart, record-high, records-apart, words-apart, update-small, clear-small}
 use Rattle.sound.proofs.StoresChains.{Same, created-low, created-high, lives-part, owns-same}
 use Rattle.sound.proofs.StoresProcesses.{chain-fits, base-fits, process-same}
 use Rattle.sound.proofs.StoresSteps.{area-block, assign-kept}
@@ -34,11 +35,11 @@ update-store m i v = λ k j. at j k
     at : (j : ℕ) → update m i v j ≡ store m i (v ∷ []) j
     at j =
         cases (eqb j i)
-        (λ e. let x = eqb-true j i e in let y : i + 0 ≡ j = omega arith in update-same m i v j x ∙ sym (rw y at (store-at m i (v ∷ []) 0 (omega arith))))
+        (λ e. let x = eqb-true j i e in let y : i + 0 ≡ j = omega arith in update-at m i v j x ∙ sym (rw y at (store-at m i (v ∷ []) 0 (omega arith))))
         (λ e. let x = eqb-false j i e in
         cases (ltb j i)
-        (λ f. update-other m i v j x ∙ sym (store-before m i (v ∷ []) j (ltb-true j i f)))
-        (λ f. let y = ltb-false j i f in update-other m i v j x ∙ sym (store-after m i (v ∷ []) j (omega arith))))
+        (λ f. update-other m i v j x ∙ sym (store-below m i (v ∷ []) j (ltb-true j i f)))
+        (λ f. let y = ltb-false j i f in update-other m i v j x ∙ sym (store-above m i (v ∷ []) j (omega arith))))
 
 record-order : (p q i : ℕ) → 1 ≤ p → i < 20 → p < q → recordAt p i < recordAt q 0
 unfolding recordAt
@@ -64,20 +65,20 @@ area-in p j l = (omega arith, omega arith)
 module _ (m : Memory) (n μ : ℕ) (two : 2 ≤ n) (most : n ≤ 64) where
   pub created-count : created m n μ createdAt ≡ n
   unfolding created
-  created-count = update-same _ createdAt n createdAt refl
+  created-count = update-at _ createdAt n createdAt refl
 
   pub created-module : created m n μ (moduleAt n) ≡ μ
   unfolding created
   created-module =
       update-other _ createdAt n (moduleAt n) (records-apart n 1 1 8 (omega arith) (omega arith) (omega arith) (omega arith) (λ z. omega arith))
-      ∙ update-same _ (moduleAt n) μ (moduleAt n) refl
+      ∙ update-at _ (moduleAt n) μ (moduleAt n) refl
 
   pub created-status : created m n μ (statusAt n) ≡ 1
   unfolding created
   created-status =
       update-other _ createdAt n (statusAt n) (records-apart n 1 0 8 (omega arith) (omega arith) (omega arith) (omega arith) (λ z. omega arith))
       ∙ update-other _ (moduleAt n) μ (statusAt n) (words-apart n 0 1 (λ z. omega arith))
-      ∙ update-same _ (statusAt n) 1 (statusAt n) refl
+      ∙ update-at _ (statusAt n) 1 (statusAt n) refl
 
   pub created-rest : (k : ℕ) → 2 ≤ k → k < 20 → created m n μ (recordAt n k) ≡ 0
   unfolding created
@@ -85,14 +86,14 @@ module _ (m : Memory) (n μ : ℕ) (two : 2 ≤ n) (most : n ≤ 64) where
       update-other _ createdAt n (recordAt n k) (records-apart n 1 k 8 (omega arith) (omega arith) h (omega arith) (λ z. omega arith))
       ∙ update-other _ (moduleAt n) μ (recordAt n k) (words-apart n k 1 (λ z. omega arith))
       ∙ update-other _ (statusAt n) 1 (recordAt n k) (words-apart n k 0 (λ z. omega arith))
-      ∙ clear-in _ (recordAt n 0) 20 (recordAt n k) (record-in n k h .0) (record-in n k h .1)
+      ∙ clear-at _ (recordAt n 0) 20 (recordAt n k) (record-in n k h .0) (record-in n k h .1)
 
   clear-record : (q k : ℕ) → 1 ≤ q → k < 20 → (q ≡ n → ⊥) → clear (clear m (location n 0) 256) (recordAt n 0) 20 (recordAt q k) ≡ m (recordAt q k)
   clear-record q k a l d =
       cases (ltb q n)
-      (λ e. clear-before _ (recordAt n 0) 20 (recordAt q k) (record-order q n k a l (ltb-true q n e)))
-      (λ e. let x = ltb-false q n e in clear-after _ (recordAt n 0) 20 (recordAt q k) (record-end q n k (omega arith) (omega arith)))
-      ∙ (let x = record-high q k in let y = area-end n (omega arith) most in clear-after m (location n 0) 256 (recordAt q k) (omega arith))
+      (λ e. clear-below _ (recordAt n 0) 20 (recordAt q k) (record-order q n k a l (ltb-true q n e)))
+      (λ e. let x = ltb-false q n e in clear-above _ (recordAt n 0) 20 (recordAt q k) (record-end q n k (omega arith) (omega arith)))
+      ∙ (let x = record-high q k in let y = area-end n (omega arith) most in clear-above m (location n 0) 256 (recordAt q k) (omega arith))
 
   pub created-record : (q k : ℕ) → 1 ≤ q → k < 20 → (k ≡ 8 → ⊥) → (q ≡ n → ⊥) → created m n μ (recordAt q k) ≡ m (recordAt q k)
   unfolding created
@@ -118,7 +119,7 @@ module _ (m : Memory) (n μ : ℕ) (two : 2 ≤ n) (most : n ≤ 64) where
       update-other _ createdAt n j (λ e. omega arith)
       ∙ update-other _ (moduleAt n) μ j (λ e. omega arith)
       ∙ update-other _ (statusAt n) 1 j (λ e. omega arith)
-      ∙ clear-before _ (recordAt n 0) 20 j (omega arith)
+      ∙ clear-below _ (recordAt n 0) 20 j (omega arith)
 
   area-low : (q j : ℕ) → 1 ≤ q → q ≤ 64 → j < 256 → location q j < 16384
   area-low q j a b l = let x = location-up q j 256 l in let y = location-low q 256 a b (omega arith) in omega arith
@@ -127,11 +128,11 @@ module _ (m : Memory) (n μ : ℕ) (two : 2 ≤ n) (most : n ≤ 64) where
   created-area q j a b l d =
       created-low-word (location q j) (area-low q j a b l)
       ∙ areas-apart q n j 0 256 a (omega arith) d l (omega arith)
-      (λ x. clear-before m (location n 0) 256 (location q j) x)
-      (λ x. clear-after m (location n 0) 256 (location q j) x)
+      (λ x. clear-below m (location n 0) 256 (location q j) x)
+      (λ x. clear-above m (location n 0) 256 (location q j) x)
 
   pub created-zero : (j : ℕ) → j < 256 → created m n μ (location n j) ≡ 0
-  created-zero j l = created-low-word (location n j) (area-low n j (omega arith) most l) ∙ clear-in m (location n 0) 256 (location n j) (area-in n j l .0) (area-in n j l .1)
+  created-zero j l = created-low-word (location n j) (area-low n j (omega arith) most l) ∙ clear-at m (location n 0) 256 (location n j) (area-in n j l .0) (area-in n j l .1)
 
   pub created-small : Small m → μ < 65536 → Small (created m n μ)
   unfolding created

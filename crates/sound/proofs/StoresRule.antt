@@ -8,7 +8,7 @@ use lib.ListN.{length}
 use lib.Dec.{eqb}
 use borrow.Author.Tests.{eqb-true, eqb-false}
 use Rattle.basics.specs.Choice.{cases, both}
-use Rattle.basics.proofs.Bools.{both-l, both-r}
+use Rattle.basics.proofs.Bools.{both-l, both-r, either-case}
 use Rattle.table.specs.Table.{Table}
 use Rattle.sizes.specs.Sizes.{moduleWords}
 use Rattle.machine.specs.Memory.{Memory, store}
@@ -18,7 +18,7 @@ use Rattle.machine.specs.Rule.{isCreated, owns, lives, rule}
 use Rattle.verdict.specs.Accepted.{Accepted}
 use Rattle.sound.specs.Claims.{IsValue, PlaceLaws, Started}
 use Rattle.sound.specs.Ruled.{Process, Ruled, Carries}
-use Rattle.sound.proofs.Ruled.{either-case, ruled, rules, block-there, block-kind}
+use Rattle.sound.proofs.Ruled.{ruled, rules, block-there, block-kind}
 use Rattle.sound.proofs.StoresBlocks.{part-of, module-plain, module-variables, module-fits}
 use Rattle.sound.proofs.StoresMemory.{location-of, area-before, area-after, area-other, area-record}
 use Rattle.sound.proofs.StoresChains.{created-low, created-high}

@@ -21,12 +21,13 @@ use Rattle.machine.specs.Calls.{standing}
 use Rattle.machine.specs.Context.{blockOf}
 use Rattle.machine.specs.Values.{holds}
 use Rattle.machine.specs.Rule.{liesIn, rule}
+use Rattle.machine.proofs.Memories.{update-at, store-at}
 use Rattle.verdict.specs.Accepted.{Accepted}
 use Rattle.sound.specs.Claims.{PlaceLaws, Started}
 use Rattle.sound.specs.Ruled.{Bottom, Chained, bottom, Process, Ruled, Carries, Fills}
 use Rattle.sound.proofs.Ruled.{ruled, rules, block-there, block-kind}
 use Rattle.sound.proofs.StoresBlocks.{offset-is, first-up, variable-in, plain-words, module-plain, module-fits}
-use Rattle.sound.proofs.StoresMemory.{location-add, update-same, store-at, area-after, area-other, area-record}
+use Rattle.sound.proofs.StoresMemory.{location-add, area-after, area-other, area-record}
 use Rattle.sound.proofs.StoresChains.{carries-keeps, created-low, created-high, value-same}
 use Rattle.sound.proofs.StoresProcesses.{process-by, process-keeps, variables-same, process-same, base-fits}
 use Rattle.sound.proofs.StoresRule.{store-carries, store-ruled}
@@ -140,10 +141,10 @@ module _ (T : Table) (good : Accepted T) (L : PlaceLaws T) (m : Memory) (h : Rul
   held-status : held (statusAt r) ≡ 2
   held-status =
       set-word (update passed (statusAt r) 2) r 6 r one (omega arith) (λ z. omega arith) (λ z. omega arith) 0 (λ z. omega arith)
-      ∙ update-same passed (statusAt r) 2 (statusAt r) refl
+      ∙ update-at passed (statusAt r) 2 (statusAt r) refl
 
   held-holder : held (holderAt r) ≡ r
-  held-holder = update-same (update passed (statusAt r) 2) (holderAt r) r (holderAt r) refl
+  held-holder = update-at (update passed (statusAt r) 2) (holderAt r) r (holderAt r) refl
 
   -- and stands at its first statement
   abbrev begun : Memory

@@ -8,7 +8,7 @@ use native.Mathlib.Nat.{zero-add}
 use lib.Dec.{eqb, leb, ltb}
 use borrow.Author.Tests.{eqb-true, eqb-false, leb-true, ltb-true, ltb-false}
 use Rattle.basics.specs.Choice.{cases, both, either}
-use Rattle.basics.proofs.Bools.{no-true, both-l, both-r}
+use Rattle.basics.proofs.Bools.{no-true, both-l, both-r, either-l, either-r, either-case}
 use Rattle.table.specs.Table.{Table}
 use Rattle.table.specs.Entries.{blockCount, varMode, varType, firstVar}
 use Rattle.sizes.specs.Sizes.{wordsOf, moduleWords}
@@ -20,7 +20,6 @@ use Rattle.machine.specs.Rule.{owns}
 use Rattle.verdict.specs.Accepted.{Accepted}
 use Rattle.sound.specs.Claims.{IsValue, PlaceLaws}
 use Rattle.sound.specs.Ruled.{Framed, Chained, bottom, called, PartOf, Carries}
-use Rattle.sound.proofs.Ruled.{either-l, either-r, either-case}
 use Rattle.sound.proofs.StoresBlocks.{variable-in, variables-apart, plain-words, bound-words, variable-type, part-of}
 use Rattle.sound.proofs.StoresMemory.{location-add, area-before, area-after}
 use Rattle.sound.proofs.StoresChains.{Same, carries-keeps, chain-over, called-by, owns-same, frame-new, value-same, chain-same}

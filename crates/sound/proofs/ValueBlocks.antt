@@ -19,12 +19,13 @@ use Rattle.machine.specs.Memory.{Memory}
 use Rattle.machine.specs.Entries.{recordType, arrayType, typeAt}
 use Rattle.machine.specs.Variables.{varWords, firstWords, frameWords, offsetOf}
 use Rattle.machine.specs.Values.{part, holds, partOfVariable, partOfBlock}
+use Rattle.machine.proofs.Tests.{some-i, some-case}
+use Rattle.machine.proofs.Memories.{within-yes}
 use Rattle.verdict.specs.Accepted.{Accepted}
 use Rattle.sound.specs.Claims.{Keeps}
-use Rattle.sound.proofs.ValueBools.{some-i, some-cases}
 use Rattle.sound.proofs.ValueTypes.{some-words}
 use Rattle.sound.proofs.Values.{holds-moved}
-use Rattle.sound.proofs.ValueParts.{within-true, within-i, to-Part, part-self, part-in, part-field, part-element, part-holds}
+use Rattle.sound.proofs.ValueParts.{within-true, to-Part, part-self, part-in, part-field, part-element, part-holds}
 use Rattle.sound.proofs.ValueStores.{Else, Part-stored}
 
 -- ---- where variables begin
@@ -75,7 +76,7 @@ pub record InBlock (T : Table) (b τ k : ℕ) : Type 0 where
 pub in-block : (T : Table) (b τ k : ℕ) → partOfBlock T b τ k ≡ true → InBlock T b τ k
 unfolding partOfBlock partOfVariable
 in-block T b τ k e =
-    some-cases (vars T b) _ e (λ i l h.
+    some-case (vars T b) _ e (λ i l h.
     let v = variable T b i in
     let w = within-true (offsetOf T b v) (varWords T v) k (both-l _ _ h) in
     let p = both-r _ _ h in
@@ -103,7 +104,7 @@ module _ (T : Table) (ok : Accepted T) (b : ℕ) (l : b < blockCount T) where
       let h = part-inside τ k p in
       let w = some-words T ok τ (h .0) in
       some-i (vars T b) _ (p .i) (p .there)
-      (both-i _ _ (within-i (offsetOf T b v) (varWords T v) k (p .from) (omega arith)) (rw (ne-eqb (varMode T v) 2 (p .mode)) (p .part)))
+      (both-i _ _ (within-yes (offsetOf T b v) (varWords T v) k (p .from) (omega arith)) (rw (ne-eqb (varMode T v) 2 (p .mode)) (p .part)))
 
   pub block-in : (τ k : ℕ) → partOfBlock T b τ k ≡ true → (τ < 3 + typeCount T) × (k + wordsOf T τ ≤ frameWords T b)
   block-in τ k e =

@@ -5,6 +5,7 @@ use native.Mathlib.Omega.{arith}
 use lib.Dec.{eqb}
 use borrow.Author.Tests.{eqb-true, eqb-false, ne-eqb}
 use Rattle.basics.specs.Choice.{pick, cases}
+use Rattle.basics.proofs.Courses.{strong}
 use Rattle.table.specs.Table.{Table}
 use Rattle.table.specs.Entries.{typeCount, blockCount, typeKind, typeP, typeQ, typeLow, typeHigh, fieldType, blockKind}
 use Rattle.types.specs.Match.{elements}
@@ -15,7 +16,6 @@ use Rattle.entries.proofs.Promise.{type-kind}
 use Rattle.numbers.proofs.TypePromise.{declared-from, record-some, field-lower, element-lower, process-module}
 use Rattle.machine.specs.Entries.{TypeEntry, integer, boolean, character, recordType, arrayType, processType, noType, typeAt}
 use Rattle.verdict.specs.Accepted.{Accepted}
-use Rattle.sound.proofs.ValueBools.{strong}
 
 -- the type of field i of record type τ
 abbrev pub fieldAt : Table → ℕ → ℕ → ℕ
