@@ -19,9 +19,10 @@ use Rattle.verdict.specs.Accepted.{Accepted}
 use Rattle.sound.specs.Claims.{PlaceLaws}
 use Rattle.sound.specs.Ruled.{Bottom, bottom, Process, Ruled}
 use Rattle.sound.proofs.Ruled.{rules}
-use Rattle.sound.proofs.StoresBlocks.{variable-in, plain-words, variable-type, module-plain, module-fits}
+use Rattle.sound.proofs.StoresBlocks.{module-plain, module-fits}
 use Rattle.sound.proofs.StoresMemory.{location-add, location-low, location-up, record-high, words-apart}
 use Rattle.sound.proofs.StoresStanding.{block-begins, stand-word, stand-depth, stand-works, stand-top, stand-frame, stand-statement, stand-area}
+use Rattle.sound.proofs.ValueBlocks.{variable-in, words-value, variable-type}
 
 -- the state before process 1 stands
 unfoldable empty : Memory
@@ -92,7 +93,7 @@ module _ (T : Table) (ok : Accepted T) where
         let there = program-there T (ok .numbers) in
         let k = program-kind T (ok .numbers) in
         let low : blockKind T 0 ≤ 1 = omega arith in
-        let w = plain-words T (firstVar T 0 + i) (module-plain T ok 0 there low i l) in
+        let w = words-value T (firstVar T 0 + i) (module-plain T ok 0 there low i l) in
         let v = variable-in T 0 i l in
         let f = module-fits T ok 0 there low in
         L .zero-holds first (varType T (firstVar T 0 + i)) (location 1 (offsetOf T 0 (firstVar T 0 + i))) (variable-type T ok 0 there i l)

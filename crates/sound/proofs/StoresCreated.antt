@@ -22,11 +22,12 @@ use Rattle.verdict.specs.Accepted.{Accepted}
 use Rattle.sound.specs.Claims.{IsValue, PlaceLaws, Started, Small}
 use Rattle.sound.specs.Ruled.{Process, Ruled, Carries}
 use Rattle.sound.proofs.Ruled.{ruled, rules}
-use Rattle.sound.proofs.StoresBlocks.{variable-in, variable-type, plain-words, module-plain, module-fits}
+use Rattle.sound.proofs.StoresBlocks.{module-plain, module-fits}
 use Rattle.sound.proofs.StoresMemory.{location-add, location-low, location-up, areas-apart, record-high, records-apart, words-apart, update-small, clear-small}
 use Rattle.sound.proofs.StoresChains.{Same, created-low, created-high, lives-part, owns-same}
 use Rattle.sound.proofs.StoresProcesses.{chain-fits, base-fits, process-same}
 use Rattle.sound.proofs.StoresSteps.{area-block, assign-kept}
+use Rattle.sound.proofs.ValueBlocks.{variable-in, words-value, variable-type}
 
 -- one word is stored as a list of one
 pub update-store : (m : Memory) (i v : ℕ) → update m i v ≡ store m i (v ∷ [])
@@ -165,7 +166,7 @@ module _ (T : Table) (good : Accepted T) (L : PlaceLaws T) (m : Memory) (h : Rul
       let k : blockKind T μ ≤ 1 = omega arith in
       let f = module-fits T good μ there k in
       let u = variable-in T μ i l in
-      let w = plain-words T (firstVar T μ + i) (module-plain T good μ there k i l) in
+      let w = words-value T (firstVar T μ + i) (module-plain T good μ there k i l) in
       L .zero-holds (created m next μ) (varType T (firstVar T μ + i)) (location next (offsetOf T μ (firstVar T μ + i))) (variable-type T good μ there i l)
       (λ j z. rw (location-add next (offsetOf T μ (firstVar T μ + i)) j) (created-zero m next μ two most (offsetOf T μ (firstVar T μ + i) + j) (omega arith)))
 
