@@ -7,6 +7,7 @@ pub mod Frames
 pub mod Damaged
 pub mod Tests
 pub mod Memories
+pub mod Entries
 pub mod Ends
 pub mod Failures
 pub mod Courses

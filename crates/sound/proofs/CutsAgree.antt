@@ -17,10 +17,11 @@ use Rattle.machine.specs.Step.{Step, done, step}
 use Rattle.machine.specs.Run.{Run, ran, onDone, before, run}
 use Rattle.machine.specs.Public.{called, finished, refusal, runLengths, runRefusal, runCall}
 use Rattle.machine.proofs.Calling.{run-refused, run-accepted, run-empty}
+use Rattle.machine.proofs.Memories.{length-bytes-at}
 use Rattle.sound.specs.Histories.{Seen, stateBytes, pageBytes, seen, trace, result, stateLeft, pageLeft, answersLeft, Ask, callOf, refused, stepsOf, writtenOf, history, written, stateAfter}
 use Rattle.sound.specs.Cuts.{Piece, endToEnd, oneEach, askOf, inTurn, pageAfter, AllReturn, CutAlike}
 use Rattle.sound.proofs.Histories.{Traced, state-memory, page-memory}
-use Rattle.sound.proofs.HistoriesBytes.{length-bytes, bytes-of}
+use Rattle.sound.proofs.HistoriesBytes.{bytes-of}
 use Rattle.sound.proofs.RefusalsHold.{open-traced, open-run}
 
 -- ---- a run over two schedules end to end
@@ -177,11 +178,11 @@ module _ (w : ℕ) (t : List ℕ) where
 
       state1-long : length state1 ≡ 35328
       unfolding state1 stateBytes bytesOf
-      state1-long = length-bytes (X .state) 0 17664
+      state1-long = length-bytes-at (X .state) 0 17664
 
       page1-long : length page1 ≡ 8192
       unfolding page1 pageBytes bytesOf
-      page1-long = length-bytes (X .devices) 0 4096
+      page1-long = length-bytes-at (X .devices) 0 4096
 
       zero-y : number state1 page1 y ≡ 0
       unfolding runRefusal runLengths refusal both

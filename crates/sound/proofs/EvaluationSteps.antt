@@ -28,6 +28,7 @@ use Rattle.machine.specs.Step.{settled, inRange, answers, proceeds, exists, tur
 use Rattle.machine.specs.Step as steps
 use Rattle.machine.specs.Rule.{liesIn, rule}
 use Rattle.machine.proofs.Tests.{range-low, range-high, range-i}
+use Rattle.machine.proofs.Entries.{at-process}
 use Rattle.verdict.specs.Accepted.{Accepted}
 use Rattle.sound.specs.Claims.{PlaceLaws, Started, Small, Listed, regular, failure, Sound}
 use Rattle.sound.specs.Ruled.{Ruled, Calling}
@@ -44,7 +45,6 @@ use Rattle.sound.proofs.StoresSteps.{assign-rule, enter-rule, wait-rule
 use Rattle.sound.proofs.StoresPushes.{local-call-rule, process-call-rule}
 use Rattle.sound.proofs.StoresCreated.{create-rule, created-small, created-refers}
 use Rattle.sound.proofs.StoresStarted.{start-rule}
-use Rattle.sound.proofs.ValueTypes.{at-process}
 use Rattle.sound.proofs.EvaluationTypes.{declared-small}
 use Rattle.sound.proofs.ValueWords.{reference-value}
 use Rattle.sound.proofs.ValueStores.{place-laws}

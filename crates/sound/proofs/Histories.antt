@@ -16,11 +16,12 @@ use Rattle.machine.specs.Step.{Step, done, step}
 use Rattle.machine.specs.Run.{Run, ran, onDone, before, run, begin}
 use Rattle.machine.specs.Rule.{rule}
 use Rattle.machine.specs.Public.{Called, called, refusal, finished, runLengths, beginRefusal, beginCall, runRefusal, runCall}
+use Rattle.machine.proofs.Memories.{bytes-memory, length-bytes-at}
 use Rattle.sound.specs.Claims.{Listed}
 use Rattle.sound.specs.Reached.{Reached, Page, StepLaws, BeginLaw}
 use Rattle.sound.specs.Histories.{Seen, stateBytes, pageBytes, seen, trace, asked, told, processes, answers, finally, Threaded, Seeing, devicesAfter, Every, begunResult, begunState, result, stateLeft, pageLeft, answersLeft, Ask, callOf, refused, stepsOf, orderOf, writtenOf, history, order, written, Served, Devices, Handed, stateAfter, Fits, Calls, begunWith}
 use Rattle.sound.proofs.HistoriesSized.{step-sized}
-use Rattle.sound.proofs.HistoriesBytes.{bytes-memory, memory-bytes, length-bytes, memory-small, memory-sized}
+use Rattle.sound.proofs.HistoriesBytes.{memory-small, memory-sized, memory-whole}
 
 -- the steps by themselves: what is told, from what is asked
 unfoldable pub feed : Table → List ℕ → List (ℕ × List ℕ) → List (ℕ × List ℕ × List ℕ)
@@ -45,11 +46,11 @@ feed-take T s (suc n) (x ∷ xs) =
 -- the bytes of a state that steps reach, and of a page
 pub state-memory : (T : Table) (m : Memory) → Reached T m → memoryOf (stateBytes m) ≡ m
 unfolding stateBytes
-state-memory T m h = bytes-memory m 17664 (h .words) (h .sized)
+state-memory T m h = memory-whole m 17664 (h .words) (h .sized)
 
 pub page-memory : (page : Memory) → Page page → memoryOf (pageBytes page) ≡ page
 unfolding pageBytes
-page-memory page h = bytes-memory page 4096 (h .words) (h .sized)
+page-memory page h = memory-whole page 4096 (h .words) (h .sized)
 
 -- a list of steps from state s that leaves state s', as the definitions say
 pub record Course (T : Table) (P : Seen → Type 0) (s s' : List ℕ) (es : List Seen) : Type 0 where
@@ -342,7 +343,7 @@ module _ (verdict : ℕ → List ℕ → ℕ) (w : ℕ) where
 
     page-handed : (x : Ask) → Bytes (x .page) → length (x .page) ≡ 8192 → pageBytes (memoryOf (x .page)) ≡ x .page
     unfolding pageBytes
-    page-handed x b e = memory-bytes 4096 (x .page) b e
+    page-handed x b e = bytes-memory 4096 (x .page) b e
 
     run-devices : (s : List ℕ) (x : Ask) (m : Memory) → s ≡ stateBytes m → Reached (tableOf w t) m → refused verdict w s x ≡ false → x .table ≡ t → Page (memoryOf (x .page))
         → pageBytes (memoryOf (x .page)) ≡ x .page → Devices verdict w s x
@@ -378,7 +379,7 @@ module _ (verdict : ℕ → List ℕ → ℕ) (w : ℕ) where
 
     state-long : (m : Memory) → length (stateBytes m) ≡ 35328
     unfolding stateBytes bytesOf
-    state-long m = length-bytes m 0 17664
+    state-long m = length-bytes-at m 0 17664
 
     zero-refusal : (s : List ℕ) (x : Ask) → At (tableOf w t) s → verdict w t ≡ 0 → x .table ≡ t → length (x .page) ≡ 8192 → length (x .schedule) ≤ length (x .answers)
         → runRefusal verdict w (x .table) s (x .page) (x .schedule) (x .answers) ≡ 0

@@ -92,6 +92,22 @@ module _ (m : Memory) where
 
 -- ---- a create: process n, which is none of those created, takes its record
 
+module _ (m : Memory) (n μ : ℕ) where
+  pub created-status : created m n μ (statusAt n) ≡ 1
+  unfolding created
+  created-status =
+      update-other _ _ n _ (unlike-words n 1 0 8 (omega arith))
+      ∙ update-other _ _ μ _ (unlike-words n n 0 1 (omega arith))
+      ∙ update-at _ _ 1 _ refl
+
+  pub created-module : created m n μ (moduleAt n) ≡ μ
+  unfolding created
+  created-module = update-other _ _ n _ (unlike-words n 1 1 8 (omega arith)) ∙ update-at _ _ μ _ refl
+
+  pub created-count : created m n μ createdAt ≡ n
+  unfolding created
+  created-count = update-at _ _ n _ refl
+
 module _ (m : Memory) (n μ i c p : ℕ) (over : m createdAt < n) (most : n ≤ 64) (area : i < 16384) where
   abbrev pub after : Memory
   after = update (update (created m n μ) i n) (statementAt p) c
@@ -102,26 +118,11 @@ module _ (m : Memory) (n μ i c p : ℕ) (over : m createdAt < n) (most : n ≤ 
       update-other _ _ c _ (unlike-words r p k 2 u)
       ∙ update-other _ i n _ (λ z. let a = record-high r k in omega arith)
 
-  new-status : created m n μ (statusAt n) ≡ 1
-  unfolding created
-  new-status =
-      update-other _ _ n _ (unlike-words n 1 0 8 (omega arith))
-      ∙ update-other _ _ μ _ (unlike-words n n 0 1 (omega arith))
-      ∙ update-at _ _ 1 _ refl
-
-  new-block : created m n μ (moduleAt n) ≡ μ
-  unfolding created
-  new-block = update-other _ _ n _ (unlike-words n 1 1 8 (omega arith)) ∙ update-at _ _ μ _ refl
-
-  new-count : created m n μ createdAt ≡ n
-  unfolding created
-  new-count = update-at _ _ n _ refl
-
   pub new-process : NewProcess after n μ i
   new-process = record {
-    last = record-after 1 8 (omega arith) ∙ new-count;
-    block = record-after n 1 (omega arith) ∙ new-block;
-    unstarted = record-after n 0 (omega arith) ∙ new-status;
+    last = record-after 1 8 (omega arith) ∙ created-count m n μ;
+    block = record-after n 1 (omega arith) ∙ created-module m n μ;
+    unstarted = record-after n 0 (omega arith) ∙ created-status m n μ;
     named = update-other _ _ c i (λ z. let a = record-high p 2 in omega arith) ∙ update-at _ i n i refl;
   }
 

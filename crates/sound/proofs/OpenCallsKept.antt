@@ -34,14 +34,14 @@ use Rattle.sound.specs.Carried.{Passed, Carries, Inside, nextArm, lastEn
 use Rattle.sound.specs.Rows.{next, Ready, CarriedOut, Changes, failureMark, nothing, givesUp, endedBefore, endsNow, absent, carried, SameFailure}
 use Rattle.sound.specs.Created.{NewProcess}
 use Rattle.sound.specs.OpenCalls.{OpenCall, callsFrom, openCalls, outer, callsBy, callsAfter, Enters, CallsKept}
-use Rattle.sound.proofs.Ruled.{procedure-there, block-there, block-kind}
+use Rattle.sound.proofs.Ruled.{procedure-there, block-there, block-kind, created-in, in-created}
 use Rattle.sound.proofs.RowsListed.{statement-listed}
 use Rattle.sound.proofs.HistoriesOperands.{place-fits, place-area, value-long}
 use Rattle.sound.proofs.HistoriesRecords.{location-end, unlike-words, new-process, record-after, old-record}
 use Rattle.sound.proofs.HistoriesSized.{room}
 use Rattle.sound.proofs.StoresBlocks.{module-fits}
 use Rattle.sound.proofs.StoresStanding.{stand-word, stand-depth, stand-frame}
-use Rattle.sound.proofs.OpenCallsListed.{created-in, in-created, not-created, open-started, open-none}
+use Rattle.sound.proofs.OpenCallsListed.{not-created, open-started, open-none}
 use Rattle.sound.proofs.OpenCallsEntered.{frame-long, entered-caller, entered-block, passed-short, call-enters}
 use Rattle.sound.proofs.OpenCallsRecords.{Alike, alike, alike-record, alike-own, alike-store, alike-standing, from-kept, words-calls, alike-calls, all-calls}
 

@@ -18,7 +18,8 @@ use Rattle.sound.specs.Bindings.{link, BindingsKept}
 use Rattle.sound.specs.OpenCalls.{callsFrom, openCalls}
 use Rattle.sound.proofs.HistoriesRecords.{unlike-words}
 use Rattle.sound.proofs.StoresMemory.{record-high, records-apart}
-use Rattle.sound.proofs.OpenCallsListed.{in-created, not-created, open-started, open-none}
+use Rattle.sound.proofs.OpenCallsListed.{not-created, open-started, open-none}
+use Rattle.sound.proofs.Ruled.{in-created}
 
 -- the record of process r says the same of its calls
 pub record Words (m s : Memory) (r : ℕ) : Type 0 where

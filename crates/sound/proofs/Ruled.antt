@@ -22,7 +22,15 @@ use Rattle.numbers.proofs.BlockPromise.{program-there, program-kind, owner-self
 use Rattle.machine.specs.Context.{blockOf, contextual}
 pub use Rattle.machine.proofs.Tests.{range-low, range-high, range-i}
 use Rattle.verdict.specs.Accepted.{Accepted}
+use Rattle.sound.specs.InUse.{Created}
 use Rattle.sound.specs.Ruled.{Bottom, Framed, Chained, bottom, called, Process, Ruled, Standing}
+
+module _ (m : Memory) (p : ℕ) where
+  pub created-in : Created m p → inRange 1 (m createdAt) p ≡ true
+  created-in c = range-i 1 (m createdAt) p (c .least) (c .most)
+
+  pub in-created : inRange 1 (m createdAt) p ≡ true → Created m p
+  in-created e = record { least = range-low 1 (m createdAt) p e; most = range-high 1 (m createdAt) p e }
 
 module _ (T : Table) where
   pub lies-from : (b c : ℕ) → liesIn T b c ≡ true → firstStmt T b ≤ c
@@ -45,7 +53,7 @@ module _ (T : Table) where
   unfolding isProcedure
   procedure-kind q e = eqb-true (blockKind T q) 2 (both-r _ _ e)
 
-  procedure-i : (q : ℕ) → q < blockCount T → blockKind T q ≡ 2 → isProcedure T q ≡ true
+  pub procedure-i : (q : ℕ) → q < blockCount T → blockKind T q ≡ 2 → isProcedure T q ≡ true
   unfolding isProcedure
   procedure-i q a b = both-i _ _ (lt-ltb q (blockCount T) a) (eq-eqb (blockKind T q) 2 b)
 

@@ -1,6 +1,6 @@
 -- THE RULE is kept where a process is created. Assumes nothing.
 use Prim.Native.Nat.{ℕ, _+_, _≤_, _<_}
-use mathlib.Core.Path.{_≡_, refl, sym, _∙_}
+use mathlib.Core.Path.{_≡_, sym, _∙_}
 use mathlib.Core.Bool.{true}
 use mathlib.Core.List.{[], _∷_}
 use native.Mathlib.Omega.{arith}
@@ -28,6 +28,7 @@ use Rattle.sound.proofs.StoresChains.{Same, created-low, created-high, 
 use Rattle.sound.proofs.StoresProcesses.{chain-fits, base-fits, process-same}
 use Rattle.sound.proofs.StoresSteps.{area-block, assign-kept}
 use Rattle.sound.proofs.ValueBlocks.{variable-in, words-value, variable-type}
+use Rattle.sound.proofs.HistoriesRecords.{created-count, created-module, created-status}
 
 -- one word is stored as a list of one
 pub update-store : (m : Memory) (i v : ℕ) → update m i v ≡ store m i (v ∷ [])
@@ -64,23 +65,6 @@ area-in p j l = (omega arith, omega arith)
 
 -- process n is created in m
 module _ (m : Memory) (n μ : ℕ) (two : 2 ≤ n) (most : n ≤ 64) where
-  pub created-count : created m n μ createdAt ≡ n
-  unfolding created
-  created-count = update-at _ createdAt n createdAt refl
-
-  pub created-module : created m n μ (moduleAt n) ≡ μ
-  unfolding created
-  created-module =
-      update-other _ createdAt n (moduleAt n) (records-apart n 1 1 8 (omega arith) (omega arith) (omega arith) (omega arith) (λ z. omega arith))
-      ∙ update-at _ (moduleAt n) μ (moduleAt n) refl
-
-  pub created-status : created m n μ (statusAt n) ≡ 1
-  unfolding created
-  created-status =
-      update-other _ createdAt n (statusAt n) (records-apart n 1 0 8 (omega arith) (omega arith) (omega arith) (omega arith) (λ z. omega arith))
-      ∙ update-other _ (moduleAt n) μ (statusAt n) (words-apart n 0 1 (λ z. omega arith))
-      ∙ update-at _ (statusAt n) 1 (statusAt n) refl
-
   pub created-rest : (k : ℕ) → 2 ≤ k → k < 20 → created m n μ (recordAt n k) ≡ 0
   unfolding created
   created-rest k l h =
@@ -143,7 +127,7 @@ module _ (m : Memory) (n μ : ℕ) (two : 2 ≤ n) (most : n ≤ 64) where
   pub created-refers : refers (created m n μ) μ n ≡ true
   unfolding refers
   created-refers =
-      both-i _ _ (both-i _ _ (le-leb 2 n two) (le-leb n (created m n μ createdAt) (let e = created-count in omega arith))) (eq-eqb (created m n μ (moduleAt n)) μ created-module)
+      both-i _ _ (both-i _ _ (le-leb 2 n two) (le-leb n (created m n μ createdAt) (let e = created-count m n μ in omega arith))) (eq-eqb (created m n μ (moduleAt n)) μ (created-module m n μ))
 
 module _ (T : Table) (good : Accepted T) (L : PlaceLaws T) (m : Memory) (h : Ruled T m) (μ : ℕ) (room : m createdAt < 64) (there : μ < blockCount T) (kind : blockKind T μ ≡ 1) where
   abbrev next : ℕ
@@ -157,7 +141,7 @@ module _ (T : Table) (good : Accepted T) (L : PlaceLaws T) (m : Memory) (h : Rul
 
   pub created-carries : Carries m (created m next μ)
   created-carries =
-      let e = created-count m next μ two most in
+      let e = created-count m next μ in
       record { grows = omega arith; modules = λ p a b. created-record m next μ two most p 1 a (omega arith) (λ z. omega arith) (λ z. omega arith) }
 
   -- its variables are 0
@@ -172,8 +156,8 @@ module _ (T : Table) (good : Accepted T) (L : PlaceLaws T) (m : Memory) (h : Rul
 
   new-process : Process T (created m next μ) next
   new-process =
-      let e0 = created-status m next μ two most in
-      let e1 = created-module m next μ two most in
+      let e0 = created-status m next μ in
+      let e1 = created-module m next μ in
       let e6 = created-rest m next μ two most 6 (omega arith) (omega arith) in
       let o = h .some in
       record {
@@ -191,7 +175,7 @@ module _ (T : Table) (good : Accepted T) (L : PlaceLaws T) (m : Memory) (h : Rul
   -- THE CREATION
   pub created-kept : Ruled T (created m next μ)
   created-kept =
-      let e8 = created-count m next μ two most in
+      let e8 = created-count m next μ in
       let e9 = created-record m next μ two most 1 9 (omega arith) (omega arith) (λ z. omega arith) (λ z. let o = h .some in omega arith) in
       record {
         some = omega arith;

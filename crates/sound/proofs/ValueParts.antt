@@ -20,8 +20,9 @@ use Rattle.machine.specs.Entries.{recordType, arrayType, typeAt}
 use Rattle.machine.specs.Values.{partIn, partAt, nowhere, part, holds}
 use Rattle.machine.proofs.Tests.{some-i, some-case}
 use Rattle.machine.proofs.Memories.{within-yes}
+use Rattle.machine.proofs.Entries.{at-integer, at-boolean, at-character, at-record, at-array, at-process}
 use Rattle.verdict.specs.Accepted.{Accepted}
-use Rattle.sound.proofs.ValueTypes.{fieldAt, at-integer, at-boolean, at-character, at-record, at-array, at-process, Form, is-integer, is-boolean, is-character, is-record, is-array, is-process, is-none, form, lower-field, lower-element, some-words, record-kind, array-kind}
+use Rattle.sound.proofs.ValueTypes.{fieldAt, Form, is-integer, is-boolean, is-character, is-record, is-array, is-process, is-none, form, lower-field, lower-element, some-words, record-kind, array-kind}
 use Rattle.sound.proofs.Values.{field-holds, element-holds}
 
 pub within-true : (a n j : ℕ) → within a n j ≡ true → (a ≤ j) × (j < a + n)

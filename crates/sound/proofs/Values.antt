@@ -19,9 +19,10 @@ use Rattle.machine.specs.Memory.{Memory}
 use Rattle.machine.specs.Entries.{processType, noType, typeAt}
 use Rattle.machine.specs.Processes.{refers}
 use Rattle.machine.specs.Values.{typeHolds, holdsAt, nowhere, holds}
+use Rattle.machine.proofs.Entries.{at-integer, at-boolean, at-character, at-record, at-array, at-process}
 use Rattle.verdict.specs.Accepted.{Accepted}
 use Rattle.sound.specs.Claims.{Keeps}
-use Rattle.sound.proofs.ValueTypes.{fieldAt, at-integer, at-boolean, at-character, at-record, at-array, at-process, Form, is-integer, is-boolean, is-character, is-record, is-array, is-process, is-none, form, words-process, lower-field, lower-element, some-kind}
+use Rattle.sound.proofs.ValueTypes.{fieldAt, Form, is-integer, is-boolean, is-character, is-record, is-array, is-process, is-none, form, words-process, lower-field, lower-element, some-kind}
 
 -- w is a reference of module μ, or empty
 unfoldable pub refersOrEmpty : Memory → ℕ → ℕ → Bool
