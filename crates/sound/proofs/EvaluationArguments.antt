@@ -173,10 +173,6 @@ module _ (T : Table) (m : Memory) (p : ℕ) where
 
 -- the parameters of block q: their words begin its frame
 module _ (T : Table) (acc : Accepted T) (m : Memory) (p q : ℕ) (there : q < blockCount T) (ws : List ℕ) (b : Bound T m p (params T q) (firstVar T q) ws) where
-  pub arguments-length : length ws ≡ firstWords T q (params T q)
-  unfolding firstWords
-  arguments-length = bound-length T m p (params T q) (firstVar T q) ws b
-
   pub arguments-fit : length ws ≤ frameWords T q
   unfolding frameWords firstWords
   arguments-fit =

@@ -2,19 +2,26 @@
 use Prim.Native.Nat.{ℕ, _+_, _≤_, _<_}
 use mathlib.Core.Path.{_≡_, refl, _∙_}
 use mathlib.Core.List.{List}
+use mathlib.Core.Bool.{true}
 use native.Mathlib.Omega.{arith}
 use lib.Dec.{eqb}
 use lib.ListN.{length}
-use borrow.Author.Tests.{eqb-true, eqb-false}
+use borrow.Author.Tests.{eqb-true, eqb-false, leb-true}
 use Rattle.basics.specs.Choice.{cases}
+use Rattle.basics.proofs.Bools.{both-l, both-r}
 use Rattle.machine.specs.Memory.{Memory, update, store}
 use Rattle.machine.specs.Layout.{location, recordAt, statusAt, moduleAt, statementAt, createdAt, failureAt}
 use Rattle.machine.specs.Calls.{standing}
-use Rattle.machine.specs.Processes.{created}
-use Rattle.machine.proofs.Memories.{update-at, update-other, store-above, clear-below, clear-above}
+use Rattle.machine.specs.Processes.{created, refers}
+use Rattle.machine.proofs.Memories.{update-at, update-other, clear-below, clear-above}
 use Rattle.sound.specs.InUse.{Created}
 use Rattle.sound.specs.Created.{NewProcess, ProcessesKept}
-use Rattle.sound.proofs.StoresMemory.{record-high}
+use Rattle.sound.proofs.StoresMemory.{record-high, store-record}
+
+-- a process that a reference names is one of 64
+pub refers-most : (m : Memory) → m createdAt ≤ 64 → (μ r : ℕ) → refers m μ r ≡ true → r ≤ 64
+unfolding refers
+refers-most m l μ r e = let h : r ≤ m createdAt = leb-true _ _ (both-r _ _ (both-l _ _ e)) in omega arith
 
 pub location-end : (p k n : ℕ) → p ≤ 64 → k + n ≤ 256 → location p k + n ≤ 16384
 unfolding location
@@ -75,14 +82,11 @@ module _ (m : Memory) where
 
     pub still-store : (a : ℕ) (ws : List ℕ) → a + length ws ≤ 16384 → Still m (store s a ws)
     still-store a ws l = record {
-      count = high 1 8 ∙ h .count;
-      block = λ r. high r 1 ∙ h .block r;
-      status = λ r. rw (high r 0) (h .status r);
-      mark = high 1 9 ∙ h .mark;
+      count = store-record s a ws l 1 8 ∙ h .count;
+      block = λ r. store-record s a ws l r 1 ∙ h .block r;
+      status = λ r. rw (store-record s a ws l r 0) (h .status r);
+      mark = store-record s a ws l 1 9 ∙ h .mark;
     }
-      where
-        high : (r k : ℕ) → store s a ws (recordAt r k) ≡ s (recordAt r k)
-        high r k = let z = record-high r k in store-above s a ws (recordAt r k) (omega arith)
 
   pub still-standing : (s : Memory) (q c f t w d : ℕ) → Still m s → Still m (standing s q c f t w d)
   unfolding standing

@@ -20,7 +20,7 @@ use Rattle.machine.specs.Context.{Context, contextOf}
 use Rattle.machine.specs.Variables.{frameWords, fits}
 use Rattle.machine.specs.Operands.{operand}
 use Rattle.machine.specs.Calls.{standing, arguments, frame, topAfter, pushed, call, popped}
-use Rattle.machine.specs.Processes.{onProcess, onReference, refers, created, started}
+use Rattle.machine.specs.Processes.{onProcess, onReference, created, started}
 use Rattle.machine.specs.Statements.{Effect, effect, goTo, goOn, wait, moved, doLocalCall, free, doProcessCall, doStart, perform}
 use Rattle.machine.specs.Step.{done, settled, inRange, answers, performs, proceeds, exists, turn, step}
 use Rattle.machine.specs.Run.{begin}
@@ -31,6 +31,7 @@ use Rattle.sound.specs.Reached.{Sized, Kept}
 use Rattle.sound.proofs.RowsOutcomes.{g-test, g-then, g-need, g-where, g-pick, g-place, g-module}
 use Rattle.sound.proofs.RowsStatements.{gives, keeps, Reports, went, waited, ended, failed, strays, reports}
 use Rattle.sound.proofs.HistoriesOperands.{matching-words, device-word, place-fits, value-long}
+use Rattle.sound.proofs.HistoriesRecords.{refers-most}
 
 -- ---- writes
 
@@ -126,10 +127,6 @@ module _ (T : Table) (m page : Memory) (x : Context) (hm : Sized 17664 m) (hp : 
   unfolding doLocalCall
   local-in q c d = g-need Inside none _ _ (g-then Inside none (arguments T m page x q c d) _ (λ f e. fails) (λ ws e. moved-in _ (within-call m q (x .works) ws hm)))
 
-  refers-in : (μ r : ℕ) → refers m μ r ≡ true → r ≤ 64
-  unfolding refers
-  refers-in μ r e = let h : r ≤ m createdAt = leb-true _ _ (both-r _ _ (both-l _ _ e)) in omega arith
-
   process-in : (a q c d : ℕ) → Inside (doProcessCall T m page x a q c d)
   unfolding doProcessCall onProcess onReference wait
   process-in a q c d =
@@ -138,7 +135,7 @@ module _ (T : Table) (m page : Memory) (x : Context) (hm : Sized 17664 m) (hp : 
       (g-where Inside none _ 19 _ (λ z. fails) (λ z. g-test Inside none _ _ (λ r.
       cases (free m (m i))
       (λ k. rw k (g-then Inside none (arguments T m page x q c d) _ (λ f u. fails)
-      (λ ws u. moved-in _ (within-call _ q (m i) ws (record-sized m hm (m i) (refers-in μ (m i) r) 6 _ (omega arith))))))
+      (λ ws u. moved-in _ (within-call _ q (m i) ws (record-sized m hm (m i) (refers-most m lc μ (m i) r) 6 _ (omega arith))))))
       (λ k. rw k (inside hm hp)))))))
 
   created-in : (n μ : ℕ) → n ≤ 64 → Sized 17664 (created m n μ)
@@ -165,7 +162,7 @@ module _ (T : Table) (m page : Memory) (x : Context) (hm : Sized 17664 m) (hp : 
       (λ i τ e. g-module Inside none (typeAt T τ) _ (λ μ t.
       g-where Inside none _ 19 _ (λ z. fails) (λ z. g-test Inside none _ _ (λ r.
       g-where Inside none _ 20 _ (λ u. fails) (λ u. g-then Inside none (arguments T m page x μ c d) _ (λ f k. fails)
-      (λ ws k. g-test Inside none _ _ (λ w. inside (goes-in _ _ (started-in (m i) μ ws (refers-in μ (m i) r) (leb-true _ _ w))) hp)))))))
+      (λ ws k. g-test Inside none _ _ (λ w. inside (goes-in _ _ (started-in (m i) μ ws (refers-most m lc μ (m i) r) (leb-true _ _ w))) hp)))))))
 
   is-inside : (o u : Outcome Effect) → Inside o → o ≡ u → Inside u
   is-inside o u h e = rw e at h

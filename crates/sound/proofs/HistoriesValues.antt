@@ -3,7 +3,7 @@ use Prim.Native.Nat.{ℕ, zero, suc, _+_, _-_, _*_, _/_, _%_, _<_}
 use mathlib.Core.Path.{_≡_, refl, sym, ap, _∙_}
 use mathlib.Core.Bool.{Bool, true}
 use native.Mathlib.Omega.{arith}
-use native.Mathlib.Nat.{add-zero, not-suc-le-zero, div-add-mod'}
+use native.Mathlib.Nat.{add-zero, not-suc-le-zero}
 use lib.Dec.{eqb, ltb}
 use borrow.Author.Tests.{eqb-true, leb-true, ltb-true, eq-eqb, ne-eqb}
 use Rattle.basics.specs.Choice.{pick, cases, either}
@@ -11,7 +11,7 @@ use Rattle.basics.specs.Course.{upto, course}
 use Rattle.basics.proofs.Bools.{both-l, both-r, no-true, all-at, either-case}
 use Rattle.basics.proofs.Courses.{upto-is}
 use Rattle.table.specs.Table.{Table}
-use Rattle.table.specs.Entries.{fieldType, varMode, varType, firstVar, vars}
+use Rattle.table.specs.Entries.{fieldType, varMode, varType, firstVar, vars, typeP, typeQ, typeLow, typeHigh}
 use Rattle.types.specs.Match.{elements}
 use Rattle.sizes.specs.Sizes.{wordsOf, offsetIn}
 use Rattle.words.specs.Types.{inType}
@@ -22,14 +22,14 @@ use Rattle.machine.specs.Entries.{TypeEntry, integer, boolean, character, recor
 use Rattle.machine.specs.Variables.{offsetOf}
 use Rattle.machine.specs.Processes.{refers}
 use Rattle.machine.specs.Step.{inRange}
-use Rattle.machine.specs.Values.{typeHolds, holdsAt, nowhere, holds, partIn, partAt, part}
+use Rattle.machine.specs.Values.{typeHolds, holdsAt, nowhere, holds, part}
 use Rattle.machine.specs.Rule.{isCreated, owns, lives, moduleHolds, modulesHold, frameHolds, framesHold, chain, startedOk, processOk, rule}
-use Rattle.machine.proofs.Memories.{within-from, location-plus}
-use Rattle.machine.proofs.Entries.{type-integer, type-boolean, type-character, standard-record, standard-array}
-use Rattle.machine.proofs.Tests.{some-case}
+use Rattle.machine.proofs.Memories.{location-plus}
+use Rattle.machine.proofs.Entries.{type-integer, type-boolean, type-character, standard-record, standard-array, at-record, at-array}
 use Rattle.sound.specs.Claims.{Small}
 use Rattle.sound.specs.InUse.{Created, Reference, empty, names, HoldsValue, simple, reference, eachField, eachElement, Part, itself, ofField, ofElement, Call, innermost, caller, Of, moduleVariable, callVariable, InUse, ofModule, ofCall, Bound, ValuesHold}
 use Rattle.sound.proofs.ValueBlocks.{variable, InBlock, in-block}
+use Rattle.sound.proofs.ValueParts as parts
 
 -- ---- tests
 
@@ -44,39 +44,16 @@ lower F τ σ b e =
     at : {g : ℕ → Bool} → pick (ltb σ τ) (course nowhere F σ) nowhere ≡ g → upto nowhere F τ σ b ≡ g b
     at h = ap (λ (g : ℕ → Bool). g b) (upto-is nowhere F τ σ ∙ h)
 
--- ---- types
+-- ---- parts
 
-module _ (T : Table) where
-  -- ---- parts
-  part-entry : (τ σ : ℕ) (E : TypeEntry) (k : ℕ) → typeAt T σ ≡ E
-      → ((ρ j : ℕ) → ρ < σ → part T τ ρ j ≡ true → Part T τ ρ j)
-      → partIn T σ (upto nowhere (partAt T τ) σ) E k ≡ true → Part T τ σ k
-  unfolding partIn part
-  part-entry τ σ integer k t f e = no-true e
-  part-entry τ σ boolean k t f e = no-true e
-  part-entry τ σ character k t f e = no-true e
-  part-entry τ σ (recordType first count) k t f e =
-      some-case count _ e λ i g h.
-      let l = lower (partAt T τ) σ _ _ (both-r _ _ h) in
-      let w = within-from (offsetIn T σ i) _ _ (both-l _ _ h) in
-      let z : k ≡ offsetIn T σ i + (k - offsetIn T σ i) = omega arith in
-      ofField first count i (k - offsetIn T σ i) t g z (f _ _ (l .0) (l .1))
-  part-entry τ σ (arrayType ι ρ low high) k t f e =
-      let l = lower (partAt T τ) σ _ _ (both-r _ _ e) in
-      ofElement ι ρ low high (k / wordsOf T ρ) (k % wordsOf T ρ) t (ltb-true _ _ (both-l _ _ e)) (sym (div-add-mod' k (wordsOf T ρ))) (f _ _ (l .0) (l .1))
-  part-entry τ σ (processType μ) k t f e = no-true e
-  part-entry τ σ noType k t f e = no-true e
+module _ (T : Table) (τ : ℕ) where
+  by-part : {σ k : ℕ} → parts.Part T τ σ k → Part T τ σ k
+  by-part parts.whole = itself refl refl
+  by-part (parts.in-field σ i k e l p) = ofField (typeP T σ) (typeQ T σ) i k (at-record T σ e) l refl (by-part p)
+  by-part (parts.in-element σ i k e l p) = ofElement (typeP T σ) (typeQ T σ) (typeLow T σ) (typeHigh T σ) i k (at-array T σ e) l refl (by-part p)
 
-  part-upto : (τ n σ k : ℕ) → σ < n → part T τ σ k ≡ true → Part T τ σ k
-  unfolding part partAt course
-  part-upto τ zero σ k h e = absurd (not-suc-le-zero h)
-  part-upto τ (suc n) σ k h e =
-      either-case _ _ e
-      (λ b. itself (sym (eqb-true σ τ (both-l _ _ b))) (eqb-true k 0 (both-r _ _ b)))
-      (λ b. part-entry τ σ (typeAt T σ) k refl (λ ρ j l p. part-upto τ n ρ j (omega arith) p) b)
-
-  pub part-of : (τ σ k : ℕ) → part T τ σ k ≡ true → Part T τ σ k
-  part-of τ σ k e = part-upto τ (suc σ) σ k (omega arith) e
+pub part-of : (T : Table) (τ σ k : ℕ) → part T τ σ k ≡ true → Part T τ σ k
+part-of T τ σ k e = by-part T τ (parts.to-Part T τ σ k e)
 
 module _ (T : Table) (m : Memory) where
   -- ---- values

@@ -65,6 +65,10 @@ pub record-high : (p k : ℕ) → 16384 ≤ recordAt p k
 unfolding recordAt
 record-high p k = omega arith
 
+-- what is stored in areas leaves the records
+pub store-record : (m : Memory) (a : ℕ) (ws : List ℕ) → a + length ws ≤ 16384 → (r k : ℕ) → store m a ws (recordAt r k) ≡ m (recordAt r k)
+store-record m a ws l r k = let z = record-high r k in store-above m a ws (recordAt r k) (omega arith)
+
 -- words of records are apart
 pub records-apart : (p q i k : ℕ) → 1 ≤ p → 1 ≤ q → i < 20 → k < 20 → (p ≡ q → ⊥) → recordAt p i ≡ recordAt q k → ⊥
 unfolding recordAt
@@ -94,7 +98,6 @@ module _ (m : Memory) (p k : ℕ) (ws : List ℕ) where
 
   pub area-record : (q i : ℕ) → 1 ≤ p → p ≤ 64 → k + length ws ≤ 256 → store m (location p k) ws (recordAt q i) ≡ m (recordAt q i)
   area-record q i u v h =
-      let x = record-high q i in
       let y = location-low p (k + length ws) u v h in
       let z = location-add p k (length ws) in
-      store-above m (location p k) ws (recordAt q i) (omega arith)
+      store-record m (location p k) ws (omega arith) q i

@@ -13,9 +13,8 @@ use Rattle.basics.proofs.Bools.{no-true}
 use Rattle.table.specs.Table.{Table}
 use Rattle.table.specs.Entries.{typeCount, typeKind, typeQ}
 use Rattle.types.specs.Match.{elements, isString, matches}
-use Rattle.sizes.specs.Sizes.{wordsOf, partWords, fieldsWords, offsetIn}
-use Rattle.sizes.proofs.Sums.{sum-up}
-use Rattle.sizes.proofs.Counting.{words-array, part-lower, offset-more}
+use Rattle.sizes.specs.Sizes.{wordsOf, offsetIn}
+use Rattle.sizes.proofs.Counting.{words-array, part-lower, offset-more, offset-up}
 use Rattle.numbers.proofs.TypePromise.{declared-from}
 use Rattle.machine.specs.Memory.{Memory, store, wordsAt}
 use Rattle.machine.specs.Values.{part, holds}
@@ -51,10 +50,6 @@ pub record Else (w p : ℕ) (m n : Memory) : Type 0 where
 pub store-else : (m : Memory) (a w : ℕ) (ws : List ℕ) → length ws ≡ w → Else w a m (store m a ws)
 store-else m a w ws e =
     record { below = λ j d. store-below m a ws j d; above = λ j d. store-above m a ws j (omega arith) }
-
-offset-up : (T : Table) (τ i k : ℕ) → i ≤ k → offsetIn T τ i ≤ offsetIn T τ k
-unfolding offsetIn fieldsWords
-offset-up T τ i k l = sum-up (λ n. partWords T τ (fieldAt T τ n)) i k l
 
 -- a field ends where the next begins, or before
 pub field-apart : (T : Table) (τ i k : ℕ) → fieldAt T τ i < τ → i < k → offsetIn T τ i + wordsOf T (fieldAt T τ i) ≤ offsetIn T τ k
