@@ -1,4 +1,4 @@
--- Laws of choices, conjunction and `allBelow`. Assumes nothing.
+-- Laws of choices, conjunction, disjunction and `allBelow`. Assumes nothing.
 use mathlib.Core.Path.{_≡_, refl, sym, ap, _∙_, subst}
 use mathlib.Core.Bool.{Bool, true, false}
 use Prim.Native.Nat.{ℕ, zero, suc, _<_, _≤_}
@@ -6,7 +6,7 @@ use native.Mathlib.Omega.{arith}
 use native.Mathlib.Nat.{not-suc-le-zero}
 use lib.Dec.{T, eqb}
 use borrow.Author.Tests.{eqb-true, eqb-false, leb-true}
-use Rattle.basics.specs.Choice.{pick, cases, both, between, allBelow}
+use Rattle.basics.specs.Choice.{pick, cases, both, either, between, allBelow}
 
 pub no-true {ℓ} : {A : Type ℓ} → false ≡ true → A
 no-true e = absurd (subst T (sym e) tt)
@@ -34,6 +34,20 @@ unfolding both
 both-false-r true b p = p
 both-false-r false b p = refl
 
+pub either-l : (a b : Bool) → a ≡ true → either a b ≡ true
+unfolding either
+either-l a b e = rw e
+
+pub either-r : (a b : Bool) → b ≡ true → either a b ≡ true
+unfolding either
+either-r true b e = refl
+either-r false b e = e
+
+pub either-case {ℓ} : {A : Type ℓ} (a b : Bool) → either a b ≡ true → (a ≡ true → A) → (b ≡ true → A) → A
+unfolding either
+either-case true b e f g = f refl
+either-case false b e f g = g e
+
 pub between-true : (a b x : ℕ) → between a b x ≡ true → (a ≤ x) × (x ≤ b)
 unfolding between
 between-true a b x e = (leb-true a x (both-l _ _ e), leb-true x b (both-r _ _ e))
@@ -45,6 +59,11 @@ all-at (suc k) f e i h =
     cases (eqb i k)
     (λ q. ap f (eqb-true i k q) ∙ both-l (f k) (allBelow k f) e)
     (λ q. all-at k f (both-r (f k) (allBelow k f) e) i (omega (arith, eqb-false i k q)))
+
+pub all-i : (k : ℕ) (f : ℕ → Bool) → ((i : ℕ) → i < k → f i ≡ true) → allBelow k f ≡ true
+unfolding allBelow
+all-i zero f h = refl
+all-i (suc k) f h = both-i (f k) (allBelow k f) (h k (omega arith)) (all-i k f (λ i l. h i (omega arith)))
 
 pub all-fail : (k : ℕ) (f : ℕ → Bool) (i : ℕ) → i < k → f i ≡ false → allBelow k f ≡ false
 all-fail k f i h e = cases (allBelow k f) (λ q. no-true (sym e ∙ all-at k f q i h)) (λ q. q)

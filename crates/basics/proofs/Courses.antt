@@ -1,8 +1,9 @@
--- The law of recursion on all smaller numbers. Assumes nothing.
+-- The law of recursion on all smaller numbers, and of induction on them. Assumes nothing.
 use Prim.Native.Nat.{ℕ, zero, suc, _<_, _≤_}
 use mathlib.Core.Bool.{Bool, true, false}
 use mathlib.Core.Path.{_≡_, refl, ap, _∙_}
 use native.Mathlib.Omega.{arith}
+use native.Mathlib.Nat.{not-suc-le-zero}
 use lib.Dec.{ltb, eqb}
 use borrow.Author.Tests.{lt-ltb, le-ltb, ltb-true, ltb-false, eqb-true, eqb-false}
 use Rattle.basics.specs.Choice.{pick}
@@ -28,3 +29,12 @@ module _ {A : Type 0} (d : A) (F : ℕ → (ℕ → A) → A) where
   pub course-is : (n : ℕ) → course d F n ≡ F n (λ p. pick (ltb p n) (course d F p) d)
   unfolding course
   course-is n = ap (F n) (λ i p. upto-is n p i)
+
+-- a number below which P always holds has P: so every number has it
+module _ (P : ℕ → Type 0) (step : (n : ℕ) → ((k : ℕ) → k < n → P k) → P n) where
+  all-lower : (n k : ℕ) → k < n → P k
+  all-lower zero k l = absurd (not-suc-le-zero l)
+  all-lower (suc n) k l = step k (λ j g. all-lower n j (omega arith))
+
+  pub strong : (n : ℕ) → P n
+  strong n = step n (all-lower n)

@@ -11,16 +11,16 @@ use Rattle.machine.specs.Public.{begun, called, beginCall, runCall}
 use Rattle.sound.specs.Histories.{Seen, asked, told, processes, answers, finally, devicesAfter, Ask, stepsOf, History, first, steps}
 use Rattle.sound.specs.Demand.{Demand3}
 
--- ---- what the contracts say
+-- ---- what the contracts say, in the edition of width w
 
 -- joyce_begin, lent table and state: it returns r and leaves after
-abbrev pub BeginLeaves : (table state : List ℕ) (r : ℕ) (after : List ℕ) → Type 0
-BeginLeaves table state r after = begun r after ≡ beginCall (verdict 1) table state
+abbrev pub BeginLeaves : (w : ℕ) (table state : List ℕ) (r : ℕ) (after : List ℕ) → Type 0
+BeginLeaves w table state r after = begun r after ≡ beginCall verdict w table state
 
 -- joyce_run, lent five slices: it returns r and leaves the state, the page and the answers after
-abbrev pub RunLeaves : (table state page schedule answers : List ℕ) (r : ℕ) (stateAfter pageAfter answersAfter : List ℕ) → Type 0
-RunLeaves table state page schedule answers r stateAfter pageAfter answersAfter =
-    called r stateAfter pageAfter answersAfter ≡ runCall (verdict 1) table state page schedule answers
+abbrev pub RunLeaves : (w : ℕ) (table state page schedule answers : List ℕ) (r : ℕ) (stateAfter pageAfter answersAfter : List ℕ) → Type 0
+RunLeaves w table state page schedule answers r stateAfter pageAfter answersAfter =
+    called r stateAfter pageAfter answersAfter ≡ runCall verdict w table state page schedule answers
 
 -- ---- logs
 
@@ -34,14 +34,14 @@ pub record Call : Type 0 where
   pub answersAfter : List ℕ
 
 -- it is lent state s, and keeps the contract
-pub record Kept (s : List ℕ) (c : Call) : Type 0 where
+pub record Kept (w : ℕ) (s : List ℕ) (c : Call) : Type 0 where
   pub state : c .state ≡ s
-  pub contract : RunLeaves (c .ask .table) (c .state) (c .ask .page) (c .ask .schedule) (c .ask .answers) (c .result) (c .stateAfter) (c .pageAfter) (c .answersAfter)
+  pub contract : RunLeaves w (c .ask .table) (c .state) (c .ask .page) (c .ask .schedule) (c .ask .answers) (c .result) (c .stateAfter) (c .pageAfter) (c .answersAfter)
 
 -- each call is lent the state that the last one left, the first s
-unfoldable pub Chained : List ℕ → List Call → Type 0
-Chained s [] = Unit
-Chained s (c ∷ cs) = Kept s c × Chained (c .stateAfter) cs
+unfoldable pub Chained : ℕ → List ℕ → List Call → Type 0
+Chained w s [] = Unit
+Chained w s (c ∷ cs) = Kept w s c × Chained w (c .stateAfter) cs
 
 -- P holds of each call
 unfoldable pub Each : (Call → Type 0) → List Call → Type 0
@@ -55,14 +55,14 @@ pub record Fits (t : List ℕ) (c : Call) : Type 0 where
 
 -- A LOG: joyce_begin, which returned 0, with its table, the slice lent to it and the state in it afterwards; then any calls of joyce_run,
 -- refused ones among them
-pub record Log : Type 0 where
+pub record Log (w : ℕ) : Type 0 where
   pub table : List ℕ
   pub slice : List ℕ
   pub state : List ℕ
   pub calls : List Call
   pub bytes : Bytes table
-  pub begins : BeginLeaves table slice 0 state
-  pub chained : Chained state calls
+  pub begins : BeginLeaves w table slice 0 state
+  pub chained : Chained w state calls
   pub fits : Each (Fits table) calls
 
 -- ---- what is read off the calls of a log
@@ -88,41 +88,41 @@ leaves s [] = s
 leaves s (c ∷ cs) = leaves (c .stateAfter) cs
 
 -- the steps that they made
-abbrev pub stepsMade : Call → List Seen
-stepsMade c = stepsOf (verdict 1) (c .state) (c .ask)
+abbrev pub stepsMade : ℕ → Call → List Seen
+stepsMade w c = stepsOf verdict w (c .state) (c .ask)
 
-unfoldable pub made : List Call → List Seen
-made [] = []
-made (c ∷ cs) = stepsMade c ++ made cs
+unfoldable pub made : ℕ → List Call → List Seen
+made w [] = []
+made w (c ∷ cs) = stepsMade w c ++ made w cs
 
 -- ---- WHAT HOLDS of a log
 
 -- of a call in a log that began with table t
-pub record CallHolds (t : List ℕ) (c : Call) : Type 0 where
+pub record CallHolds (w : ℕ) (t : List ℕ) (c : Call) : Type 0 where
   -- it left the state and the device words of its last step; those that it was lent where it made none
-  pub state : c .stateAfter ≡ finally (c .state) (stepsMade c)
-  pub page : c .pageAfter ≡ devicesAfter (c .ask .page) (stepsMade c)
+  pub state : c .stateAfter ≡ finally (c .state) (stepsMade w c)
+  pub page : c .pageAfter ≡ devicesAfter (c .ask .page) (stepsMade w c)
   -- with begin's table and right lengths it returned 0
   pub served : c .ask .table ≡ t → length (c .ask .page) ≡ 8192 → length (c .ask .schedule) ≤ length (c .ask .answers) → c .result ≡ 0
   -- where it returned another number, each slice is as it was
   pub unchanged : (c .result ≡ 0 → ⊥) → (c .stateAfter ≡ c .state) × ((c .pageAfter ≡ c .ask .page) × (c .answersAfter ≡ c .ask .answers))
 
-pub record LogHolds (g : Log) : Type 0 where
+pub record LogHolds (w : ℕ) (g : Log w) : Type 0 where
   -- it is a run of demand 3, begun with its table, of what its calls were lent
-  pub run : History (verdict 1)
+  pub run : History verdict w
   pub table : run .table ≡ g .table
   pub lent : run .calls ≡ asks (g .calls)
-  pub demand3 : Demand3 (verdict 1) run
+  pub demand3 : Demand3 verdict w run
   -- which begins with the state that begin left, and has the steps that the calls made
-  pub begins : first (verdict 1) run ≡ g .state
-  pub steps : steps (verdict 1) run ≡ made (g .calls)
+  pub begins : first verdict w run ≡ g .state
+  pub steps : steps verdict w run ≡ made w (g .calls)
   -- one for each number of the order named, its answer the byte written for it; the calls leave the state of the last
-  pub order : processes (made (g .calls)) ≡ named (g .calls)
-  pub answers : answers (made (g .calls)) ≡ answered (g .calls)
-  pub last : finally (g .state) (made (g .calls)) ≡ leaves (g .state) (g .calls)
-  pub calls : Each (CallHolds (g .table)) (g .calls)
+  pub order : processes (made w (g .calls)) ≡ named (g .calls)
+  pub answers : answers (made w (g .calls)) ≡ answered (g .calls)
+  pub last : finally (g .state) (made w (g .calls)) ≡ leaves (g .state) (g .calls)
+  pub calls : Each (CallHolds w (g .table)) (g .calls)
   -- a log begun alike begins with the same state; as far as its calls name the same order and see the same device words, they give the same
   -- answers, states and device words, wherever the calls of the two begin and end
-  pub alike : (k : Log) → k .table ≡ g .table → k .state ≡ g .state
-  pub agrees : (k : Log) → k .table ≡ g .table → (n : ℕ) → take n (asked (made (k .calls))) ≡ take n (asked (made (g .calls)))
-      → take n (told (made (k .calls))) ≡ take n (told (made (g .calls)))
+  pub alike : (k : Log w) → k .table ≡ g .table → k .state ≡ g .state
+  pub agrees : (k : Log w) → k .table ≡ g .table → (n : ℕ) → take n (asked (made w (k .calls))) ≡ take n (asked (made w (g .calls)))
+      → take n (told (made w (k .calls))) ≡ take n (told (made w (g .calls)))

@@ -26,10 +26,10 @@ unfoldable pub pageLeaves : List ℕ → List Call → List ℕ
 pageLeaves d [] = d
 pageLeaves d (c ∷ cs) = pageLeaves (c .pageAfter) cs
 
--- from state s and page d, the calls cs returned what the call w returned, left the state and the page that it left, and gave the answers
+-- from state s and page d, the calls cs returned what the call u returned, left the state and the page that it left, and gave the answers
 -- that it gave
-pub record LeaveTheSame (s d : List ℕ) (w : Call) (cs : List Call) : Type 0 where
-  pub results : Each (λ c. c .result ≡ w .result) cs
-  pub state : leaves s cs ≡ w .stateAfter
-  pub page : pageLeaves d cs ≡ w .pageAfter
-  pub answers : answered cs ≡ answered (w ∷ [])
+pub record LeaveTheSame (s d : List ℕ) (u : Call) (cs : List Call) : Type 0 where
+  pub results : Each (λ c. c .result ≡ u .result) cs
+  pub state : leaves s cs ≡ u .stateAfter
+  pub page : pageLeaves d cs ≡ u .pageAfter
+  pub answers : answered cs ≡ answered (u ∷ [])

@@ -16,7 +16,7 @@ pub extern "C" fn joyce_check(table: &[u8]) -> u32
 // Makes the lent state that in which a run of the table begins, or refuses and changes nothing.
 #[no_mangle]
 pub extern "C" fn joyce_begin(table: &[u8], state: &mut [u8]) -> u32
-    ensures { λ r. ⌜ BeginLeaves (now (table .entry)) (now (state .entry)) r (now (state .exit)) ⌝ }
+    ensures { λ r. ⌜ BeginLeaves 1 (now (table .entry)) (now (state .entry)) r (now (state .exit)) ⌝ }
 {
     states::begin(table, state)
 }
@@ -30,7 +30,7 @@ pub extern "C" fn joyce_run(
     schedule: &[u8],
     answers: &mut [u8],
 ) -> u32
-    ensures { λ r. ⌜ RunLeaves (now (table .entry)) (now (state .entry)) (now (page .entry)) (now (schedule .entry)) (now (answers .entry)) r (now (state .exit)) (now (page .exit)) (now (answers .exit)) ⌝ }
+    ensures { λ r. ⌜ RunLeaves 1 (now (table .entry)) (now (state .entry)) (now (page .entry)) (now (schedule .entry)) (now (answers .entry)) r (now (state .exit)) (now (page .exit)) (now (answers .exit)) ⌝ }
 {
     stepper::run(table, state, page, schedule, answers)
 }
@@ -44,7 +44,7 @@ pub extern "C" fn joyce_look(
     variable: u32,
     place: u32,
 ) -> u32
-    ensures { λ r. ⌜ r ≡ lookCall (verdict 1) (now (table .entry)) (now (state .entry)) process variable place ⌝ }
+    ensures { λ r. ⌜ r ≡ lookCall verdict 1 (now (table .entry)) (now (state .entry)) process variable place ⌝ }
 {
     stepper::look(table, state, process, variable, place)
 }

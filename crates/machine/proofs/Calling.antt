@@ -55,23 +55,23 @@ refused-none lengths v state e =
 
 -- ---- a refused call changes no lent byte
 
-module _ (verdict : List ℕ → ℕ) (table state : List ℕ) where
+module _ (verdict : ℕ → List ℕ → ℕ) (w : ℕ) (table state : List ℕ) where
   pub begin-refused :
-      (beginRefusal verdict table state ≡ 0 → ⊥) → beginCall verdict table state ≡ begun (beginRefusal verdict table state) state
+      (beginRefusal verdict w table state ≡ 0 → ⊥) → beginCall verdict w table state ≡ begun (beginRefusal verdict w table state) state
   unfolding beginCall
-  begin-refused h = rw (ne-eqb (beginRefusal verdict table state) 0 h)
+  begin-refused h = rw (ne-eqb (beginRefusal verdict w table state) 0 h)
 
   module _ (page schedule answers : List ℕ) where
     pub run-refused :
-        (runRefusal verdict table state page schedule answers ≡ 0 → ⊥)
-        → runCall verdict table state page schedule answers
-        ≡ called (runRefusal verdict table state page schedule answers) state page answers
+        (runRefusal verdict w table state page schedule answers ≡ 0 → ⊥)
+        → runCall verdict w table state page schedule answers
+        ≡ called (runRefusal verdict w table state page schedule answers) state page answers
     unfolding runCall
-    run-refused h = rw (ne-eqb (runRefusal verdict table state page schedule answers) 0 h)
+    run-refused h = rw (ne-eqb (runRefusal verdict w table state page schedule answers) 0 h)
 
     -- what a call that is not refused was lent
     pub run-lengths :
-        runRefusal verdict table state page schedule answers ≡ 0
+        runRefusal verdict w table state page schedule answers ≡ 0
         → (length state ≡ 35328) × ((length page ≡ 8192) × (length schedule ≤ length answers))
     unfolding runRefusal runLengths
     run-lengths e =
@@ -79,25 +79,25 @@ module _ (verdict : List ℕ → ℕ) (table state : List ℕ) where
         let k = both-r (eqb (length state) 35328) _ h in
         (eqb-true _ _ (both-l _ _ h), (eqb-true _ _ (both-l (eqb (length page) 8192) _ k), leb-true _ _ (both-r (eqb (length page) 8192) _ k)))
 
-    pub run-accepted : runRefusal verdict table state page schedule answers ≡ 0 → verdict table ≡ 0
+    pub run-accepted : runRefusal verdict w table state page schedule answers ≡ 0 → verdict w table ≡ 0
     unfolding runRefusal
     run-accepted e = refused-none _ _ _ e .1 .0
 
     pub run-ruled :
-        runRefusal verdict table state page schedule answers ≡ 0 → rule (tableOf 1 table) (memoryOf state) ≡ true
+        runRefusal verdict w table state page schedule answers ≡ 0 → rule (tableOf w table) (memoryOf state) ≡ true
     unfolding runRefusal
     run-ruled e = refused-none _ _ _ e .1 .1
 
   -- ---- an empty schedule changes nothing
 
   pub run-empty :
-      (page answers : List ℕ) → Bytes state → Bytes page → runRefusal verdict table state page [] answers ≡ 0
-      → runCall verdict table state page [] answers ≡ called 0 state page answers
+      (page answers : List ℕ) → Bytes state → Bytes page → runRefusal verdict w table state page [] answers ≡ 0
+      → runCall verdict w table state page [] answers ≡ called 0 state page answers
   unfolding runCall run finished
   run-empty page answers s d e =
       let l = run-lengths page [] answers e in
       rw (
-        eq-eqb (runRefusal verdict table state page [] answers) 0 e,
+        eq-eqb (runRefusal verdict w table state page [] answers) 0 e,
         bytes-memory 17664 state s (l .0),
         bytes-memory 4096 page d (l .1 .0),
       )

@@ -5,7 +5,9 @@ pub mod Edges
 pub mod Stuck
 pub mod Frames
 pub mod Damaged
+pub mod Tests
 pub mod Memories
+pub mod Entries
 pub mod Ends
 pub mod Failures
 pub mod Courses

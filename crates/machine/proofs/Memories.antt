@@ -5,13 +5,15 @@ use mathlib.Core.Bool.{true, false}
 use mathlib.Core.List.{List}
 use native.Mathlib.Omega.{arith}
 use native.Mathlib.Nat.{add-zero, not-suc-le-zero}
-use borrow.Author.Tests.{eq-eqb, ne-eqb, eqb-true, eqb-false, le-leb, lt-ltb, le-ltb, lt-leb}
+use borrow.Author.Tests.{eq-eqb, ne-eqb, eqb-true, eqb-false, leb-true, ltb-true, le-leb, lt-ltb, le-ltb, lt-leb}
 use lib.Dec.{eqb}
 use lib.ListN.{length, getD}
 use lib.Seq.{ext-getD}
 use Rattle.basics.specs.Choice.{both, cases}
+use Rattle.basics.proofs.Bools.{both-l, both-r}
 use Rattle.words.specs.Memory.{wordAtByte, wordAt, putWord, Bytes}
 use Rattle.words.proofs.MemoryLaws.{get-put-word, get-put-other, word-at-lt}
+use Rattle.machine.specs.Layout.{location}
 use Rattle.machine.specs.Memory.{Memory, update, within, store, clear, wordsAt, memoryOf, bytesAt, bytesOf}
 
 -- ---- one word
@@ -20,6 +22,10 @@ module _ (m : Memory) (i v : ℕ) where
   pub update-same : update m i v i ≡ v
   unfolding update
   update-same = rw (eq-eqb i i refl)
+
+  pub update-at : (j : ℕ) → j ≡ i → update m i v j ≡ v
+  unfolding update
+  update-at j e = rw (eq-eqb j i e)
 
   pub update-other : (j : ℕ) → (j ≡ i → ⊥) → update m i v j ≡ m j
   unfolding update
@@ -39,6 +45,14 @@ module _ (a n j : ℕ) where
   pub within-above : a + n ≤ j → within a n j ≡ false
   unfolding within both
   within-above h = rw (le-leb a j (omega arith), le-ltb j (a + n) h)
+
+  pub within-from : within a n j ≡ true → a ≤ j
+  unfolding within
+  within-from e = leb-true a j (both-l _ _ e)
+
+  pub within-to : within a n j ≡ true → j < a + n
+  unfolding within
+  within-to e = ltb-true j (a + n) (both-r _ _ e)
 
 module _ (m : Memory) (a : ℕ) (ws : List ℕ) where
   pub store-below : (j : ℕ) → j < a → store m a ws j ≡ m j
@@ -87,6 +101,12 @@ words-store m a ws =
     (λ k h.
     let g : k < length ws = omega (arith, length-words (store m a ws) a (length ws)) in
     words-at (store m a ws) a (length ws) k g ∙ store-at m a ws k g)
+
+-- ---- locations
+
+pub location-plus : (p k j : ℕ) → location p (k + j) ≡ location p k + j
+unfolding location
+location-plus p k j = omega arith
 
 -- ---- bytes
 

@@ -52,37 +52,38 @@ finished Run.stuck c answers = c
 unfoldable pub runLengths : ℕ → ℕ → ℕ → ℕ → Bool
 runLengths state page schedule answers = both (eqb state 35328) (both (eqb page 8192) (leb schedule answers))
 
-module _ (verdict : List ℕ → ℕ) where
+-- the verdict on a table in each edition, and the edition: the width w of its fields
+module _ (verdict : ℕ → List ℕ → ℕ) (w : ℕ) where
   unfoldable pub checkCall : List ℕ → ℕ
-  checkCall table = verdict table
+  checkCall table = verdict w table
 
   unfoldable pub beginRefusal : List ℕ → List ℕ → ℕ
-  beginRefusal table state = pick (eqb (length state) 35328) (verdict table) 1
+  beginRefusal table state = pick (eqb (length state) 35328) (verdict w table) 1
 
   unfoldable pub beginCall : List ℕ → List ℕ → Begun
   beginCall table state =
       pick (eqb (beginRefusal table state) 0)
-      (begun 0 (bytesOf 17664 (begin (tableOf 1 table))))
+      (begun 0 (bytesOf 17664 (begin (tableOf w table))))
       (begun (beginRefusal table state) state)
 
   unfoldable pub runRefusal : List ℕ → List ℕ → List ℕ → List ℕ → List ℕ → ℕ
   runRefusal table state page schedule answers =
       refusal (runLengths (length state) (length page) (length schedule) (length answers))
-      (verdict table)
-      (rule (tableOf 1 table) (memoryOf state))
+      (verdict w table)
+      (rule (tableOf w table) (memoryOf state))
 
   unfoldable pub runCall : List ℕ → List ℕ → List ℕ → List ℕ → List ℕ → Called
   runCall table state page schedule answers =
       pick (eqb (runRefusal table state page schedule answers) 0)
-      (finished (run (tableOf 1 table) schedule (memoryOf state) (memoryOf page)) (called 10 state page answers) answers)
+      (finished (run (tableOf w table) schedule (memoryOf state) (memoryOf page)) (called 10 state page answers) answers)
       (called (runRefusal table state page schedule answers) state page answers)
 
   unfoldable pub lookRefusal : List ℕ → List ℕ → ℕ
   lookRefusal table state =
-      refusal (eqb (length state) 35328) (verdict table) (rule (tableOf 1 table) (memoryOf state))
+      refusal (eqb (length state) 35328) (verdict w table) (rule (tableOf w table) (memoryOf state))
 
   unfoldable pub lookCall : List ℕ → List ℕ → ℕ → ℕ → ℕ → ℕ
   lookCall table state process variable place =
       pick (eqb (lookRefusal table state) 0)
-      (look (tableOf 1 table) (memoryOf state) process variable place)
+      (look (tableOf w table) (memoryOf state) process variable place)
       (lookRefusal table state)

@@ -49,7 +49,7 @@ module _ (T : Table) (τ : ℕ) where
 
 -- where the parts of a record or an array lie: within it, if they have lower numbers
 module _ (T : Table) (τ : ℕ) where
-  offset-up : (i k : ℕ) → i ≤ k → offsetIn T τ i ≤ offsetIn T τ k
+  pub offset-up : (i k : ℕ) → i ≤ k → offsetIn T τ i ≤ offsetIn T τ k
   unfolding offsetIn fieldsWords
   offset-up i k l = sum-up (λ n. partWords T τ (fieldType T (typeP T τ + n))) i k l
 

@@ -6,8 +6,7 @@ use mathlib.Core.List.{List}
 use lib.Dec.{eqb, leb, ltb}
 use native.Mathlib.Omega.{arith}
 use borrow.Author.Tests.{le-leb, lt-leb, leb-true, ltb-true, ltb-false}
-use Rattle.basics.specs.Choice.{cases, allBelow, Passed}
-use Rattle.basics.proofs.Passes.{passed-fail, passed-all}
+use Rattle.basics.specs.Choice.{cases}
 use Rattle.basics.proofs.Bools.{all-at, no-true}
 use Rattle.table.specs.Table.{Table}
 use Rattle.table.specs.Entries.{typeCount, typeLow, typeHigh, varType, firstVar, vars}
@@ -33,16 +32,6 @@ pub index-local : (i v ι w : ℕ) (r : Bool) → i ≡ ι → v ≡ w → r ≡
 index-local i v ι w r h g e = rw (← h, ← g) e
 
 pub ruleset bounds = (bounds-some, bounds-none, index-local)
-
--- a pass over all of a section, whose count the code holds in c
-module _ (f : ℕ → Bool) (c n : ℕ) (e : c ≡ n) (i : ℕ) where
-  pub section-fail : (r : Bool) → r ≡ f i → i < c → r ≡ false → false ≡ allBelow n f
-  section-fail r h l g = passed-fail f i r h n (rw e at l) g
-
-  pub section-all : Passed f i → i ≤ c → c ≤ i → true ≡ allBelow n f
-  section-all p l g = passed-all f i n p (rw e at l) (rw e at g)
-
-pub ruleset sections = (section-fail, section-all)
 
 pub type-row : (T : Table) (i : ℕ) (r : Bool) → r ≡ typeOk T (3 + i) → r ≡ typeSized T i
 unfolding typeSized

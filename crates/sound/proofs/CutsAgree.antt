@@ -17,10 +17,11 @@ use Rattle.machine.specs.Step.{Step, done, step}
 use Rattle.machine.specs.Run.{Run, ran, onDone, before, run}
 use Rattle.machine.specs.Public.{called, finished, refusal, runLengths, runRefusal, runCall}
 use Rattle.machine.proofs.Calling.{run-refused, run-accepted, run-empty}
+use Rattle.machine.proofs.Memories.{length-bytes-at}
 use Rattle.sound.specs.Histories.{Seen, stateBytes, pageBytes, seen, trace, result, stateLeft, pageLeft, answersLeft, Ask, callOf, refused, stepsOf, writtenOf, history, written, stateAfter}
 use Rattle.sound.specs.Cuts.{Piece, endToEnd, oneEach, askOf, inTurn, pageAfter, AllReturn, CutAlike}
 use Rattle.sound.proofs.Histories.{Traced, state-memory, page-memory}
-use Rattle.sound.proofs.HistoriesBytes.{length-bytes, bytes-of}
+use Rattle.sound.proofs.HistoriesBytes.{bytes-of}
 use Rattle.sound.proofs.RefusalsHold.{open-traced, open-run}
 
 -- ---- a run over two schedules end to end
@@ -80,30 +81,27 @@ module _ (T : Table) (r : List ℕ) where
 
 -- ---- calls
 
-abbrev judge : List ℕ → ℕ
-judge = verdict 1
-
-module _ (t : List ℕ) where
+module _ (w : ℕ) (t : List ℕ) where
   abbrev number : List ℕ → List ℕ → Piece → ℕ
-  number s d x = runRefusal judge t s d (x .schedule) (x .answers)
+  number s d x = runRefusal verdict w t s d (x .schedule) (x .answers)
 
   -- what a call comes to: its result, the state and the page that it leaves, the answers written, the steps
   record Comes (s d : List ℕ) (x : Piece) (n : ℕ) (s' d' l : List ℕ) (es : List Seen) : Type 0 where
-    result-is : result (callOf judge s (askOf t d x)) ≡ n
-    state-is : stateLeft (callOf judge s (askOf t d x)) ≡ s'
-    page-is : pageLeft (callOf judge s (askOf t d x)) ≡ d'
-    written-is : writtenOf judge s (askOf t d x) ≡ l
-    steps-are : stepsOf judge s (askOf t d x) ≡ es
+    result-is : result (callOf verdict w s (askOf t d x)) ≡ n
+    state-is : stateLeft (callOf verdict w s (askOf t d x)) ≡ s'
+    page-is : pageLeft (callOf verdict w s (askOf t d x)) ≡ d'
+    written-is : writtenOf verdict w s (askOf t d x) ≡ l
+    steps-are : stepsOf verdict w s (askOf t d x) ≡ es
 
   comes-refused : (s d : List ℕ) (x : Piece) → (number s d x ≡ 0 → ⊥) → Comes s d x (number s d x) s d [] []
   unfolding callOf askOf result stateLeft pageLeft writtenOf stepsOf refused
   comes-refused s d x n =
-      let c = run-refused judge t s d (x .schedule) (x .answers) n in
+      let c = run-refused verdict w t s d (x .schedule) (x .answers) n in
       let f = ne-eqb (number s d x) 0 n in
       record { result-is = rw c; state-is = rw c; page-is = rw c; written-is = rw (c, f); steps-are = rw (c, f) }
 
-  comes-open : (s d : List ℕ) (x : Piece) (s' d' l k : List ℕ) → runCall judge t s d (x .schedule) (x .answers) ≡ called 0 s' d' (l ++ k) → length l ≡ length (x .schedule)
-      → Comes s d x 0 s' d' l (trace (tableOf 1 t) (x .schedule) (memoryOf s) (memoryOf d))
+  comes-open : (s d : List ℕ) (x : Piece) (s' d' l k : List ℕ) → runCall verdict w t s d (x .schedule) (x .answers) ≡ called 0 s' d' (l ++ k) → length l ≡ length (x .schedule)
+      → Comes s d x 0 s' d' l (trace (tableOf w t) (x .schedule) (memoryOf s) (memoryOf d))
   unfolding callOf askOf result stateLeft pageLeft answersLeft writtenOf stepsOf refused
   comes-open s d x s' d' l k c e =
       record { result-is = rw c; state-is = rw c; page-is = rw c; written-is = rw (c, take-at l k (length (x .schedule)) e); steps-are = rw c }
@@ -113,8 +111,8 @@ module _ (t : List ℕ) where
   unfolding runRefusal runLengths
   number-same s d x y = rw (le-leb (length (x .schedule)) (length (x .answers)) (x .room), le-leb (length (y .schedule)) (length (y .answers)) (y .room))
 
-  -- two calls in turn, x and y, against one, w
-  record Pair (s d : List ℕ) (w x y : Piece) : Type 0 where
+  -- two calls in turn, x and y, against one, u
+  record Pair (s d : List ℕ) (u x y : Piece) : Type 0 where
     n : ℕ
     s1 : List ℕ
     d1 : List ℕ
@@ -126,14 +124,14 @@ module _ (t : List ℕ) where
     e2 : List Seen
     state : Bytes s1
     page : Bytes d1
-    whole : Comes s d w n s2 d2 (l1 ++ l2) (e1 ++ e2)
+    whole : Comes s d u n s2 d2 (l1 ++ l2) (e1 ++ e2)
     first : Comes s d x n s1 d1 l1 e1
     second : Comes s1 d1 y n s2 d2 l2 e2
 
-  module _ (bt : Bytes t) (s d : List ℕ) (bs : Bytes s) (bd : Bytes d) (w x y : Piece) where
-    pair-refused : (number s d x ≡ 0 → ⊥) → Pair s d w x y
+  module _ (bt : Bytes t) (s d : List ℕ) (bs : Bytes s) (bd : Bytes d) (u x y : Piece) where
+    pair-refused : (number s d x ≡ 0 → ⊥) → Pair s d u x y
     pair-refused n =
-        let ew = number-same s d x w in
+        let eu = number-same s d x u in
         let ey = number-same s d x y in
         record {
           n = number s d x;
@@ -147,14 +145,14 @@ module _ (t : List ℕ) where
           e2 = [];
           state = bs;
           page = bd;
-          whole = rw ew (comes-refused s d w (rw ew at n));
+          whole = rw eu (comes-refused s d u (rw eu at n));
           first = comes-refused s d x n;
           second = rw ey (comes-refused s d y (rw ey at n));
         }
 
     module _ (z : number s d x ≡ 0) where
-      X : Traced (tableOf 1 t) (x .schedule) (memoryOf s) (memoryOf d)
-      X = open-traced t s d (x .schedule) (x .answers) bt bs bd z
+      X : Traced (tableOf w t) (x .schedule) (memoryOf s) (memoryOf d)
+      X = open-traced w t s d (x .schedule) (x .answers) bt bs bd z
 
       state1 : List ℕ
       state1 = stateBytes (X .state)
@@ -172,7 +170,7 @@ module _ (t : List ℕ) where
 
       state1-memory : memoryOf state1 ≡ X .state
       unfolding state1
-      state1-memory = state-memory (tableOf 1 t) (X .state) (X .reached)
+      state1-memory = state-memory (tableOf w t) (X .state) (X .reached)
 
       page1-memory : memoryOf page1 ≡ X .devices
       unfolding page1
@@ -180,74 +178,74 @@ module _ (t : List ℕ) where
 
       state1-long : length state1 ≡ 35328
       unfolding state1 stateBytes bytesOf
-      state1-long = length-bytes (X .state) 0 17664
+      state1-long = length-bytes-at (X .state) 0 17664
 
       page1-long : length page1 ≡ 8192
       unfolding page1 pageBytes bytesOf
-      page1-long = length-bytes (X .devices) 0 4096
+      page1-long = length-bytes-at (X .devices) 0 4096
 
       zero-y : number state1 page1 y ≡ 0
       unfolding runRefusal runLengths refusal both
       zero-y =
-          rw (eq-eqb (length state1) 35328 state1-long, eq-eqb (length page1) 8192 page1-long, le-leb (length (y .schedule)) (length (y .answers)) (y .room), run-accepted judge t s d (x .schedule) (x .answers) z, state1-memory, X .reached .ruled)
+          rw (eq-eqb (length state1) 35328 state1-long, eq-eqb (length page1) 8192 page1-long, le-leb (length (y .schedule)) (length (y .answers)) (y .room), run-accepted verdict w t s d (x .schedule) (x .answers) z, state1-memory, X .reached .ruled)
 
-      Y : Traced (tableOf 1 t) (y .schedule) (memoryOf state1) (memoryOf page1)
-      Y = open-traced t state1 page1 (y .schedule) (y .answers) bt state1-bytes page1-bytes zero-y
+      Y : Traced (tableOf w t) (y .schedule) (memoryOf state1) (memoryOf page1)
+      Y = open-traced w t state1 page1 (y .schedule) (y .answers) bt state1-bytes page1-bytes zero-y
 
-      y-run : run (tableOf 1 t) (y .schedule) (X .state) (X .devices) ≡ ran (Y .given) (Y .state) (Y .devices)
-      y-run = ap (λ (u : Memory). run (tableOf 1 t) (y .schedule) u (X .devices)) (sym state1-memory) ∙ ap (run (tableOf 1 t) (y .schedule) (memoryOf state1)) (sym page1-memory) ∙ Y .is
+      y-run : run (tableOf w t) (y .schedule) (X .state) (X .devices) ≡ ran (Y .given) (Y .state) (Y .devices)
+      y-run = ap (λ (u : Memory). run (tableOf w t) (y .schedule) u (X .devices)) (sym state1-memory) ∙ ap (run (tableOf w t) (y .schedule) (memoryOf state1)) (sym page1-memory) ∙ Y .is
 
-      module _ (e : w .schedule ≡ x .schedule ++ y .schedule) where
-        w-run : run (tableOf 1 t) (w .schedule) (memoryOf s) (memoryOf d) ≡ ran (X .given ++ Y .given) (Y .state) (Y .devices)
+      module _ (e : u .schedule ≡ x .schedule ++ y .schedule) where
+        u-run : run (tableOf w t) (u .schedule) (memoryOf s) (memoryOf d) ≡ ran (X .given ++ Y .given) (Y .state) (Y .devices)
         unfolding onRan behind
-        w-run =
-            ap (λ (q : List ℕ). run (tableOf 1 t) q (memoryOf s) (memoryOf d)) e
-            ∙ run-append (tableOf 1 t) (y .schedule) (x .schedule) (memoryOf s) (memoryOf d)
+        u-run =
+            ap (λ (q : List ℕ). run (tableOf w t) q (memoryOf s) (memoryOf d)) e
+            ∙ run-append (tableOf w t) (y .schedule) (x .schedule) (memoryOf s) (memoryOf d)
             ∙ rw (X .is, y-run)
 
-        w-trace : trace (tableOf 1 t) (w .schedule) (memoryOf s) (memoryOf d)
-            ≡ trace (tableOf 1 t) (x .schedule) (memoryOf s) (memoryOf d) ++ trace (tableOf 1 t) (y .schedule) (memoryOf state1) (memoryOf page1)
+        u-trace : trace (tableOf w t) (u .schedule) (memoryOf s) (memoryOf d)
+            ≡ trace (tableOf w t) (x .schedule) (memoryOf s) (memoryOf d) ++ trace (tableOf w t) (y .schedule) (memoryOf state1) (memoryOf page1)
         unfolding onRan
-        w-trace =
-            ap (λ (q : List ℕ). trace (tableOf 1 t) q (memoryOf s) (memoryOf d)) e
-            ∙ trace-append (tableOf 1 t) (y .schedule) (x .schedule) (memoryOf s) (memoryOf d)
+        u-trace =
+            ap (λ (q : List ℕ). trace (tableOf w t) q (memoryOf s) (memoryOf d)) e
+            ∙ trace-append (tableOf w t) (y .schedule) (x .schedule) (memoryOf s) (memoryOf d)
             ∙ rw (X .is, state1-memory, page1-memory)
 
-        w-long : length (X .given ++ Y .given) ≡ length (w .schedule)
-        w-long = length-append (X .given) (Y .given) ∙ rw (X .long, Y .long, e) (sym (length-append (x .schedule) (y .schedule)))
+        u-long : length (X .given ++ Y .given) ≡ length (u .schedule)
+        u-long = length-append (X .given) (Y .given) ∙ rw (X .long, Y .long, e) (sym (length-append (x .schedule) (y .schedule)))
 
-        w-call : runCall judge t s d (w .schedule) (w .answers)
-            ≡ called 0 (stateBytes (Y .state)) (pageBytes (Y .devices)) ((X .given ++ Y .given) ++ drop (length (X .given ++ Y .given)) (w .answers))
+        u-call : runCall verdict w t s d (u .schedule) (u .answers)
+            ≡ called 0 (stateBytes (Y .state)) (pageBytes (Y .devices)) ((X .given ++ Y .given) ++ drop (length (X .given ++ Y .given)) (u .answers))
         unfolding runCall finished stateBytes pageBytes
-        w-call = rw (eq-eqb (number s d w) 0 (number-same s d w x ∙ z), w-run)
+        u-call = rw (eq-eqb (number s d u) 0 (number-same s d u x ∙ z), u-run)
 
-        pair-open : Pair s d w x y
+        pair-open : Pair s d u x y
         unfolding state1 page1 X Y
         pair-open = record {
           n = 0;
           s1 = state1;
           d1 = page1;
           l1 = X .given;
-          e1 = trace (tableOf 1 t) (x .schedule) (memoryOf s) (memoryOf d);
+          e1 = trace (tableOf w t) (x .schedule) (memoryOf s) (memoryOf d);
           s2 = stateBytes (Y .state);
           d2 = pageBytes (Y .devices);
           l2 = Y .given;
-          e2 = trace (tableOf 1 t) (y .schedule) (memoryOf state1) (memoryOf page1);
+          e2 = trace (tableOf w t) (y .schedule) (memoryOf state1) (memoryOf page1);
           state = state1-bytes;
           page = page1-bytes;
-          whole = rw (← w-trace) (comes-open s d w _ _ _ _ w-call w-long);
-          first = comes-open s d x _ _ _ _ (open-run t s d (x .schedule) (x .answers) bt bs bd z) (X .long);
-          second = comes-open state1 page1 y _ _ _ _ (open-run t state1 page1 (y .schedule) (y .answers) bt state1-bytes page1-bytes zero-y) (Y .long);
+          whole = rw (← u-trace) (comes-open s d u _ _ _ _ u-call u-long);
+          first = comes-open s d x _ _ _ _ (open-run w t s d (x .schedule) (x .answers) bt bs bd z) (X .long);
+          second = comes-open state1 page1 y _ _ _ _ (open-run w t state1 page1 (y .schedule) (y .answers) bt state1-bytes page1-bytes zero-y) (Y .long);
         }
 
-    pair : w .schedule ≡ x .schedule ++ y .schedule → Pair s d w x y
+    pair : u .schedule ≡ x .schedule ++ y .schedule → Pair s d u x y
     pair e = cases (eqb (number s d x) 0) (λ h. pair-open (eqb-true _ 0 h) e) (λ h. pair-refused (eqb-false _ 0 h))
 
   -- ---- any number of calls
 
-  cut-none : (s d : List ℕ) (w : Piece) (n : ℕ) → Comes s d w n s d [] [] → CutAlike judge t s d w []
+  cut-none : (s d : List ℕ) (u : Piece) (n : ℕ) → Comes s d u n s d [] [] → CutAlike verdict w t s d u []
   unfolding AllReturn inTurn stateAfter pageAfter written history
-  cut-none s d w n C = record {
+  cut-none s d u n C = record {
     results = tt;
     state = sym (C .state-is);
     page = sym (C .page-is);
@@ -255,18 +253,18 @@ module _ (t : List ℕ) where
     steps = λ ys. rw (C .steps-are, C .state-is);
   }
 
-  state-cons : (s s1 : List ℕ) (x : Ask) (xs : List Ask) → stateLeft (callOf judge s x) ≡ s1 → stateAfter judge s (x ∷ xs) ≡ stateAfter judge s1 xs
+  state-cons : (s s1 : List ℕ) (x : Ask) (xs : List Ask) → stateLeft (callOf verdict w s x) ≡ s1 → stateAfter verdict w s (x ∷ xs) ≡ stateAfter verdict w s1 xs
   unfolding stateAfter
-  state-cons s s1 x xs e = ap (λ (z : List ℕ). stateAfter judge z xs) e
+  state-cons s s1 x xs e = ap (λ (z : List ℕ). stateAfter verdict w z xs) e
 
-  page-cons : (s d s1 d1 : List ℕ) (x : Ask) (xs : List Ask) → stateLeft (callOf judge s x) ≡ s1 → pageLeft (callOf judge s x) ≡ d1
-      → pageAfter judge s d (x ∷ xs) ≡ pageAfter judge s1 d1 xs
+  page-cons : (s d s1 d1 : List ℕ) (x : Ask) (xs : List Ask) → stateLeft (callOf verdict w s x) ≡ s1 → pageLeft (callOf verdict w s x) ≡ d1
+      → pageAfter verdict w s d (x ∷ xs) ≡ pageAfter verdict w s1 d1 xs
   unfolding pageAfter
-  page-cons s d s1 d1 x xs e f = ap (λ (z : List ℕ). pageAfter judge z (pageLeft (callOf judge s x)) xs) e ∙ ap (λ (z : List ℕ). pageAfter judge s1 z xs) f
+  page-cons s d s1 d1 x xs e f = ap (λ (z : List ℕ). pageAfter verdict w z (pageLeft (callOf verdict w s x)) xs) e ∙ ap (λ (z : List ℕ). pageAfter verdict w s1 z xs) f
 
-  cut-more : (s d : List ℕ) (w x y : Piece) (xs : List Piece) (P : Pair s d w x y) → CutAlike judge t (P .s1) (P .d1) y xs → CutAlike judge t s d w (x ∷ xs)
+  cut-more : (s d : List ℕ) (u x y : Piece) (xs : List Piece) (P : Pair s d u x y) → CutAlike verdict w t (P .s1) (P .d1) y xs → CutAlike verdict w t s d u (x ∷ xs)
   unfolding AllReturn inTurn written history
-  cut-more s d w x y xs P C =
+  cut-more s d u x y xs P C =
       let first = P .first in
       let second = P .second in
       let whole = P .whole in
@@ -277,28 +275,28 @@ module _ (t : List ℕ) where
         answers = rw (first .state-is, first .page-is, first .written-is, C .answers, second .written-is) (sym (whole .written-is));
         steps = λ ys.
             rw (first .state-is, first .page-is, first .steps-are, whole .steps-are, whole .state-is, C .steps ys, second .steps-are, second .state-is)
-            (sym (append-assoc (P .e1) (P .e2) (history judge (P .s2) ys)));
+            (sym (append-assoc (P .e1) (P .e2) (history verdict w (P .s2) ys)));
       }
 
-  comes-none : Bytes t → (s d : List ℕ) → Bytes s → Bytes d → (w : Piece) → [] ≡ w .schedule → Comes s d w (number s d w) s d [] []
+  comes-none : Bytes t → (s d : List ℕ) → Bytes s → Bytes d → (u : Piece) → [] ≡ u .schedule → Comes s d u (number s d u) s d [] []
   unfolding trace
-  comes-none bt s d bs bd w e =
-      cases (eqb (number s d w) 0)
+  comes-none bt s d bs bd u e =
+      cases (eqb (number s d u) 0)
       (λ h.
-      let z : number s d w ≡ 0 = eqb-true _ 0 h in
-      let c : runCall judge t s d (w .schedule) (w .answers) ≡ called 0 s d (w .answers) = rw (← e) (run-empty judge t s d (w .answers) bs bd (rw (← e) at z)) in
-      let k : trace (tableOf 1 t) (w .schedule) (memoryOf s) (memoryOf d) ≡ [] = rw (← e) in
-      rw z (subst (λ (es : List Seen). Comes s d w 0 s d [] es) k (comes-open s d w s d [] (w .answers) c (ap length e))))
-      (λ h. comes-refused s d w (eqb-false _ 0 h))
+      let z : number s d u ≡ 0 = eqb-true _ 0 h in
+      let c : runCall verdict w t s d (u .schedule) (u .answers) ≡ called 0 s d (u .answers) = rw (← e) (run-empty verdict w t s d (u .answers) bs bd (rw (← e) at z)) in
+      let k : trace (tableOf w t) (u .schedule) (memoryOf s) (memoryOf d) ≡ [] = rw (← e) in
+      rw z (subst (λ (es : List Seen). Comes s d u 0 s d [] es) k (comes-open s d u s d [] (u .answers) c (ap length e))))
+      (λ h. comes-refused s d u (eqb-false _ 0 h))
 
   -- THE THEOREM: a call may be cut into any pieces
-  pub cuts : Bytes t → (s d : List ℕ) → Bytes s → Bytes d → (w : Piece) (xs : List Piece) → endToEnd xs ≡ w .schedule → CutAlike judge t s d w xs
+  pub cuts : Bytes t → (s d : List ℕ) → Bytes s → Bytes d → (u : Piece) (xs : List Piece) → endToEnd xs ≡ u .schedule → CutAlike verdict w t s d u xs
   unfolding endToEnd
-  cuts bt s d bs bd w [] e = cut-none s d w (number s d w) (comes-none bt s d bs bd w e)
-  cuts bt s d bs bd w (x ∷ xs) e =
+  cuts bt s d bs bd u [] e = cut-none s d u (number s d u) (comes-none bt s d bs bd u e)
+  cuts bt s d bs bd u (x ∷ xs) e =
       let y : Piece = record { schedule = endToEnd xs; answers = endToEnd xs; room = omega arith } in
-      let P = pair bt s d bs bd w x y (sym e) in
-      cut-more s d w x y xs P (cuts bt (P .s1) (P .d1) (P .state) (P .page) y xs refl)
+      let P = pair bt s d bs bd u x y (sym e) in
+      cut-more s d u x y xs P (cuts bt (P .s1) (P .d1) (P .state) (P .page) y xs refl)
 
   one-each : (q : List ℕ) → endToEnd (oneEach q) ≡ q
   unfolding endToEnd oneEach
@@ -306,8 +304,8 @@ module _ (t : List ℕ) where
   one-each (p ∷ q) = ap (λ (l : List ℕ). p ∷ l) (one-each q)
 
   -- one call of n steps, and n calls of one step
-  pub cuts-one-each : Bytes t → (s d : List ℕ) → Bytes s → Bytes d → (w : Piece) → CutAlike judge t s d w (oneEach (w .schedule))
-  cuts-one-each bt s d bs bd w = cuts bt s d bs bd w (oneEach (w .schedule)) (one-each (w .schedule))
+  pub cuts-one-each : Bytes t → (s d : List ℕ) → Bytes s → Bytes d → (u : Piece) → CutAlike verdict w t s d u (oneEach (u .schedule))
+  cuts-one-each bt s d bs bd u = cuts bt s d bs bd u (oneEach (u .schedule)) (one-each (u .schedule))
 
 -- ---- among other calls
 
@@ -317,14 +315,14 @@ finished-bytes s d out true n (ran l m e) h = bytes-of m 17664
 finished-bytes s d out true n Run.stuck h = h
 finished-bytes s d out false n r h = h
 
-call-bytes : (s : List ℕ) (x : Ask) → Bytes s → Bytes (stateLeft (callOf judge s x))
+call-bytes : (w : ℕ) (s : List ℕ) (x : Ask) → Bytes s → Bytes (stateLeft (callOf verdict w s x))
 unfolding callOf runCall
-call-bytes s x h = finished-bytes s (x .page) (x .answers) (eqb (runRefusal judge (x .table) s (x .page) (x .schedule) (x .answers)) 0) _ _ h
+call-bytes w s x h = finished-bytes s (x .page) (x .answers) (eqb (runRefusal verdict w (x .table) s (x .page) (x .schedule) (x .answers)) 0) _ _ h
 
 -- wherever the call stands in a list of calls, the steps of the list are the same
-pub cuts-anywhere : (t : List ℕ) → Bytes t → (s d : List ℕ) → Bytes s → Bytes d → (w : Piece) (xs : List Piece) → endToEnd xs ≡ w .schedule
-    → (zs ys : List Ask) → history judge s (zs ++ (inTurn judge t (stateAfter judge s zs) d xs ++ ys)) ≡ history judge s (zs ++ (askOf t d w ∷ ys))
+pub cuts-anywhere : (w : ℕ) (t : List ℕ) → Bytes t → (s d : List ℕ) → Bytes s → Bytes d → (u : Piece) (xs : List Piece) → endToEnd xs ≡ u .schedule
+    → (zs ys : List Ask) → history verdict w s (zs ++ (inTurn verdict w t (stateAfter verdict w s zs) d xs ++ ys)) ≡ history verdict w s (zs ++ (askOf t d u ∷ ys))
 unfolding history stateAfter
-cuts-anywhere t bt s d bs bd w xs e [] ys = cuts t bt s d bs bd w xs e .steps ys
-cuts-anywhere t bt s d bs bd w xs e (z ∷ zs) ys =
-    ap (λ (l : List Seen). stepsOf judge s z ++ l) (cuts-anywhere t bt (stateLeft (callOf judge s z)) d (call-bytes s z bs) bd w xs e zs ys)
+cuts-anywhere w t bt s d bs bd u xs e [] ys = cuts w t bt s d bs bd u xs e .steps ys
+cuts-anywhere w t bt s d bs bd u xs e (z ∷ zs) ys =
+    ap (λ (l : List Seen). stepsOf verdict w s z ++ l) (cuts-anywhere w t bt (stateLeft (callOf verdict w s z)) d (call-bytes w s z bs) bd u xs e zs ys)

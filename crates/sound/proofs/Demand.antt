@@ -117,90 +117,90 @@ lasts T s [] t h = tt
 lasts T s (e ∷ es) t h =
     (λ l. all-failed T (e .after) es (e .answer) l (step-mark T e (h .0) l) (t .1) (h .1), lasts T (e .after) es (t .1) (h .1))
 
-module _ (verdict : List ℕ → ℕ)
-    (accepted : (t : List ℕ) → verdict t ≡ 0 → Accepted (tableOf 1 t))
+module _ (verdict : ℕ → List ℕ → ℕ) (w : ℕ)
+    (accepted : (t : List ℕ) → verdict w t ≡ 0 → Accepted (tableOf w t))
     (sound : (T : Table) → Accepted T → WordTable T → StepLaws T)
     (begun : (T : Table) → Accepted T → rule T (begin T) ≡ true) where
   -- a begin that is not refused has an accepted table
-  begun-verdict : (t slice : List ℕ) → begunResult (beginCall verdict t slice) ≡ 0 → verdict t ≡ 0
+  begun-verdict : (t slice : List ℕ) → begunResult (beginCall verdict w t slice) ≡ 0 → verdict w t ≡ 0
   unfolding beginCall begunResult beginRefusal
   begun-verdict t slice e =
-      cases (eqb (beginRefusal verdict t slice) 0)
-      (λ z. zero-test (eqb (length slice) 35328) (verdict t) 1 (λ x. omega-one x) (eqb-true _ 0 z) .1)
+      cases (eqb (beginRefusal verdict w t slice) 0)
+      (λ z. zero-test (eqb (length slice) 35328) (verdict w t) 1 (λ x. omega-one x) (eqb-true _ 0 z) .1)
       (λ z. absurd (eqb-false _ 0 z (rw z at e)))
     where
       omega-one : _≡_ {A = ℕ} 1 0 → ⊥
       omega-one x = absurd (eqb-false 1 0 refl x)
 
-  module _ (h : History verdict) where
-    good : Accepted (tableOf 1 (h .table))
+  module _ (h : History verdict w) where
+    good : Accepted (tableOf w (h .table))
     good = accepted (h .table) (begun-verdict (h .table) (h .slice) (h .begins))
 
-    laws : StepLaws (tableOf 1 (h .table))
-    laws = sound (tableOf 1 (h .table)) good (word-table 1 (h .table) (h .bytes))
+    laws : StepLaws (tableOf w (h .table))
+    laws = sound (tableOf w (h .table)) good (word-table w (h .table) (h .bytes))
 
-    begin-law : BeginLaw (tableOf 1 (h .table))
-    begin-law = begin-reached (tableOf 1 (h .table)) good (word-table 1 (h .table) (h .bytes)) (begun (tableOf 1 (h .table)) good)
+    begin-law : BeginLaw (tableOf w (h .table))
+    begin-law = begin-reached (tableOf w (h .table)) good (word-table w (h .table) (h .bytes)) (begun (tableOf w (h .table)) good)
 
-    at-first : At (tableOf 1 (h .table)) (first verdict h)
-    at-first = at-begin verdict (h .table) laws (h .slice) begin-law (h .begins)
+    at-first : At (tableOf w (h .table)) (first verdict w h)
+    at-first = at-begin verdict w (h .table) laws (h .slice) begin-law (h .begins)
 
     -- runs begun alike begin with the same state, whatever slices they fill
-    same-first : (k : History verdict) → k .table ≡ h .table → first verdict k ≡ first verdict h
+    same-first : (k : History verdict w) → k .table ≡ h .table → first verdict w k ≡ first verdict w h
     same-first k e =
-        begun-at verdict (k .table) (rw e laws) (k .slice) (rw e begin-law) (k .begins)
-        ∙ rw e (sym (begun-at verdict (h .table) laws (h .slice) begin-law (h .begins)))
+        begun-at verdict w (k .table) (rw e laws) (k .slice) (rw e begin-law) (k .begins)
+        ∙ rw e (sym (begun-at verdict w (h .table) laws (h .slice) begin-law (h .begins)))
 
-    agree : (k : History verdict) → k .table ≡ h .table → (n : ℕ) → take n (asked (steps verdict k)) ≡ take n (asked (steps verdict h))
-        → take n (told (steps verdict k)) ≡ take n (told (steps verdict h))
+    agree : (k : History verdict w) → k .table ≡ h .table → (n : ℕ) → take n (asked (steps verdict w k)) ≡ take n (asked (steps verdict w h))
+        → take n (told (steps verdict w k)) ≡ take n (told (steps verdict w h))
     agree k e n q =
         let s = same-first k e in
-        let c : Calls verdict (h .table) (first verdict h) (k .calls) = rw (s, e) at (k .fits) in
-        rw s (same-told verdict (h .table) laws (first verdict h) (k .calls) (h .calls) at-first c (h .fits) n (rw s at q))
+        let c : Calls verdict w (h .table) (first verdict w h) (k .calls) = rw (s, e) at (k .fits) in
+        rw s (same-told verdict w (h .table) laws (first verdict w h) (k .calls) (h .calls) at-first c (h .fits) n (rw s at q))
 
-    first-memory : memoryOf (first verdict h) ≡ begin (tableOf 1 (h .table))
+    first-memory : memoryOf (first verdict w h) ≡ begin (tableOf w (h .table))
     first-memory =
-        ap memoryOf (begun-at verdict (h .table) laws (h .slice) begin-law (h .begins)) ∙ state-memory _ _ (begin-law .reached)
+        ap memoryOf (begun-at verdict w (h .table) laws (h .slice) begin-law (h .begins)) ∙ state-memory _ _ (begin-law .reached)
 
-    module _ (t : Threaded (first verdict h) (steps verdict h)) (every : Every (StepHolds (tableOf 1 (h .table))) (steps verdict h)) where
-      each-creates : Every (CreatedIn (tableOf 1 (h .table))) (steps verdict h)
+    module _ (t : Threaded (first verdict w h) (steps verdict w h)) (every : Every (StepHolds (tableOf w (h .table))) (steps verdict w h)) where
+      each-creates : Every (CreatedIn (tableOf w (h .table))) (steps verdict w h)
       each-creates = every-map _ _ (λ e k. k .created) _ every
 
-      count-is : (es fs : List Seen) → es ++ fs ≡ steps verdict h → memoryOf (finally (first verdict h) es) createdAt ≡ 1 + creations (tableOf 1 (h .table)) es
+      count-is : (es fs : List Seen) → es ++ fs ≡ steps verdict w h → memoryOf (finally (first verdict w h) es) createdAt ≡ 1 + creations (tableOf w (h .table)) es
       count-is es fs e =
-          created-count (tableOf 1 (h .table)) (first verdict h) es fs (rw e t) (rw e each-creates)
-          ∙ ap (λ n. n + creations (tableOf 1 (h .table)) es) (ap (λ (m : Memory). m createdAt) first-memory ∙ begin-created (tableOf 1 (h .table)))
+          created-count (tableOf w (h .table)) (first verdict w h) es fs (rw e t) (rw e each-creates)
+          ∙ ap (λ n. n + creations (tableOf w (h .table)) es) (ap (λ (m : Memory). m createdAt) first-memory ∙ begin-created (tableOf w (h .table)))
 
-      no-mark : (es fs : List Seen) → es ++ fs ≡ steps verdict h → Every (λ e. e .answer < 16) es → memoryOf (finally (first verdict h) es) failureAt ≡ 0
+      no-mark : (es fs : List Seen) → es ++ fs ≡ steps verdict w h → Every (λ e. e .answer < 16) es → memoryOf (finally (first verdict w h) es) failureAt ≡ 0
       no-mark es fs e k =
-          mark-zero (tableOf 1 (h .table)) (first verdict h) es fs (rw e t) (rw e each-creates) k
-          (ap (λ (m : Memory). m failureAt) first-memory ∙ begin-mark (tableOf 1 (h .table)))
+          mark-zero (tableOf w (h .table)) (first verdict w h) es fs (rw e t) (rw e each-creates) k
+          (ap (λ (m : Memory). m failureAt) first-memory ∙ begin-mark (tableOf w (h .table)))
 
-      stay : (es fs gs : List Seen) → es ++ (fs ++ gs) ≡ steps verdict h → ProcessesKept (memoryOf (finally (first verdict h) es)) (memoryOf (finally (first verdict h) (es ++ fs)))
-      stay es fs gs e = created-kept (tableOf 1 (h .table)) (first verdict h) es fs gs (rw e t) (rw e each-creates)
+      stay : (es fs gs : List Seen) → es ++ (fs ++ gs) ≡ steps verdict w h → ProcessesKept (memoryOf (finally (first verdict w h) es)) (memoryOf (finally (first verdict w h) (es ++ fs)))
+      stay es fs gs e = created-kept (tableOf w (h .table)) (first verdict w h) es fs gs (rw e t) (rw e each-creates)
 
-      unended-calls : (es fs : List Seen) → es ++ fs ≡ steps verdict h → (p : ℕ) → openCalls (memoryOf (finally (first verdict h) es)) p ≡ callsMade (tableOf 1 (h .table)) p [] es
+      unended-calls : (es fs : List Seen) → es ++ fs ≡ steps verdict w h → (p : ℕ) → openCalls (memoryOf (finally (first verdict w h) es)) p ≡ callsMade (tableOf w (h .table)) p [] es
       unended-calls es fs e p =
-          calls-made (tableOf 1 (h .table)) p (first verdict h) es fs (rw e t) (rw e (every-map _ _ (λ e k. k .calls) _ every))
-          ∙ ap (λ cs. callsMade (tableOf 1 (h .table)) p cs es) (ap (λ (m : Memory). openCalls m p) first-memory ∙ begin-none (tableOf 1 (h .table)) p)
+          calls-made (tableOf w (h .table)) p (first verdict w h) es fs (rw e t) (rw e (every-map _ _ (λ e k. k .calls) _ every))
+          ∙ ap (λ cs. callsMade (tableOf w (h .table)) p cs es) (ap (λ (m : Memory). openCalls m p) first-memory ∙ begin-none (tableOf w (h .table)) p)
 
     -- THE THEOREM
-    pub demand3 : Demand3 verdict h
+    pub demand3 : Demand3 verdict w h
     demand3 =
-        let f = follows verdict (h .table) laws (first verdict h) (h .calls) at-first (h .fits) in
-        let every = every-map _ _ (step-holds (tableOf 1 (h .table)) good laws) _ (f .course .every) in
+        let f = follows verdict w (h .table) laws (first verdict w h) (h .calls) at-first (h .fits) in
+        let every = every-map _ _ (step-holds (tableOf w (h .table)) good laws) _ (f .course .every) in
         record {
           begins = reached-values _ _ (at-memory _ _ at-first);
-          served = served verdict (h .table) laws (first verdict h) (h .calls) (begun-verdict (h .table) (h .slice) (h .begins)) at-first (h .fits);
+          served = served verdict w (h .table) laws (first verdict w h) (h .calls) (begun-verdict (h .table) (h .slice) (h .begins)) at-first (h .fits);
           named = f .named;
           answered = f .answered;
           threaded = f .course .threaded;
-          handed = handed verdict (h .table) laws (first verdict h) (h .calls) at-first (h .fits);
+          handed = handed verdict w (h .table) laws (first verdict w h) (h .calls) at-first (h .fits);
           holds = every;
-          lasting = lasts (tableOf 1 (h .table)) _ _ (f .course .threaded) every;
+          lasting = lasts (tableOf w (h .table)) _ _ (f .course .threaded) every;
           unfailed = no-mark (f .course .threaded) every;
           last = f .course .last;
-          program = ap (λ (m : Memory). m (moduleAt 1)) first-memory ∙ begin-block (tableOf 1 (h .table));
+          program = ap (λ (m : Memory). m (moduleAt 1)) first-memory ∙ begin-block (tableOf w (h .table));
           created = count-is (f .course .threaded) every;
           kept = stay (f .course .threaded) every;
           unended = unended-calls (f .course .threaded) every;

@@ -35,8 +35,8 @@ use Rattle.sound.specs.Reached.{WordTable}
 use Rattle.sound.specs.Evaluated.{SmallWords, Live, GoodNode, Scoping, Bound, unbound, by-value, by-place, GoodArguments, the-words, no-words}
 use Rattle.sound.proofs.EvaluationBasics.{on-need, on-place, on-value}
 use Rattle.sound.proofs.EvaluationTypes.{matches-sym}
-use Rattle.sound.proofs.StoresBlocks.{plain-words, bound-words}
 use Rattle.sound.proofs.EvaluationNodes.{node-good}
+use Rattle.sound.proofs.ValueBlocks.{words-value, words-var}
 
 -- ---- the words of parameters
 
@@ -61,13 +61,13 @@ module _ (T : Table) (m : Memory) (p : ℕ) where
   bound-length _ v _ (by-value {k} us {ws} n u s b) =
       let a = bound-length k (v + 1) ws b in
       let c = u .long in
-      let d = plain-words T v n in
+      let d = words-value T v n in
       let e = words-first T v k in
       let f = length-append us ws in
       omega arith
   bound-length _ v _ (by-place {k} a {ws} n u b) =
       let c = bound-length k (v + 1) ws b in
-      let d = bound-words T v n in
+      let d = words-var T v n in
       let e = words-first T v k in
       omega arith
 
@@ -139,14 +139,14 @@ module _ (T : Table) (m : Memory) (p : ℕ) where
         let x : v + suc i ≡ v + 1 + i = omega arith in
         let y = words-first T v i in
         let z = u .long in
-        let w = plain-words T v c in
+        let w = words-value T v c in
         let q : a + wordsFrom T v (suc i) ≡ a + length us + wordsFrom T (v + 1) i = omega arith in
         rw (x, q) (bound-value k (v + 1) (a + length us) i ws b (stands-back n a us ws h) (omega arith) (rw x at e))
     bound-value _ v a zero _ (by-place {k} j {ws} c u b) h l e = absurd (e (rw add-zero c))
     bound-value _ v a (suc i) _ (by-place {k} j {ws} c u b) h l e =
         let x : v + suc i ≡ v + 1 + i = omega arith in
         let y = words-first T v i in
-        let w = bound-words T v c in
+        let w = words-var T v c in
         let q : a + wordsFrom T v (suc i) ≡ a + 1 + wordsFrom T (v + 1) i = omega arith in
         rw (x, q) (bound-value k (v + 1) (a + 1) i ws b (stands-back n a (j ∷ []) ws h) (omega arith) (rw x at e))
 
@@ -159,7 +159,7 @@ module _ (T : Table) (m : Memory) (p : ℕ) where
       let x : v + suc i ≡ v + 1 + i = omega arith in
       let y = words-first T v i in
       let z = u .long in
-      let w = plain-words T v c in
+      let w = words-value T v c in
       let q : a + wordsFrom T v (suc i) ≡ a + length us + wordsFrom T (v + 1) i = omega arith in
       rw (x, q) (bound-place n k (v + 1) (a + length us) i ws b (stands-back n a us ws h) (omega arith) (rw x at e))
   bound-place n _ v a zero _ (by-place {k} j {ws} c u b) h l e =
@@ -167,16 +167,12 @@ module _ (T : Table) (m : Memory) (p : ℕ) where
   bound-place n _ v a (suc i) _ (by-place {k} j {ws} c u b) h l e =
       let x : v + suc i ≡ v + 1 + i = omega arith in
       let y = words-first T v i in
-      let w = bound-words T v c in
+      let w = words-var T v c in
       let q : a + wordsFrom T v (suc i) ≡ a + 1 + wordsFrom T (v + 1) i = omega arith in
       rw (x, q) (bound-place n k (v + 1) (a + 1) i ws b (stands-back n a (j ∷ []) ws h) (omega arith) (rw x at e))
 
 -- the parameters of block q: their words begin its frame
 module _ (T : Table) (acc : Accepted T) (m : Memory) (p q : ℕ) (there : q < blockCount T) (ws : List ℕ) (b : Bound T m p (params T q) (firstVar T q) ws) where
-  pub arguments-length : length ws ≡ firstWords T q (params T q)
-  unfolding firstWords
-  arguments-length = bound-length T m p (params T q) (firstVar T q) ws b
-
   pub arguments-fit : length ws ≤ frameWords T q
   unfolding frameWords firstWords
   arguments-fit =

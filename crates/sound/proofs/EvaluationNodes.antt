@@ -26,13 +26,13 @@ use Rattle.machine.specs.Outcomes.{Outcome, stuck, Operand, value, wordOf}
 use Rattle.machine.specs.Entries.{whole, nodeOf, nodeAt}
 use Rattle.machine.specs.Context.{contextOf, blockOf}
 use Rattle.machine.specs.Operands.{onRecord, onArray, outside, placeAt, fieldPlace, elementPlace, nodeOperand, operandAt, operand}
+use Rattle.machine.proofs.Entries.{at-record, at-array}
 use Rattle.verdict.specs.Accepted.{Accepted}
 use Rattle.sound.specs.Claims.{PlaceLaws, Small}
 use Rattle.sound.specs.Ruled.{Ruled}
 use Rattle.sound.specs.Reached.{WordTable}
 use Rattle.sound.specs.Evaluated.{Live, GoodPlace, no-place, GoodValue, a-value, no-value, GoodNode, Scoping}
 use Rattle.sound.proofs.EvaluationBasics.{on-need, on-fail, on-place, on-value, on-word}
-use Rattle.sound.proofs.ValueTypes.{at-record, at-array}
 use Rattle.sound.proofs.EvaluationTypes.{node-is, constant-type, whole-type, transfer-type, field-type, element-type, value-type, unary-type, binary-type, word-small, words-small, declared-small}
 use Rattle.sound.proofs.EvaluationVariables.{whole-good, place-good}
 use Rattle.sound.proofs.EvaluationOperators.{constant-good, transfer-good, unary-good, binary-good, index-low, index-high}

@@ -7,7 +7,7 @@ use native.Mathlib.Nat.{zero-add}
 use lib.Dec.{eqb, leb}
 use borrow.Author.Tests.{leb-true, le-leb}
 use Rattle.basics.specs.Choice.{both}
-use Rattle.basics.proofs.Bools.{both-l, both-r, both-i}
+use Rattle.basics.proofs.Bools.{both-l, both-r, both-i, either-l, either-r, either-case}
 use Rattle.table.specs.Table.{Table}
 use Rattle.table.specs.Entries.{typeCount, blockCount, varType, fieldType, firstVar}
 use Rattle.types.specs.Match.{elements}
@@ -19,13 +19,14 @@ use Rattle.machine.specs.Variables.{offsetOf, fits}
 use Rattle.machine.specs.Values.{part, partOfBlock}
 use Rattle.machine.specs.Step.{inRange}
 use Rattle.machine.specs.Rule.{isCreated, owns, lives}
+use Rattle.machine.proofs.Tests.{range-low, range-high}
 use Rattle.verdict.specs.Accepted.{Accepted}
 use Rattle.sound.specs.Claims.{PlaceLaws}
 use Rattle.sound.specs.Ruled.{Chained, bottom, called, Ruled}
 use Rattle.sound.specs.Evaluated.{Live}
-use Rattle.sound.proofs.Ruled.{either-l, either-r, either-case, range-low, range-high, block-there}
-use Rattle.sound.proofs.StoresBlocks.{plain-words, variable-type, part-of, part-of-i}
+use Rattle.sound.proofs.Ruled.{block-there}
 use Rattle.sound.proofs.EvaluationVariables.{live}
+use Rattle.sound.proofs.ValueBlocks.{words-value, variable-type, in-block, block-i}
 
 -- wherever a part of type σ begins, one of type τ begins k words further on
 pub record Further (T : Table) (σ τ k : ℕ) : Type 0 where
@@ -43,17 +44,17 @@ module _ (T : Table) (acc : Accepted T) (L : PlaceLaws T) (σ τ k : ℕ) (t : �
 
   further-block : (b j : ℕ) → b < blockCount T → partOfBlock T b σ j ≡ true → partOfBlock T b τ (j + k) ≡ true
   further-block b j there e =
-      let r = part-of T b σ j e in
+      let r = in-block T b σ j e in
       let v : ℕ = firstVar T b + r .i in
       let l = r .from in
-      let y = variable-type T acc b there (r .i) (r .below) in
+      let y = variable-type T acc b there (r .i) (r .there) in
       let z : j + k - offsetOf T b v ≡ j - offsetOf T b v + k = omega arith in
-      let g = F .on (varType T v) (j - offsetOf T b v) y (r .begins) in
+      let g = F .on (varType T v) (j - offsetOf T b v) y (r .part) in
       let i = L .part-in τ (varType T v) (j - offsetOf T b v + k) y g in
       let h = i .1 in
       let w = L .some-words τ (i .0) in
-      let u = plain-words T v (r .plain) in
-      part-of-i T b τ (j + k) (r .i) (r .below) (r .plain) (omega arith) (omega arith) (rw z g)
+      let u = words-value T v (r .mode) in
+      block-i T b τ (j + k) (record { i = r .i; there = r .there; mode = r .mode; from = omega arith; part = rw z g }) (omega arith)
 
   further-owns : (m : Memory) (p d f w c top j : ℕ) → Chained T m p d f w c top → owns T m p d f σ j ≡ true → owns T m p d f τ (j + k) ≡ true
   unfolding owns

@@ -7,52 +7,37 @@ use native.Mathlib.Nat.{zero-add}
 use lib.Dec.{eqb, leb}
 use borrow.Author.Tests.{eqb-true, leb-true, le-leb, lt-ltb}
 use Rattle.basics.specs.Choice.{both}
-use Rattle.basics.proofs.Bools.{no-true, both-l, both-r, both-i}
+use Rattle.basics.proofs.Bools.{no-true, both-l, both-r, both-i, either-case}
 use Rattle.table.specs.Table.{Table}
 use Rattle.table.specs.Entries.{typeCount, blockCount, varMode, varType, firstVar, vars}
 use Rattle.sizes.specs.Sizes.{wordsOf}
 use Rattle.machine.specs.Memory.{Memory}
 use Rattle.machine.specs.Layout.{location, moduleAt, createdAt, callerFrame, callStatement, callerWorks, calledBlock}
-use Rattle.machine.specs.Variables.{frameWords, offsetOf, fits}
+use Rattle.machine.specs.Variables.{offsetOf, fits}
 use Rattle.machine.specs.Values.{holds, partOfBlock}
 use Rattle.machine.specs.Step.{inRange}
 use Rattle.machine.specs.Rule.{isCreated, owns, lives}
+use Rattle.machine.proofs.Tests.{range-low, range-high}
 use Rattle.verdict.specs.Accepted.{Accepted}
 use Rattle.sound.specs.Claims.{PlaceLaws}
-use Rattle.sound.specs.Ruled.{Framed, Chained, bottom, called, Ruled, PartOf}
-use Rattle.sound.proofs.Ruled.{either-case, range-low, range-high, block-there, block-kind}
+use Rattle.sound.specs.Ruled.{Framed, Chained, bottom, called, Ruled}
+use Rattle.sound.proofs.Ruled.{block-there, block-kind}
 use Rattle.sound.proofs.StoresMemory.{location-add, location-of}
-use Rattle.sound.proofs.StoresBlocks.{variable-in, plain-words, variable-type, module-fits, part-of, part-of-i}
+use Rattle.sound.proofs.StoresBlocks.{module-fits}
 use Rattle.sound.proofs.EvaluationBasics.{location-area, location-word}
+use Rattle.sound.proofs.ValueBlocks.{words-value, variable-type, in-block, block-i, block-in}
 
 -- ---- parts of the variables of a block
 
 module _ (T : Table) (ok : Accepted T) (L : PlaceLaws T) (b : ℕ) (there : b < blockCount T) where
-  -- such a part lies among them
-  part-type : (τ k : ℕ) (r : PartOf T b τ k) → (τ < 3 + typeCount T) × (k + wordsOf T τ ≤ frameWords T b)
-  part-type τ k r =
-      let v : ℕ = firstVar T b + r .i in
-      let i = L .part-in τ (varType T v) (k - offsetOf T b v) (variable-type T ok b there (r .i) (r .below)) (r .begins) in
-      let a = variable-in T b (r .i) (r .below) in
-      let e = plain-words T v (r .plain) in
-      let g = r .from in
-      let h = i .1 in
-      (i .0, omega arith)
-
-  pub part-known : (τ k : ℕ) → partOfBlock T b τ k ≡ true → τ < 3 + typeCount T
-  part-known τ k e = part-type τ k (part-of T b τ k e) .0
-
-  pub part-inside : (τ k : ℕ) → partOfBlock T b τ k ≡ true → k + wordsOf T τ ≤ frameWords T b
-  part-inside τ k e = part-type τ k (part-of T b τ k e) .1
-
   -- it holds a value where its variable does
   pub part-value : (m : Memory) (p f τ k : ℕ) → ((i : ℕ) → i < vars T b → (varMode T (firstVar T b + i) ≡ 2 → ⊥) → holds T m (varType T (firstVar T b + i)) (location p (f + offsetOf T b (firstVar T b + i))) ≡ true)
       → partOfBlock T b τ k ≡ true → holds T m τ (location p (f + k)) ≡ true
   part-value m p f τ k h e =
-      let r = part-of T b τ k e in
+      let r = in-block T b τ k e in
       let v : ℕ = firstVar T b + r .i in
       let g = r .from in
-      let x = L .part-holds m τ (varType T v) (location p (f + offsetOf T b v)) (k - offsetOf T b v) (variable-type T ok b there (r .i) (r .below)) (h (r .i) (r .below) (r .plain)) (r .begins) in
+      let x = L .part-holds m τ (varType T v) (location p (f + offsetOf T b v)) (k - offsetOf T b v) (variable-type T ok b there (r .i) (r .there)) (h (r .i) (r .there) (r .mode)) (r .part) in
       let y : location p (f + offsetOf T b v) + (k - offsetOf T b v) ≡ location p (f + k) = location-add p (f + offsetOf T b v) (k - offsetOf T b v) ∙ ap (location p) (omega arith) in
       rw y at x
 
@@ -61,9 +46,9 @@ module _ (T : Table) (ok : Accepted T) (L : PlaceLaws T) (b : ℕ) (there : b < 
   whole-part i l n =
       let v : ℕ = firstVar T b + i in
       let w = L .some-words (varType T v) (variable-type T ok b there i l) in
-      let e = plain-words T v n in
+      let e = words-value T v n in
       let z : offsetOf T b v - offsetOf T b v ≡ 0 = omega arith in
-      part-of-i T b (varType T v) (offsetOf T b v) i l n (omega arith) (omega arith) (rw z (L .part-self (varType T v)))
+      block-i T b (varType T v) (offsetOf T b v) (record { i = i; there = l; mode = n; from = omega arith; part = rw z (L .part-self (varType T v)) }) (omega arith)
 
 -- ---- live places
 
@@ -95,20 +80,20 @@ module _ (T : Table) (ok : Accepted T) (L : PlaceLaws T) (m : Memory) (R : Ruled
     pub module-housed : (τ k : ℕ) → partOfBlock T (m (moduleAt p)) τ k ≡ true → Housed T m τ (location p k)
     module-housed τ k e =
         let b : ℕ = m (moduleAt p) in
-        let i = part-inside T ok L b there τ k e in
+        let i = block-in T ok b there τ k e .1 in
         let f = module-fits T ok b there (block-kind T ok m p (R .process p some made)) in
         let v : holds T m τ (location p (0 + k)) ≡ true = part-value T ok L b there m p 0 τ k (λ j l n. rw zero-add (R .process p some made .variables j l)) e in
-        housed τ k (part-known T ok L b there τ k e) (omega arith) (rw zero-add at v)
+        housed τ k (block-in T ok b there τ k e .0) (omega arith) (rw zero-add at v)
 
     frame-housed : (d f w c top τ k : ℕ) → Framed T m p d f w c top (calledBlock m p f) → f + 4 ≤ k → partOfBlock T (calledBlock m p f) τ (k - (f + 4)) ≡ true → Housed T m τ (location p k)
     frame-housed d f w c top τ k F g e =
         let q : ℕ = calledBlock m p f in
-        let i = part-inside T ok L q (F .there) τ (k - (f + 4)) e in
+        let i = block-in T ok q (F .there) τ (k - (f + 4)) e .1 in
         let n = F .ends in
         let t = F .fits in
         let z : f + 4 + (k - (f + 4)) ≡ k = omega arith in
         let v : holds T m τ (location p (f + 4 + (k - (f + 4)))) ≡ true = part-value T ok L q (F .there) m p (f + 4) τ (k - (f + 4)) (F .values) e in
-        housed τ k (part-known T ok L q (F .there) τ (k - (f + 4)) e) (omega arith) (rw z at v)
+        housed τ k (block-in T ok q (F .there) τ (k - (f + 4)) e .0) (omega arith) (rw z at v)
 
     owned-housed : (d f w c top τ k : ℕ) → Chained T m p d f w c top → owns T m p d f τ k ≡ true → Housed T m τ (location p k)
     unfolding owns

@@ -17,9 +17,9 @@ use Rattle.scopes.proofs.Promise.{Among}
 use Rattle.scopes.proofs.Promise as scopes
 use Rattle.machine.specs.Variables.{belongs}
 use Rattle.machine.specs.Rule.{liesIn}
+use Rattle.machine.proofs.Memories.{within-yes}
 use Rattle.verdict.specs.Accepted.{Accepted}
 use Rattle.sound.specs.Evaluated.{Scoping, Scoped}
-use Rattle.sound.proofs.StoresBlocks.{within-i}
 use Rattle.sound.proofs.EvaluationPerforms.{lies-of}
 
 module _ (T : Table) (acc : Accepted T) where
@@ -28,7 +28,7 @@ module _ (T : Table) (acc : Accepted T) where
   among-belongs b x l a =
       let v = vars-there T (acc .numbers) b l in
       let h = a .high in
-      both-i _ _ (lt-ltb x (varCount T) (omega arith)) (within-i (firstVar T b) (vars T b) x (a .low) h)
+      both-i _ _ (lt-ltb x (varCount T) (omega arith)) (within-yes (firstVar T b) (vars T b) x (a .low) h)
 
   module _ (b : ℕ) (there : b < blockCount T) where
     -- the nodes in the scope of block b

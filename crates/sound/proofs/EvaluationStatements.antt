@@ -9,7 +9,7 @@ use lib.Dec.{eqb, leb, ltb}
 use borrow.Author.Tests.{eqb-true, eqb-false, ltb-false, lt-ltb, le-leb, eq-eqb, not-true, not-false}
 use Rattle.basics.specs.Choice.{pick, both, either, cases}
 use Rattle.basics.specs.Course.{course}
-use Rattle.basics.proofs.Bools.{both-l, both-r, both-i}
+use Rattle.basics.proofs.Bools.{both-l, both-r, both-i, either-case}
 use Rattle.table.specs.Table.{Table}
 use Rattle.table.specs.Entries.{blockCount, argCount, nodeCount, stmtCount, typeKind, typeP, blockKind, owner, firstVar, params, argNode, stmtKind, stmtA, stmtB, stmtC, stmtD, stmtLink}
 use Rattle.types.specs.Types.{typeOf}
@@ -31,6 +31,7 @@ use Rattle.machine.specs.Operands.{operand}
 use Rattle.machine.specs.Calls.{arguments, topAfter, pushed, call}
 use Rattle.machine.specs.Statements.{Effect, effect, goTo, goOn, wait, moved, doAssign, doLocalCall, free, doProcessCall, doCreate, doStart, doWrite, perform}
 use Rattle.machine.specs.Rule as state
+use Rattle.machine.proofs.Entries.{at-process}
 use Rattle.words.specs.Numbers.{intOf}
 use Rattle.words.specs.Devices.{isDevice}
 use Rattle.verdict.specs.Accepted.{Accepted}
@@ -38,22 +39,17 @@ use Rattle.sound.specs.Claims.{PlaceLaws, Small}
 use Rattle.sound.specs.Ruled.{Ruled}
 use Rattle.sound.specs.Reached.{WordTable}
 use Rattle.sound.specs.Evaluated.{Live, GoodPlace, GoodValue, Scoping, Bound, GoodArguments, the-words, no-words, Performed, assigns, calls, serves, waits, creates, starts, writes, fails}
-use Rattle.sound.proofs.Ruled.{either-case}
 use Rattle.sound.proofs.EvaluationBasics.{on-need, on-fail, on-place, on-value, on-word}
-use Rattle.sound.proofs.ValueTypes.{at-process}
 use Rattle.sound.proofs.EvaluationTypes.{word-small}
 use Rattle.sound.proofs.StoresBlocks.{module-fits}
 use Rattle.sound.proofs.StoresCalls.{chain-depth}
 use Rattle.sound.proofs.EvaluationNodes.{node-good}
 use Rattle.sound.proofs.EvaluationArguments.{arguments-good, arguments-fit}
+use Rattle.sound.proofs.Ruled.{procedure-i}
 
 pub stmt-is : (T : Table) (i k : ℕ) → i < stmtCount T → stmtKind T i ≡ k → stmtAt T i ≡ statementOf k (stmtA T i) (stmtB T i) (stmtC T i) (stmtD T i) (stmtLink T i)
 unfolding stmtAt
 stmt-is T i k l e = rw (lt-ltb i (stmtCount T) l, e)
-
-procedure-i : (T : Table) (q : ℕ) → q < blockCount T → blockKind T q ≡ 2 → isProcedure T q ≡ true
-unfolding isProcedure
-procedure-i T q l e = both-i _ _ (lt-ltb q (blockCount T) l) (eq-eqb (blockKind T q) 2 e)
 
 -- a live reference is empty, or names a created process of its module
 pub reference : (T : Table) (m : Memory) (p τ a : ℕ) → Live T m p τ a → typeKind T τ ≡ 3 → (m a ≡ 0 → ⊥) → refers m (typeP T τ) (m a) ≡ true

@@ -27,13 +27,15 @@ use Rattle.machine.specs.Statements.{Effect, effect, perform}
 use Rattle.machine.specs.Step.{settled, inRange, answers, proceeds, exists, turn, step}
 use Rattle.machine.specs.Step as steps
 use Rattle.machine.specs.Rule.{liesIn, rule}
+use Rattle.machine.proofs.Tests.{range-low, range-high, range-i}
+use Rattle.machine.proofs.Entries.{at-process}
 use Rattle.verdict.specs.Accepted.{Accepted}
 use Rattle.sound.specs.Claims.{PlaceLaws, Started, Small, Listed, regular, failure, Sound}
 use Rattle.sound.specs.Ruled.{Ruled, Calling}
 use Rattle.sound.specs.Ruled as called
 use Rattle.sound.specs.Reached.{WordTable}
 use Rattle.sound.specs.Evaluated.{SmallWords, Live, Pushable, Performed, goes, holds-on, gives-up, assigns, calls, serves, waits, creates, starts, writes, ends, returns, fails}
-use Rattle.sound.proofs.Ruled.{range-low, range-high, range-i, ruled, stands, contexts}
+use Rattle.sound.proofs.Ruled.{ruled, stands, contexts}
 use Rattle.sound.proofs.StoresMemory.{update-small, store-small}
 use Rattle.sound.proofs.StoresStanding.{stand-small}
 use Rattle.sound.proofs.StoresChains.{created-low, created-high, created-i}
@@ -43,7 +45,6 @@ use Rattle.sound.proofs.StoresSteps.{assign-rule, enter-rule, wait-rule
 use Rattle.sound.proofs.StoresPushes.{local-call-rule, process-call-rule}
 use Rattle.sound.proofs.StoresCreated.{create-rule, created-small, created-refers}
 use Rattle.sound.proofs.StoresStarted.{start-rule}
-use Rattle.sound.proofs.ValueTypes.{at-process}
 use Rattle.sound.proofs.EvaluationTypes.{declared-small}
 use Rattle.sound.proofs.ValueWords.{reference-value}
 use Rattle.sound.proofs.ValueStores.{place-laws}

@@ -6,7 +6,7 @@ use native.Mathlib.Omega.{arith}
 use lib.Dec.{eqb, leb, ltb}
 use borrow.Author.Tests.{eqb-true, eqb-false, le-leb, lt-ltb, eq-eqb}
 use Rattle.basics.specs.Choice.{both, either, cases}
-use Rattle.basics.proofs.Bools.{no-true, both-r, both-i}
+use Rattle.basics.proofs.Bools.{no-true, both-r, both-i, either-l, either-r}
 use Rattle.table.specs.Table.{Table}
 use Rattle.table.specs.Entries.{varCount, blockCount, varMode, varType, owner, firstVar, vars}
 use Rattle.numbers.proofs.TypePromise.{var-type}
@@ -18,15 +18,18 @@ use Rattle.machine.specs.Values.{partOfBlock}
 use Rattle.machine.specs.Context.{contextOf, blockOf}
 use Rattle.machine.specs.Operands.{placeAt, moduleVariable, frameVariable, wholePlace}
 use Rattle.machine.specs.Rule.{isCreated, owns, lives}
+use Rattle.machine.proofs.Tests.{range-i}
+use Rattle.machine.proofs.Memories.{within-from, within-to}
 use Rattle.verdict.specs.Accepted.{Accepted}
 use Rattle.sound.specs.Claims.{PlaceLaws}
 use Rattle.sound.specs.Ruled.{Framed, Chained, bottom, called, Ruled, Standing}
 use Rattle.sound.specs.Evaluated.{Live, GoodPlace, at-place, no-place}
-use Rattle.sound.proofs.Ruled.{either-l, either-r, range-i, block-there, block-kind, block-owner, block-bottom, block-called, stands}
-use Rattle.sound.proofs.StoresBlocks.{within-from, within-to, variable-in, plain-words, bound-words, variable-type, module-plain, module-fits}
+use Rattle.sound.proofs.Ruled.{block-there, block-kind, block-owner, block-bottom, block-called, stands}
+use Rattle.sound.proofs.StoresBlocks.{module-plain, module-fits}
 use Rattle.sound.proofs.EvaluationBasics.{need-true, on-need, location-area, location-word}
 use Rattle.sound.proofs.ValueKnown.{known-type}
 use Rattle.sound.proofs.EvaluationPlaces.{whole-part, lives-housed}
+use Rattle.sound.proofs.ValueBlocks.{variable-in, words-value, words-var, variable-type}
 
 -- the place of a variable among those of its block
 pub record Placed (T : Table) (b v : ℕ) : Type 0 where
@@ -106,7 +109,7 @@ module _ (T : Table) (acc : Accepted T) (L : PlaceLaws T) (m : Memory) (R : Rule
     module-word =
         let b : ℕ = m (moduleAt w) in
         let a = variable-in T b i l in
-        let e = plain-words T (firstVar T b + i) mode in
+        let e = words-value T (firstVar T b + i) mode in
         let c = L .some-words (varType T (firstVar T b + i)) (variable-type T acc b there i l) in
         let g = module-fits T acc b there (block-kind T acc m w (R .process w some-w made-w)) in
         omega arith
@@ -146,7 +149,7 @@ module _ (T : Table) (acc : Accepted T) (L : PlaceLaws T) (m : Memory) (R : Rule
         let c = L .some-words (varType T variable) (variable-type T acc q (F .there) i l) in
         let n = F .ends in
         let t = F .fits in
-        let g : 1 ≤ varWords T variable = cases (eqb (varMode T variable) 2) (λ e. let z = bound-words T variable (eqb-true (varMode T variable) 2 e) in omega arith) (λ e. let z = plain-words T variable (eqb-false (varMode T variable) 2 e) in omega arith) in
+        let g : 1 ≤ varWords T variable = cases (eqb (varMode T variable) 2) (λ e. let z = words-var T variable (eqb-true (varMode T variable) 2 e) in omega arith) (λ e. let z = words-value T variable (eqb-false (varMode T variable) 2 e) in omega arith) in
         omega arith
 
     frame-live : (varMode T variable ≡ 2 → ⊥) → Live T m p (varType T variable) (location p (m (frameAt p) + 4 + offset))

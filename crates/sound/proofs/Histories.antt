@@ -16,11 +16,12 @@ use Rattle.machine.specs.Step.{Step, done, step}
 use Rattle.machine.specs.Run.{Run, ran, onDone, before, run, begin}
 use Rattle.machine.specs.Rule.{rule}
 use Rattle.machine.specs.Public.{Called, called, refusal, finished, runLengths, beginRefusal, beginCall, runRefusal, runCall}
+use Rattle.machine.proofs.Memories.{bytes-memory, length-bytes-at}
 use Rattle.sound.specs.Claims.{Listed}
 use Rattle.sound.specs.Reached.{Reached, Page, StepLaws, BeginLaw}
 use Rattle.sound.specs.Histories.{Seen, stateBytes, pageBytes, seen, trace, asked, told, processes, answers, finally, Threaded, Seeing, devicesAfter, Every, begunResult, begunState, result, stateLeft, pageLeft, answersLeft, Ask, callOf, refused, stepsOf, orderOf, writtenOf, history, order, written, Served, Devices, Handed, stateAfter, Fits, Calls, begunWith}
 use Rattle.sound.proofs.HistoriesSized.{step-sized}
-use Rattle.sound.proofs.HistoriesBytes.{bytes-memory, memory-bytes, length-bytes, memory-small, memory-sized}
+use Rattle.sound.proofs.HistoriesBytes.{memory-small, memory-sized, memory-whole}
 
 -- the steps by themselves: what is told, from what is asked
 unfoldable pub feed : Table → List ℕ → List (ℕ × List ℕ) → List (ℕ × List ℕ × List ℕ)
@@ -45,11 +46,11 @@ feed-take T s (suc n) (x ∷ xs) =
 -- the bytes of a state that steps reach, and of a page
 pub state-memory : (T : Table) (m : Memory) → Reached T m → memoryOf (stateBytes m) ≡ m
 unfolding stateBytes
-state-memory T m h = bytes-memory m 17664 (h .words) (h .sized)
+state-memory T m h = memory-whole m 17664 (h .words) (h .sized)
 
 pub page-memory : (page : Memory) → Page page → memoryOf (pageBytes page) ≡ page
 unfolding pageBytes
-page-memory page h = bytes-memory page 4096 (h .words) (h .sized)
+page-memory page h = memory-whole page 4096 (h .words) (h .sized)
 
 -- a list of steps from state s that leaves state s', as the definitions say
 pub record Course (T : Table) (P : Seen → Type 0) (s s' : List ℕ) (es : List Seen) : Type 0 where
@@ -245,34 +246,34 @@ pub record At (T : Table) (s : List ℕ) : Type 0 where
 pub at-memory : (T : Table) (s : List ℕ) → At T s → Reached T (memoryOf s)
 at-memory T s h = rw (h .is, state-memory T (h .memory) (h .reached)) (h .reached)
 
-module _ (verdict : List ℕ → ℕ) where
+module _ (verdict : ℕ → List ℕ → ℕ) (w : ℕ) where
   -- a refused call leaves what it was lent
-  pub refused-call : (s : List ℕ) (x : Ask) → refused verdict s x ≡ true → callOf verdict s x ≡ called (result (callOf verdict s x)) s (x .page) (x .answers)
+  pub refused-call : (s : List ℕ) (x : Ask) → refused verdict w s x ≡ true → callOf verdict w s x ≡ called (result (callOf verdict w s x)) s (x .page) (x .answers)
   unfolding refused callOf runCall shape
-  refused-call s x e = shape-refused s (x .page) (x .answers) (eqb (runRefusal verdict (x .table) s (x .page) (x .schedule) (x .answers)) 0) (runRefusal verdict (x .table) s (x .page) (x .schedule) (x .answers)) (run (tableOf 1 (x .table)) (x .schedule) (memoryOf s) (memoryOf (x .page))) e
+  refused-call s x e = shape-refused s (x .page) (x .answers) (eqb (runRefusal verdict w (x .table) s (x .page) (x .schedule) (x .answers)) 0) (runRefusal verdict w (x .table) s (x .page) (x .schedule) (x .answers)) (run (tableOf w (x .table)) (x .schedule) (memoryOf s) (memoryOf (x .page))) e
 
-  pub refused-same : (s : List ℕ) (x : Ask) → refused verdict s x ≡ true → stateLeft (callOf verdict s x) ≡ s
+  pub refused-same : (s : List ℕ) (x : Ask) → refused verdict w s x ≡ true → stateLeft (callOf verdict w s x) ≡ s
   unfolding stateLeft
   refused-same s x e = ap stateLeft (refused-call s x e)
 
-  pub refused-page : (s : List ℕ) (x : Ask) → refused verdict s x ≡ true → pageLeft (callOf verdict s x) ≡ x .page
+  pub refused-page : (s : List ℕ) (x : Ask) → refused verdict w s x ≡ true → pageLeft (callOf verdict w s x) ≡ x .page
   unfolding pageLeft
   refused-page s x e = ap pageLeft (refused-call s x e)
 
-  pub open-zero : (s : List ℕ) (x : Ask) → refused verdict s x ≡ false → eqb (runRefusal verdict (x .table) s (x .page) (x .schedule) (x .answers)) 0 ≡ true
+  pub open-zero : (s : List ℕ) (x : Ask) → refused verdict w s x ≡ false → eqb (runRefusal verdict w (x .table) s (x .page) (x .schedule) (x .answers)) 0 ≡ true
   unfolding refused callOf runCall shape
-  open-zero s x e = shape-open s (x .page) (x .answers) (eqb (runRefusal verdict (x .table) s (x .page) (x .schedule) (x .answers)) 0) (runRefusal verdict (x .table) s (x .page) (x .schedule) (x .answers)) (run (tableOf 1 (x .table)) (x .schedule) (memoryOf s) (memoryOf (x .page))) refl e
+  open-zero s x e = shape-open s (x .page) (x .answers) (eqb (runRefusal verdict w (x .table) s (x .page) (x .schedule) (x .answers)) 0) (runRefusal verdict w (x .table) s (x .page) (x .schedule) (x .answers)) (run (tableOf w (x .table)) (x .schedule) (memoryOf s) (memoryOf (x .page))) refl e
 
-  open-lengths : (s : List ℕ) (x : Ask) → refused verdict s x ≡ false → Lengths x
+  open-lengths : (s : List ℕ) (x : Ask) → refused verdict w s x ≡ false → Lengths x
   unfolding runRefusal runLengths
   open-lengths s x e =
-      let l = lengths-of (runLengths (length s) (length (x .page)) (length (x .schedule)) (length (x .answers))) (verdict (x .table)) (rule (tableOf 1 (x .table)) (memoryOf s)) (eqb-true _ 0 (open-zero s x e)) in
+      let l = lengths-of (runLengths (length s) (length (x .page)) (length (x .schedule)) (length (x .answers))) (verdict w (x .table)) (rule (tableOf w (x .table)) (memoryOf s)) (eqb-true _ 0 (open-zero s x e)) in
       let r = both-r _ _ l in
       record { pages = eqb-true _ _ (both-l _ _ r); room = leb-true _ _ (both-r _ _ r) }
 
   -- a call that is not refused comes to its run
-  pub open-call : (s : List ℕ) (x : Ask) (l : List ℕ) (m d : Memory) → refused verdict s x ≡ false → run (tableOf 1 (x .table)) (x .schedule) (memoryOf s) (memoryOf (x .page)) ≡ ran l m d
-      → callOf verdict s x ≡ called 0 (stateBytes m) (pageBytes d) (l ++ drop (length l) (x .answers))
+  pub open-call : (s : List ℕ) (x : Ask) (l : List ℕ) (m d : Memory) → refused verdict w s x ≡ false → run (tableOf w (x .table)) (x .schedule) (memoryOf s) (memoryOf (x .page)) ≡ ran l m d
+      → callOf verdict w s x ≡ called 0 (stateBytes m) (pageBytes d) (l ++ drop (length l) (x .answers))
   unfolding callOf runCall finished stateBytes pageBytes
   open-call s x l m d e k = rw (open-zero s x e, k)
 
@@ -283,19 +284,19 @@ module _ (verdict : List ℕ → ℕ) where
     pub named : processes es ≡ q
     pub answered : answers es ≡ l
 
-  module _ (t : List ℕ) (laws : StepLaws (tableOf 1 t)) where
-    call-refused : (s : List ℕ) (x : Ask) → At (tableOf 1 t) s → refused verdict s x ≡ true
-        → Follows (tableOf 1 t) s (stateLeft (callOf verdict s x)) (orderOf verdict s x) (writtenOf verdict s x) (stepsOf verdict s x)
+  module _ (t : List ℕ) (laws : StepLaws (tableOf w t)) where
+    call-refused : (s : List ℕ) (x : Ask) → At (tableOf w t) s → refused verdict w s x ≡ true
+        → Follows (tableOf w t) s (stateLeft (callOf verdict w s x)) (orderOf verdict w s x) (writtenOf verdict w s x) (stepsOf verdict w s x)
     unfolding orderOf writtenOf stepsOf processes answers
-    call-refused s x h e = rw (e, refused-same s x e) (record { course = course-none (tableOf 1 t) (StepOf (tableOf 1 t)) s; next = h; named = refl; answered = refl })
+    call-refused s x h e = rw (e, refused-same s x e) (record { course = course-none (tableOf w t) (StepOf (tableOf w t)) s; next = h; named = refl; answered = refl })
 
-    call-run : (s : List ℕ) (x : Ask) (m : Memory) → s ≡ stateBytes m → Reached (tableOf 1 t) m → refused verdict s x ≡ false → x .table ≡ t → Page (memoryOf (x .page))
-        → Follows (tableOf 1 t) s (stateLeft (callOf verdict s x)) (orderOf verdict s x) (writtenOf verdict s x) (stepsOf verdict s x)
+    call-run : (s : List ℕ) (x : Ask) (m : Memory) → s ≡ stateBytes m → Reached (tableOf w t) m → refused verdict w s x ≡ false → x .table ≡ t → Page (memoryOf (x .page))
+        → Follows (tableOf w t) s (stateLeft (callOf verdict w s x)) (orderOf verdict w s x) (writtenOf verdict w s x) (stepsOf verdict w s x)
     unfolding orderOf writtenOf stepsOf stateLeft answersLeft
     call-run s x m i h e k g =
-        let back : memoryOf s ≡ m = ap memoryOf i ∙ state-memory (tableOf 1 t) m h in
-        let r = traced (tableOf 1 t) laws (x .schedule) m (memoryOf (x .page)) h g in
-        let is : run (tableOf 1 (x .table)) (x .schedule) (memoryOf s) (memoryOf (x .page)) ≡ ran (r .given) (r .state) (r .devices) = rw (k, back) (r .is) in
+        let back : memoryOf s ≡ m = ap memoryOf i ∙ state-memory (tableOf w t) m h in
+        let r = traced (tableOf w t) laws (x .schedule) m (memoryOf (x .page)) h g in
+        let is : run (tableOf w (x .table)) (x .schedule) (memoryOf s) (memoryOf (x .page)) ≡ ran (r .given) (r .state) (r .devices) = rw (k, back) (r .is) in
         let c = open-call s x (r .given) (r .state) (r .devices) e is in
         rw (e, c, k, back) (record {
           course = rw i (r .course);
@@ -304,10 +305,10 @@ module _ (verdict : List ℕ → ℕ) where
           answered = r .answered ∙ sym (written-answers (r .given) (x .answers) (length (x .schedule)) (r .long));
         })
 
-    call-follows : (s : List ℕ) (x : Ask) → At (tableOf 1 t) s → Fits verdict t s x
-        → Follows (tableOf 1 t) s (stateLeft (callOf verdict s x)) (orderOf verdict s x) (writtenOf verdict s x) (stepsOf verdict s x)
+    call-follows : (s : List ℕ) (x : Ask) → At (tableOf w t) s → Fits verdict w t s x
+        → Follows (tableOf w t) s (stateLeft (callOf verdict w s x)) (orderOf verdict w s x) (writtenOf verdict w s x) (stepsOf verdict w s x)
     call-follows s x h f =
-        cases (refused verdict s x)
+        cases (refused verdict w s x)
         (λ e. call-refused s x h e)
         (λ e. call-run s x (h .memory) (h .is) (h .reached) e (f .same e)
         (record { words = memory-small (x .page) (f .bytes); sized = memory-sized (x .page) 4096 (open-lengths s x e .pages) }))
@@ -322,35 +323,35 @@ module _ (verdict : List ℕ → ℕ) where
     answers-append [] fs = refl
     answers-append (e ∷ es) fs = ap (λ (z : List ℕ). e .answer ∷ z) (answers-append es fs)
 
-    follows-append : (s s' s'' q q' l l' : List ℕ) (es fs : List Seen) → Follows (tableOf 1 t) s s' q l es → Follows (tableOf 1 t) s' s'' q' l' fs
-        → Follows (tableOf 1 t) s s'' (q ++ q') (l ++ l') (es ++ fs)
+    follows-append : (s s' s'' q q' l l' : List ℕ) (es fs : List Seen) → Follows (tableOf w t) s s' q l es → Follows (tableOf w t) s' s'' q' l' fs
+        → Follows (tableOf w t) s s'' (q ++ q') (l ++ l') (es ++ fs)
     follows-append s s' s'' q q' l l' es fs h k = record {
-      course = course-append (tableOf 1 t) (StepOf (tableOf 1 t)) s s' s'' es fs (h .course) (k .course);
+      course = course-append (tableOf w t) (StepOf (tableOf w t)) s s' s'' es fs (h .course) (k .course);
       next = k .next;
       named = rw (processes-append es fs, h .named, k .named);
       answered = rw (answers-append es fs, h .answered, k .answered);
     }
 
     -- A LIST OF CALLS, those refused among them
-    pub follows : (s : List ℕ) (xs : List Ask) → At (tableOf 1 t) s → Calls verdict t s xs
-        → Follows (tableOf 1 t) s (stateAfter verdict s xs) (order verdict s xs) (written verdict s xs) (history verdict s xs)
+    pub follows : (s : List ℕ) (xs : List Ask) → At (tableOf w t) s → Calls verdict w t s xs
+        → Follows (tableOf w t) s (stateAfter verdict w s xs) (order verdict w s xs) (written verdict w s xs) (history verdict w s xs)
     unfolding Calls history order written stateAfter processes answers
-    follows s [] h c = record { course = course-none (tableOf 1 t) (StepOf (tableOf 1 t)) s; next = h; named = refl; answered = refl }
+    follows s [] h c = record { course = course-none (tableOf w t) (StepOf (tableOf w t)) s; next = h; named = refl; answered = refl }
     follows s (x ∷ xs) h c =
         let f = call-follows s x h (c .0) in
-        follows-append _ _ _ _ _ _ _ _ _ f (follows (stateLeft (callOf verdict s x)) xs (f .next) (c .1))
+        follows-append _ _ _ _ _ _ _ _ _ f (follows (stateLeft (callOf verdict w s x)) xs (f .next) (c .1))
 
     page-handed : (x : Ask) → Bytes (x .page) → length (x .page) ≡ 8192 → pageBytes (memoryOf (x .page)) ≡ x .page
     unfolding pageBytes
-    page-handed x b e = memory-bytes 4096 (x .page) b e
+    page-handed x b e = bytes-memory 4096 (x .page) b e
 
-    run-devices : (s : List ℕ) (x : Ask) (m : Memory) → s ≡ stateBytes m → Reached (tableOf 1 t) m → refused verdict s x ≡ false → x .table ≡ t → Page (memoryOf (x .page))
-        → pageBytes (memoryOf (x .page)) ≡ x .page → Devices verdict s x
+    run-devices : (s : List ℕ) (x : Ask) (m : Memory) → s ≡ stateBytes m → Reached (tableOf w t) m → refused verdict w s x ≡ false → x .table ≡ t → Page (memoryOf (x .page))
+        → pageBytes (memoryOf (x .page)) ≡ x .page → Devices verdict w s x
     unfolding stepsOf Seeing pageLeft
     run-devices s x m i h e k g same =
-        let back : memoryOf s ≡ m = ap memoryOf i ∙ state-memory (tableOf 1 t) m h in
-        let r = traced (tableOf 1 t) laws (x .schedule) m (memoryOf (x .page)) h g in
-        let is : run (tableOf 1 (x .table)) (x .schedule) (memoryOf s) (memoryOf (x .page)) ≡ ran (r .given) (r .state) (r .devices) = rw (k, back) (r .is) in
+        let back : memoryOf s ≡ m = ap memoryOf i ∙ state-memory (tableOf w t) m h in
+        let r = traced (tableOf w t) laws (x .schedule) m (memoryOf (x .page)) h g in
+        let is : run (tableOf w (x .table)) (x .schedule) (memoryOf s) (memoryOf (x .page)) ≡ ran (r .given) (r .state) (r .devices) = rw (k, back) (r .is) in
         let c = open-call s x (r .given) (r .state) (r .devices) e is in
         record {
           seeing = rw (e, k, back) (rw same at (r .seeing));
@@ -358,10 +359,10 @@ module _ (verdict : List ℕ → ℕ) where
           state = sym (call-run s x m i h e k g .course .last);
         }
 
-    call-devices : (s : List ℕ) (x : Ask) → At (tableOf 1 t) s → Fits verdict t s x → Devices verdict s x
+    call-devices : (s : List ℕ) (x : Ask) → At (tableOf w t) s → Fits verdict w t s x → Devices verdict w s x
     unfolding stepsOf Seeing devicesAfter
     call-devices s x h f =
-        cases (refused verdict s x)
+        cases (refused verdict w s x)
         (λ e. record { seeing = rw e tt; left = rw (e, refused-page s x e); state = sym (call-refused s x h e .course .last) })
         (λ e.
         let l = open-lengths s x e .pages in
@@ -370,58 +371,58 @@ module _ (verdict : List ℕ → ℕ) where
         (page-handed x (f .bytes) l))
 
     -- what the steps see of the devices
-    pub handed : (s : List ℕ) (xs : List Ask) → At (tableOf 1 t) s → Calls verdict t s xs → Handed verdict s xs
+    pub handed : (s : List ℕ) (xs : List Ask) → At (tableOf w t) s → Calls verdict w t s xs → Handed verdict w s xs
     unfolding Calls Handed
     handed s [] h c = tt
     handed s (x ∷ xs) h c =
-        (call-devices s x h (c .0), handed (stateLeft (callOf verdict s x)) xs (call-follows s x h (c .0) .next) (c .1))
+        (call-devices s x h (c .0), handed (stateLeft (callOf verdict w s x)) xs (call-follows s x h (c .0) .next) (c .1))
 
     state-long : (m : Memory) → length (stateBytes m) ≡ 35328
     unfolding stateBytes bytesOf
-    state-long m = length-bytes m 0 17664
+    state-long m = length-bytes-at m 0 17664
 
-    zero-refusal : (s : List ℕ) (x : Ask) → At (tableOf 1 t) s → verdict t ≡ 0 → x .table ≡ t → length (x .page) ≡ 8192 → length (x .schedule) ≤ length (x .answers)
-        → runRefusal verdict (x .table) s (x .page) (x .schedule) (x .answers) ≡ 0
+    zero-refusal : (s : List ℕ) (x : Ask) → At (tableOf w t) s → verdict w t ≡ 0 → x .table ≡ t → length (x .page) ≡ 8192 → length (x .schedule) ≤ length (x .answers)
+        → runRefusal verdict w (x .table) s (x .page) (x .schedule) (x .answers) ≡ 0
     unfolding runRefusal refusal runLengths both
     zero-refusal s x h v e p l =
         let g : length s ≡ 35328 = ap length (h .is) ∙ state-long (h .memory) in
-        rw (eq-eqb (length s) 35328 g, eq-eqb (length (x .page)) 8192 p, le-leb (length (x .schedule)) (length (x .answers)) l, e, v, at-memory (tableOf 1 t) s h .ruled)
+        rw (eq-eqb (length s) 35328 g, eq-eqb (length (x .page)) 8192 p, le-leb (length (x .schedule)) (length (x .answers)) l, e, v, at-memory (tableOf w t) s h .ruled)
 
-    call-served : (s : List ℕ) (x : Ask) → At (tableOf 1 t) s → verdict t ≡ 0 → Bytes (x .page) → x .table ≡ t → length (x .page) ≡ 8192 → length (x .schedule) ≤ length (x .answers)
-        → refused verdict s x ≡ false
+    call-served : (s : List ℕ) (x : Ask) → At (tableOf w t) s → verdict w t ≡ 0 → Bytes (x .page) → x .table ≡ t → length (x .page) ≡ 8192 → length (x .schedule) ≤ length (x .answers)
+        → refused verdict w s x ≡ false
     unfolding refused callOf runCall finished result
     call-served s x h v b e p l =
-        let back : memoryOf s ≡ h .memory = ap memoryOf (h .is) ∙ state-memory (tableOf 1 t) (h .memory) (h .reached) in
+        let back : memoryOf s ≡ h .memory = ap memoryOf (h .is) ∙ state-memory (tableOf w t) (h .memory) (h .reached) in
         let g : Page (memoryOf (x .page)) = record { words = memory-small (x .page) b; sized = memory-sized (x .page) 4096 p } in
-        let r = traced (tableOf 1 t) laws (x .schedule) (h .memory) (memoryOf (x .page)) (h .reached) g in
-        let is : run (tableOf 1 (x .table)) (x .schedule) (memoryOf s) (memoryOf (x .page)) ≡ ran (r .given) (r .state) (r .devices) = rw (e, back) (r .is) in
+        let r = traced (tableOf w t) laws (x .schedule) (h .memory) (memoryOf (x .page)) (h .reached) g in
+        let is : run (tableOf w (x .table)) (x .schedule) (memoryOf s) (memoryOf (x .page)) ≡ ran (r .given) (r .state) (r .devices) = rw (e, back) (r .is) in
         rw (zero-refusal s x h v e p l, is)
 
     -- no call is refused for its state
-    pub served : (s : List ℕ) (xs : List Ask) → verdict t ≡ 0 → At (tableOf 1 t) s → Calls verdict t s xs → Served verdict t s xs
+    pub served : (s : List ℕ) (xs : List Ask) → verdict w t ≡ 0 → At (tableOf w t) s → Calls verdict w t s xs → Served verdict w t s xs
     unfolding Calls Served
     served s [] v h c = tt
     served s (x ∷ xs) v h c =
-        (λ e p l. call-served s x h v (c .0 .bytes) e p l, served (stateLeft (callOf verdict s x)) xs v (call-follows s x h (c .0) .next) (c .1))
+        (λ e p l. call-served s x h v (c .0 .bytes) e p l, served (stateLeft (callOf verdict w s x)) xs v (call-follows s x h (c .0) .next) (c .1))
 
     -- AGREEMENT: two lists of calls from one state of which the same is asked up to a step tell the same up to it, wherever the calls
     -- begin and end
-    pub same-told : (s : List ℕ) (xs ys : List Ask) → At (tableOf 1 t) s → Calls verdict t s xs → Calls verdict t s ys → (n : ℕ)
-        → take n (asked (history verdict s xs)) ≡ take n (asked (history verdict s ys)) → take n (told (history verdict s xs)) ≡ take n (told (history verdict s ys))
-    same-told s xs ys h c k n e = up-to xs c ∙ ap (feed (tableOf 1 t) s) e ∙ sym (up-to ys k)
+    pub same-told : (s : List ℕ) (xs ys : List Ask) → At (tableOf w t) s → Calls verdict w t s xs → Calls verdict w t s ys → (n : ℕ)
+        → take n (asked (history verdict w s xs)) ≡ take n (asked (history verdict w s ys)) → take n (told (history verdict w s xs)) ≡ take n (told (history verdict w s ys))
+    same-told s xs ys h c k n e = up-to xs c ∙ ap (feed (tableOf w t) s) e ∙ sym (up-to ys k)
       where
-        up-to : (zs : List Ask) → Calls verdict t s zs → take n (told (history verdict s zs)) ≡ feed (tableOf 1 t) s (take n (asked (history verdict s zs)))
+        up-to : (zs : List Ask) → Calls verdict w t s zs → take n (told (history verdict w s zs)) ≡ feed (tableOf w t) s (take n (asked (history verdict w s zs)))
         up-to zs u =
-            ap (take n) (told-feed (tableOf 1 t) (StepOf (tableOf 1 t)) _ _ _ (follows s zs h u .course))
-            ∙ feed-take (tableOf 1 t) s n (asked (history verdict s zs))
+            ap (take n) (told-feed (tableOf w t) (StepOf (tableOf w t)) _ _ _ (follows s zs h u .course))
+            ∙ feed-take (tableOf w t) s n (asked (history verdict w s zs))
 
     -- begin
-    pub begun-at : (slice : List ℕ) → BeginLaw (tableOf 1 t) → begunResult (beginCall verdict t slice) ≡ 0 → begunWith verdict t slice ≡ stateBytes (begin (tableOf 1 t))
+    pub begun-at : (slice : List ℕ) → BeginLaw (tableOf w t) → begunResult (beginCall verdict w t slice) ≡ 0 → begunWith verdict w t slice ≡ stateBytes (begin (tableOf w t))
     unfolding begunWith begunState beginCall begunResult stateBytes
     begun-at slice l e =
-        cases (eqb (beginRefusal verdict t slice) 0)
+        cases (eqb (beginRefusal verdict w t slice) 0)
         (λ z. rw z)
         (λ z. absurd (eqb-false _ 0 z (rw z at e)))
 
-    pub at-begin : (slice : List ℕ) → BeginLaw (tableOf 1 t) → begunResult (beginCall verdict t slice) ≡ 0 → At (tableOf 1 t) (begunWith verdict t slice)
-    at-begin slice l e = record { memory = begin (tableOf 1 t); is = begun-at slice l e; reached = l .reached }
+    pub at-begin : (slice : List ℕ) → BeginLaw (tableOf w t) → begunResult (beginCall verdict w t slice) ≡ 0 → At (tableOf w t) (begunWith verdict w t slice)
+    at-begin slice l e = record { memory = begin (tableOf w t); is = begun-at slice l e; reached = l .reached }

@@ -15,7 +15,7 @@ use Rattle.table.specs.Entries.{firstStmt}
 use Rattle.sizes.specs.Sizes.{moduleWords}
 use Rattle.sizes.proofs.Promise.{module-most}
 use Rattle.numbers.proofs.BlockPromise.{program-there, program-kind}
-use Rattle.machine.specs.Memory.{Memory, update, zeros}
+use Rattle.machine.specs.Memory.{update, zeros}
 use Rattle.machine.specs.Layout.{recordAt, moduleAt, createdAt, failureAt}
 use Rattle.machine.specs.Calls.{standing}
 use Rattle.machine.specs.Run.{begin}
@@ -24,6 +24,7 @@ use Rattle.verdict.specs.Accepted.{Accepted}
 use Rattle.sound.specs.Claims.{Small}
 use Rattle.sound.specs.Reached.{WordTable, BeginLaw}
 use Rattle.sound.proofs.HistoriesSized.{begin-sized}
+use Rattle.sound.proofs.StoresMemory.{update-small}
 
 num-word : (t : List ℕ) (p w : ℕ) → Bytes t → num t p w < 65536
 num-word t p w b = cases (eqb w 2) (λ e. rw e (omega (arith, b .small p, b .small (p + 1)))) (λ e. rw e (omega (arith, b .small p)))
@@ -45,15 +46,11 @@ pub word-table : (w : ℕ) (t : List ℕ) → Bytes t → WordTable (tableOf w t
 unfolding tableOf
 word-table w t b = table-words w (bytesRead w t) (record { small = read-bytes w t (b .small) })
 
-update-word : (m : Memory) (i v : ℕ) → Small m → v < 65536 → Small (update m i v)
-unfolding update
-update-word m i v h l = record { small = λ j. cases (eqb j i) (λ e. rw e l) (λ e. rw e (h .small j)) }
-
 begin-small : (T : Table) → firstStmt T 0 < 65536 → moduleWords T 0 < 65536 → Small (begin T)
 unfolding begin standing zeros
 begin-small T f w =
-    update-word _ _ _ (update-word _ _ _ (update-word _ _ _ (update-word _ _ _ (update-word _ _ _
-    (update-word _ _ _ (update-word _ _ _ (update-word zeros _ _ (record { small = λ i. omega arith }) (omega arith)) (omega arith)) (omega arith))
+    update-small _ _ _ (update-small _ _ _ (update-small _ _ _ (update-small _ _ _ (update-small _ _ _
+    (update-small _ _ _ (update-small _ _ _ (update-small zeros _ _ (record { small = λ i. omega arith }) (omega arith)) (omega arith)) (omega arith))
     f) (omega arith)) w) (omega arith)) (omega arith)
 
 pub begin-reached : (T : Table) → Accepted T → WordTable T → rule T (begin T) ≡ true → BeginLaw T

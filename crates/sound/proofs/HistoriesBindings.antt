@@ -9,7 +9,7 @@ use lib.Dec.{eqb, leb, ltb}
 use lib.ListN.{length, replicate, length-append, length-replicate}
 use borrow.Author.Tests.{eqb-true, eqb-false, leb-true, ltb-true, ltb-false, ne-eqb, lt-leb, le-ltb}
 use Rattle.basics.specs.Choice.{cases, both, either}
-use Rattle.basics.proofs.Bools.{both-l, both-r, both-false-l, both-false-r}
+use Rattle.basics.proofs.Bools.{both-l, both-r, both-false-l, both-false-r, either-case}
 use Rattle.table.specs.Table.{Table}
 use Rattle.table.specs.Entries.{firstVar}
 use Rattle.sizes.specs.Sizes.{wordsOf, moduleWords}
@@ -33,11 +33,12 @@ use Rattle.sound.specs.Claims.{PlaceLaws}
 use Rattle.sound.specs.Ruled.{Framed, Chained, called, Ruled}
 use Rattle.sound.specs.InUse.{Created, Call, innermost, caller}
 use Rattle.sound.specs.Bindings.{FrameWord, link, bound, BindingsKept}
-use Rattle.sound.proofs.Ruled.{either-case, block-there, block-kind}
-use Rattle.sound.proofs.StoresBlocks.{variable-in, variables-apart, bound-words, part-of, module-variables, module-fits}
+use Rattle.sound.proofs.Ruled.{block-there, block-kind}
+use Rattle.sound.proofs.StoresBlocks.{module-variables, module-fits}
 use Rattle.sound.proofs.StoresChains.{chain-over, created-low, created-high}
 use Rattle.sound.proofs.StoresProcesses.{chain-fits}
-use Rattle.sound.proofs.StoresValues.{part-end, part-most, owns-in}
+use Rattle.sound.proofs.StoresValues.{owns-in}
+use Rattle.sound.proofs.ValueBlocks.{variables-apart, variable-in, words-var, in-block, part-inside, block-in}
 
 -- the call with its frame at f' and d' calls below it is one of the d calls from the frame at f on
 pub data Under (m : Memory) (p : ℕ) : ℕ → ℕ → ℕ → ℕ → Type 0 where
@@ -70,7 +71,7 @@ module _ (T : Table) (ok : Accepted T) (L : PlaceLaws T) (m : Memory) (p : ℕ) 
   word-in d f w c top j h (bound i l n e) =
       let x = h .ends in
       let y = variable-in T (calledBlock m p f) i l in
-      let z = bound-words T (firstVar T (calledBlock m p f) + i) n in
+      let z = words-var T (firstVar T (calledBlock m p f) + i) n in
       (omega arith, omega arith)
 
   under-in : {d f w c top : ℕ} (d' f' j : ℕ) → Chained T m p d f w c top → Under m p d f d' f' → FrameWord T m p f' j → (moduleWords T (m (moduleAt p)) ≤ j) × (j < top)
@@ -90,15 +91,15 @@ module _ (T : Table) (ok : Accepted T) (L : PlaceLaws T) (m : Memory) (p : ℕ) 
   unfolding Apart
   same-frame d f w c top τ k j h l e (link i g z) = inl (omega arith)
   same-frame d f w c top τ k j h l e (bound i g n z) =
-      let x = part-of T (calledBlock m p f) τ (k - (f + 4)) e in
+      let x = in-block T (calledBlock m p f) τ (k - (f + 4)) e in
       let a = x .from in
-      let b = part-end T ok L (calledBlock m p f) τ (k - (f + 4)) (h .there) x in
-      let y = bound-words T (firstVar T (calledBlock m p f) + i) n in
+      let b = part-inside T ok (calledBlock m p f) (h .there) τ (k - (f + 4)) x .1 in
+      let y = words-var T (firstVar T (calledBlock m p f) + i) n in
       cases (ltb i (x .i))
       (λ q. let s = variables-apart T (calledBlock m p f) i (x .i) (ltb-true i (x .i) q) in inl (omega arith))
       (λ q.
       let r = ltb-false i (x .i) q in
-      let u : x .i ≡ i → ⊥ = λ v. x .plain (rw (← v) at n) in
+      let u : x .i ≡ i → ⊥ = λ v. x .mode (rw (← v) at n) in
       let s = variables-apart T (calledBlock m p f) (x .i) i (omega arith) in
       inr (omega arith))
 
@@ -188,7 +189,7 @@ module _ (T : Table) (ok : Accepted T) (L : PlaceLaws T) (m : Memory) (h : Ruled
       let r = h .process (a / 256 + 1) (created-low T m (a / 256 + 1) (both-l _ _ y)) (created-high T m (a / 256 + 1) (both-l _ _ y)) in
       let t = block-there T ok m (a / 256 + 1) r in
       let k = block-kind T ok m (a / 256 + 1) r in
-      let z = part-most T ok L (m (moduleAt (a / 256 + 1))) τ (a % 256) t (part-of T (m (moduleAt (a / 256 + 1))) τ (a % 256) (both-r _ _ y)) in
+      let z = block-in T ok (m (moduleAt (a / 256 + 1))) t τ (a % 256) (both-r _ _ y) .1 in
       let v = module-variables T ok (m (moduleAt (a / 256 + 1))) t k in
       let b = module-fits T ok (m (moduleAt (a / 256 + 1))) t k in
       cases (eqb (a / 256 + 1) p')

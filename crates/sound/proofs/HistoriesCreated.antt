@@ -1,14 +1,14 @@
 -- A step creates a process exactly if it carries out a create, and keeps those created before (11.4). Assumes nothing.
 use Prim.Native.Nat.{ℕ, _+_, _-_, _≤_, _<_}
 use mathlib.Core.Path.{_≡_, refl, ap, _∙_}
-use mathlib.Core.Bool.{true, false}
+use mathlib.Core.Bool.{false}
 use mathlib.Core.List.{List, [], _∷_, _++_}
 use native.Mathlib.Omega.{arith}
 use lib.Dec.{eqb}
 use lib.ListN.{length, replicate, length-append, length-replicate}
 use borrow.Author.Tests.{eqb-true, ne-eqb, leb-true, ltb-false, not-false}
 use Rattle.basics.specs.Choice.{pick, cases, either}
-use Rattle.basics.proofs.Bools.{both-l, both-r, both-i, both-false-l, both-false-r}
+use Rattle.basics.proofs.Bools.{both-i, both-false-l, both-false-r}
 use Rattle.table.specs.Table.{Table}
 use Rattle.machine.specs.Memory.{Memory, memoryOf, update}
 use Rattle.machine.specs.Layout.{location, statusAt, statementAt, topAt, worksAt, holderAt, createdAt, failureAt}
@@ -18,9 +18,10 @@ use Rattle.machine.specs.Context.{Context, contextOf}
 use Rattle.machine.specs.Variables.{frameWords}
 use Rattle.machine.specs.Operands.{operand}
 use Rattle.machine.specs.Calls.{arguments, frame, topAfter, pushed, call, popped}
-use Rattle.machine.specs.Processes.{onProcess, onReference, refers, started}
+use Rattle.machine.specs.Processes.{onProcess, onReference, started}
 use Rattle.machine.specs.Statements.{Effect, effect, goTo, goOn, wait, moved, doLocalCall, free, doProcessCall, doStart, perform}
 use Rattle.machine.specs.Step.{done, settled, inRange, answers, performs, proceeds, exists, turn, step}
+use Rattle.machine.proofs.Tests.{range-low, range-high}
 use Rattle.sound.specs.Conditions.{ownBlock}
 use Rattle.sound.specs.Carried.{Inside, nextArm, lastEnd, Carries, skips, assigns, callsLocal, callsProcess, starts, enters, passes, leaves, again, writes, returnsLocal, returnsProcess}
 use Rattle.sound.specs.Rows.{next}
@@ -31,7 +32,7 @@ use Rattle.sound.proofs.RowsListed.{statement-listed}
 use Rattle.sound.proofs.RowsStatements.{Leaves, gives, Reports, went, waited, ended, failed, strays, reports}
 use Rattle.sound.proofs.HistoriesOperands.{place-fits, place-area, value-long}
 use Rattle.sound.proofs.HistoriesSized.{room}
-use Rattle.sound.proofs.HistoriesRecords.{location-end, Still, still, still-record, still-status, still-store, still-standing, new-process, others-kept, mark-kept, fail-count, fail-kept}
+use Rattle.sound.proofs.HistoriesRecords.{location-end, Still, still, still-record, still-status, still-store, still-standing, new-process, others-kept, mark-kept, fail-count, fail-kept, refers-most}
 
 -- ---- statements
 
@@ -107,10 +108,6 @@ module _ (T : Table) (m page : Memory) (x : Context) where
         (λ ws u. moved-keeps _ (within-call _ q (m i) ws (holder-still (m i) _)))))
         (λ k. rw k (keeps (still m))))))))
 
-    refers-most : (μ r : ℕ) → refers m μ r ≡ true → r ≤ 64
-    unfolding refers
-    refers-most μ r e = let h : r ≤ m createdAt = leb-true _ _ (both-r _ _ (both-l _ _ e)) in omega arith
-
     started-still : (r μ : ℕ) (ws : List ℕ) → r ≤ 64 → m (statusAt r) ≡ 1 → length ws ≤ 256 → Still m (started T m r μ ws)
     unfolding started
     started-still r μ ws l e w =
@@ -125,7 +122,7 @@ module _ (T : Table) (m page : Memory) (x : Context) where
         g-where Keeping none _ 19 _ (λ z. fails) (λ z. g-test Keeping none _ _ (λ r.
         g-where Keeping none _ 20 _ (λ u. fails) (λ u. g-then Keeping none (arguments T m page x μ c d) _ (λ f k. fails)
         (λ ws k. g-test Keeping none _ _ (λ w.
-        keeps (goes-still _ _ (started-still (m i) μ ws (refers-most μ (m i) r) (eqb-true _ 1 (not-false _ u)) (leb-true _ _ w))))))))))
+        keeps (goes-still _ _ (started-still (m i) μ ws (refers-most m lc μ (m i) r) (eqb-true _ 1 (not-false _ u)) (leb-true _ _ w))))))))))
 
     inside-keeps : (S : Statement) → Inside S → isCreate S ≡ false
     unfolding isCreate
@@ -203,14 +200,6 @@ module _ (T : Table) (m page : Memory) (p : ℕ) where
   performs-left l b c y =
       g-need Left none _ _ (comes-left _ _ refl (comes T m page (contextOf m p) l b c y (next T m page p) _ refl (reports T m page (contextOf m p) (next T m page p))))
 
-  in-least : (a b n : ℕ) → inRange a b n ≡ true → a ≤ n
-  unfolding inRange
-  in-least a b n e = leb-true _ _ (both-l _ _ e)
-
-  in-most : (a b n : ℕ) → inRange a b n ≡ true → n ≤ b
-  unfolding inRange
-  in-most a b n e = leb-true _ _ (both-r _ _ e)
-
   exists-left : p ≤ 64 → m createdAt ≤ 64 → 1 ≤ m createdAt → Left (exists T m page p)
   unfolding exists proceeds
   exists-left l c y =
@@ -225,8 +214,8 @@ module _ (T : Table) (m page : Memory) (p : ℕ) where
   turn-left =
       g-pick Left none (eqb (m failureAt) 0) _ _
       (λ e. g-test Left none _ _ (λ c. g-pick Left none (inRange 1 (m createdAt) p) _ _
-      (λ l. let u = in-most 1 64 _ c in let v = in-most 1 _ p l in exists-left (omega arith) u (in-least 1 64 _ c)) (λ l. answers-left 3 (λ z. omega arith))))
-      (λ e. g-test Left none _ _ (λ c. let u = in-least 16 24 _ c in answers-left (m failureAt) (λ z. omega arith)))
+      (λ l. let u = range-high 1 64 _ c in let v = range-high 1 _ p l in exists-left (omega arith) u (range-low 1 64 _ c)) (λ l. answers-left 3 (λ z. omega arith))))
+      (λ e. g-test Left none _ _ (λ c. let u = range-low 16 24 _ c in answers-left (m failureAt) (λ z. omega arith)))
 
   failed-step : (n : ℕ) → 16 ≤ n → CreatedKept T m page p n (update m failureAt n)
   unfolding createsOne

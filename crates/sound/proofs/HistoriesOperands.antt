@@ -1,5 +1,5 @@
 -- A place that is selected lies in one area, and a value that is yielded has the words of its type. Assumes nothing.
-use Prim.Native.Nat.{ℕ, zero, suc, _+_, _-_, _≤_, _<_}
+use Prim.Native.Nat.{ℕ, suc, _+_, _-_, _≤_, _<_}
 use mathlib.Core.Path.{_≡_, refl, sym, ap, _∙_}
 use mathlib.Core.Bool.{Bool, true, false}
 use mathlib.Core.List.{List}
@@ -18,13 +18,14 @@ use Rattle.table.specs.Entries.{typeKind, typeQ, declared, owner, varMode, varT
 use Rattle.types.specs.Match.{elements, isString, matches}
 use Rattle.sizes.specs.Sizes.{wordsOf}
 use Rattle.sizes.proofs.Counting.{words-array, words-standard, part-lower}
-use Rattle.machine.specs.Memory.{Memory, wordsAt}
+use Rattle.machine.specs.Memory.{Memory}
 use Rattle.machine.specs.Outcomes.{Outcome, ok, fail, stuck, need, Operand, place, value}
 use Rattle.machine.specs.Entries.{Unary, minus, not, val, noUnary, Binary, equal, notEqual, less, notGreater, greater, notLess, add, subtract, multiply, divide, modulus, and, or, noBinary}
 use Rattle.machine.specs.Entries.{Node, constant, whole, field, element, retrieve, unary, binary, transfer, noNode}
 use Rattle.machine.specs.Context.{Context}
 use Rattle.machine.specs.Variables.{belongs, offsetOf, fits}
 use Rattle.machine.specs.Operands.{simple, truth, given, deviceWord, unaryValue, ordered, integral, logical, binaryValue, placeAt, fieldPlace, elementPlace, moduleVariable, frameVariable, wholePlace, nodeOperand, operand}
+use Rattle.machine.proofs.Memories.{length-words}
 use Rattle.sound.proofs.RowsOutcomes.{g-test, g-need, g-where, g-pick, g-place, g-value, g-word, g-record, g-array}
 use Rattle.sound.proofs.RowsNodes.{operand-is}
 
@@ -121,11 +122,6 @@ module _ (T : Table) (m page : Memory) (x : Context) where
   fine-binary or τ us σ vs = fine-logical _ _ _ _
   fine-binary noBinary τ us σ vs = none
 
-  length-words : (a n : ℕ) → length (wordsAt m a n) ≡ n
-  unfolding wordsAt
-  length-words a zero = refl
-  length-words a (suc n) = ap suc (length-words (a + 1) n)
-
   fine-whole : (v : ℕ) → Fine (wholePlace T m page x v)
   unfolding wholePlace moduleVariable frameVariable
   fine-whole v =
@@ -144,7 +140,7 @@ module _ (T : Table) (m page : Memory) (x : Context) where
   fine-node r (element a k) =
       g-place Fine none (r a) _ (λ f e. fails)
       (λ l τ e. g-array Fine none _ _ (λ ι σ low high t. g-word Fine none (r k) ι _ (λ f q. fails) (λ ρ ws q. g-where Fine none _ 18 _ (λ h. fails) (λ h. fine-place _ _))))
-  fine-node r (retrieve a) = g-place Fine none (r a) _ (λ f e. fails) (λ l τ e. yields (length-words l _))
+  fine-node r (retrieve a) = g-place Fine none (r a) _ (λ f e. fails) (λ l τ e. yields (length-words m l _))
   fine-node r (unary o a) = g-value Fine none (r a) _ (λ f e. fails) (λ τ us e. fine-unary o τ _)
   fine-node r (binary o a b) = g-value Fine none (r a) _ (λ f e. fails) (λ τ us e. g-value Fine none (r b) _ (λ f q. fails) (λ σ vs q. fine-binary o τ us σ vs))
   fine-node r (transfer a τ) = g-value Fine none (r a) _ (λ f e. fails) (λ σ us e. g-test Fine none _ _ (λ h. fine-given τ _ (ltb-true τ 3 (both-r _ _ h))))

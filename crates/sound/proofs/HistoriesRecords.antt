@@ -2,18 +2,26 @@
 use Prim.Native.Nat.{ℕ, _+_, _≤_, _<_}
 use mathlib.Core.Path.{_≡_, refl, _∙_}
 use mathlib.Core.List.{List}
+use mathlib.Core.Bool.{true}
 use native.Mathlib.Omega.{arith}
 use lib.Dec.{eqb}
 use lib.ListN.{length}
-use borrow.Author.Tests.{eqb-true, eqb-false}
+use borrow.Author.Tests.{eqb-true, eqb-false, leb-true}
 use Rattle.basics.specs.Choice.{cases}
+use Rattle.basics.proofs.Bools.{both-l, both-r}
 use Rattle.machine.specs.Memory.{Memory, update, store}
 use Rattle.machine.specs.Layout.{location, recordAt, statusAt, moduleAt, statementAt, createdAt, failureAt}
 use Rattle.machine.specs.Calls.{standing}
-use Rattle.machine.specs.Processes.{created}
+use Rattle.machine.specs.Processes.{created, refers}
+use Rattle.machine.proofs.Memories.{update-at, update-other, clear-below, clear-above}
 use Rattle.sound.specs.InUse.{Created}
 use Rattle.sound.specs.Created.{NewProcess, ProcessesKept}
-use Rattle.sound.proofs.StoresMemory.{update-same, update-other, store-after, clear-before, clear-after, record-high}
+use Rattle.sound.proofs.StoresMemory.{record-high, store-record}
+
+-- a process that a reference names is one of 64
+pub refers-most : (m : Memory) → m createdAt ≤ 64 → (μ r : ℕ) → refers m μ r ≡ true → r ≤ 64
+unfolding refers
+refers-most m l μ r e = let h : r ≤ m createdAt = leb-true _ _ (both-r _ _ (both-l _ _ e)) in omega arith
 
 pub location-end : (p k n : ℕ) → p ≤ 64 → k + n ≤ 256 → location p k + n ≤ 16384
 unfolding location
@@ -67,21 +75,18 @@ module _ (m : Memory) where
       count = update-other s _ v _ (unlike-words 1 q 8 0 (omega arith)) ∙ h .count;
       block = λ r. update-other s _ v _ (unlike-words r q 1 0 (omega arith)) ∙ h .block r;
       status = λ r. cases (eqb (statusAt r) (statusAt q))
-          (λ e. let z = eqb-true _ _ e in rw (update-same s (statusAt q) v (statusAt r) z, z) l)
+          (λ e. let z = eqb-true _ _ e in rw (update-at s (statusAt q) v (statusAt r) z, z) l)
           (λ e. rw (update-other s (statusAt q) v (statusAt r) (eqb-false _ _ e)) (h .status r));
       mark = update-other s _ v _ (unlike-words 1 q 9 0 (omega arith)) ∙ h .mark;
     }
 
     pub still-store : (a : ℕ) (ws : List ℕ) → a + length ws ≤ 16384 → Still m (store s a ws)
     still-store a ws l = record {
-      count = high 1 8 ∙ h .count;
-      block = λ r. high r 1 ∙ h .block r;
-      status = λ r. rw (high r 0) (h .status r);
-      mark = high 1 9 ∙ h .mark;
+      count = store-record s a ws l 1 8 ∙ h .count;
+      block = λ r. store-record s a ws l r 1 ∙ h .block r;
+      status = λ r. rw (store-record s a ws l r 0) (h .status r);
+      mark = store-record s a ws l 1 9 ∙ h .mark;
     }
-      where
-        high : (r k : ℕ) → store s a ws (recordAt r k) ≡ s (recordAt r k)
-        high r k = let z = record-high r k in store-after s a ws (recordAt r k) (omega arith)
 
   pub still-standing : (s : Memory) (q c f t w d : ℕ) → Still m s → Still m (standing s q c f t w d)
   unfolding standing
@@ -90,6 +95,22 @@ module _ (m : Memory) where
       q 3 f (omega arith)) q 4 t (omega arith)) q 5 w (omega arith)) q 7 d (omega arith)
 
 -- ---- a create: process n, which is none of those created, takes its record
+
+module _ (m : Memory) (n μ : ℕ) where
+  pub created-status : created m n μ (statusAt n) ≡ 1
+  unfolding created
+  created-status =
+      update-other _ _ n _ (unlike-words n 1 0 8 (omega arith))
+      ∙ update-other _ _ μ _ (unlike-words n n 0 1 (omega arith))
+      ∙ update-at _ _ 1 _ refl
+
+  pub created-module : created m n μ (moduleAt n) ≡ μ
+  unfolding created
+  created-module = update-other _ _ n _ (unlike-words n 1 1 8 (omega arith)) ∙ update-at _ _ μ _ refl
+
+  pub created-count : created m n μ createdAt ≡ n
+  unfolding created
+  created-count = update-at _ _ n _ refl
 
 module _ (m : Memory) (n μ i c p : ℕ) (over : m createdAt < n) (most : n ≤ 64) (area : i < 16384) where
   abbrev pub after : Memory
@@ -101,27 +122,12 @@ module _ (m : Memory) (n μ i c p : ℕ) (over : m createdAt < n) (most : n ≤ 
       update-other _ _ c _ (unlike-words r p k 2 u)
       ∙ update-other _ i n _ (λ z. let a = record-high r k in omega arith)
 
-  new-status : created m n μ (statusAt n) ≡ 1
-  unfolding created
-  new-status =
-      update-other _ _ n _ (unlike-words n 1 0 8 (omega arith))
-      ∙ update-other _ _ μ _ (unlike-words n n 0 1 (omega arith))
-      ∙ update-same _ _ 1 _ refl
-
-  new-block : created m n μ (moduleAt n) ≡ μ
-  unfolding created
-  new-block = update-other _ _ n _ (unlike-words n 1 1 8 (omega arith)) ∙ update-same _ _ μ _ refl
-
-  new-count : created m n μ createdAt ≡ n
-  unfolding created
-  new-count = update-same _ _ n _ refl
-
   pub new-process : NewProcess after n μ i
   new-process = record {
-    last = record-after 1 8 (omega arith) ∙ new-count;
-    block = record-after n 1 (omega arith) ∙ new-block;
-    unstarted = record-after n 0 (omega arith) ∙ new-status;
-    named = update-other _ _ c i (λ z. let a = record-high p 2 in omega arith) ∙ update-same _ i n i refl;
+    last = record-after 1 8 (omega arith) ∙ created-count m n μ;
+    block = record-after n 1 (omega arith) ∙ created-module m n μ;
+    unstarted = record-after n 0 (omega arith) ∙ created-status m n μ;
+    named = update-other _ _ c i (λ z. let a = record-high p 2 in omega arith) ∙ update-at _ i n i refl;
   }
 
   other-record : (r k : ℕ) → 1 ≤ r → r < n → k < 20 → (recordAt r k ≡ recordAt n 0 → ⊥) × (recordAt r k ≡ recordAt n 1 → ⊥) × (recordAt r k < recordAt n 0)
@@ -139,8 +145,8 @@ module _ (m : Memory) (n μ i c p : ℕ) (over : m createdAt < n) (most : n ≤ 
       update-other _ _ n _ (unlike-words r 1 k 8 (omega arith))
       ∙ update-other _ _ μ _ (u .1)
       ∙ update-other _ _ 1 _ (u .0)
-      ∙ clear-before _ (recordAt n 0) 20 _ (u .2)
-      ∙ clear-after m (location n 0) 256 _ (omega arith)
+      ∙ clear-below _ (recordAt n 0) 20 _ (u .2)
+      ∙ clear-above m (location n 0) 256 _ (omega arith)
 
   pub others-kept : ProcessesKept m after
   others-kept = record {

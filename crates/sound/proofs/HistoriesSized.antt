@@ -20,15 +20,18 @@ use Rattle.machine.specs.Context.{Context, contextOf}
 use Rattle.machine.specs.Variables.{frameWords, fits}
 use Rattle.machine.specs.Operands.{operand}
 use Rattle.machine.specs.Calls.{standing, arguments, frame, topAfter, pushed, call, popped}
-use Rattle.machine.specs.Processes.{onProcess, onReference, refers, created, started}
+use Rattle.machine.specs.Processes.{onProcess, onReference, created, started}
 use Rattle.machine.specs.Statements.{Effect, effect, goTo, goOn, wait, moved, doLocalCall, free, doProcessCall, doStart, perform}
 use Rattle.machine.specs.Step.{done, settled, inRange, answers, performs, proceeds, exists, turn, step}
 use Rattle.machine.specs.Run.{begin}
+use Rattle.machine.proofs.Memories.{location-plus}
+use Rattle.machine.proofs.Tests.{range-high}
 use Rattle.sound.specs.Carried.{Carries, skips, assigns, callsLocal, callsProcess, creates, starts, enters, passes, leaves, again, writes, returnsLocal, returnsProcess}
 use Rattle.sound.specs.Reached.{Sized, Kept}
 use Rattle.sound.proofs.RowsOutcomes.{g-test, g-then, g-need, g-where, g-pick, g-place, g-module}
 use Rattle.sound.proofs.RowsStatements.{gives, keeps, Reports, went, waited, ended, failed, strays, reports}
 use Rattle.sound.proofs.HistoriesOperands.{matching-words, device-word, place-fits, value-long}
+use Rattle.sound.proofs.HistoriesRecords.{refers-most}
 
 -- ---- writes
 
@@ -65,10 +68,6 @@ standing-sized : (m : Memory) (p c f t w d : ℕ) → Sized 17664 m → p ≤ 64
 unfolding standing
 standing-sized m p c f t w d h l =
     record-sized _ (record-sized _ (record-sized _ (record-sized _ (record-sized m h p l 2 c (omega arith)) p l 3 f (omega arith)) p l 4 t (omega arith)) p l 5 w (omega arith)) p l 7 d (omega arith)
-
-location-plus : (p k j : ℕ) → location p (k + j) ≡ location p k + j
-unfolding location
-location-plus p k j = omega arith
 
 -- a value of a type that matches a place's fits there
 pub room : (T : Table) (i τ σ : ℕ) (ws : List ℕ) → fits T i τ ≡ true → length ws ≡ wordsOf T σ → matches T τ σ ≡ true → i + length ws ≤ 16384
@@ -128,10 +127,6 @@ module _ (T : Table) (m page : Memory) (x : Context) (hm : Sized 17664 m) (hp : 
   unfolding doLocalCall
   local-in q c d = g-need Inside none _ _ (g-then Inside none (arguments T m page x q c d) _ (λ f e. fails) (λ ws e. moved-in _ (within-call m q (x .works) ws hm)))
 
-  refers-in : (μ r : ℕ) → refers m μ r ≡ true → r ≤ 64
-  unfolding refers
-  refers-in μ r e = let h : r ≤ m createdAt = leb-true _ _ (both-r _ _ (both-l _ _ e)) in omega arith
-
   process-in : (a q c d : ℕ) → Inside (doProcessCall T m page x a q c d)
   unfolding doProcessCall onProcess onReference wait
   process-in a q c d =
@@ -140,7 +135,7 @@ module _ (T : Table) (m page : Memory) (x : Context) (hm : Sized 17664 m) (hp : 
       (g-where Inside none _ 19 _ (λ z. fails) (λ z. g-test Inside none _ _ (λ r.
       cases (free m (m i))
       (λ k. rw k (g-then Inside none (arguments T m page x q c d) _ (λ f u. fails)
-      (λ ws u. moved-in _ (within-call _ q (m i) ws (record-sized m hm (m i) (refers-in μ (m i) r) 6 _ (omega arith))))))
+      (λ ws u. moved-in _ (within-call _ q (m i) ws (record-sized m hm (m i) (refers-most m lc μ (m i) r) 6 _ (omega arith))))))
       (λ k. rw k (inside hm hp)))))))
 
   created-in : (n μ : ℕ) → n ≤ 64 → Sized 17664 (created m n μ)
@@ -167,7 +162,7 @@ module _ (T : Table) (m page : Memory) (x : Context) (hm : Sized 17664 m) (hp : 
       (λ i τ e. g-module Inside none (typeAt T τ) _ (λ μ t.
       g-where Inside none _ 19 _ (λ z. fails) (λ z. g-test Inside none _ _ (λ r.
       g-where Inside none _ 20 _ (λ u. fails) (λ u. g-then Inside none (arguments T m page x μ c d) _ (λ f k. fails)
-      (λ ws k. g-test Inside none _ _ (λ w. inside (goes-in _ _ (started-in (m i) μ ws (refers-in μ (m i) r) (leb-true _ _ w))) hp)))))))
+      (λ ws k. g-test Inside none _ _ (λ w. inside (goes-in _ _ (started-in (m i) μ ws (refers-most m lc μ (m i) r) (leb-true _ _ w))) hp)))))))
 
   is-inside : (o u : Outcome Effect) → Inside o → o ≡ u → Inside u
   is-inside o u h e = rw e at h
@@ -207,10 +202,6 @@ module _ (T : Table) (m page : Memory) (p : ℕ) (hm : Sized 17664 m) (hp : Size
   unfolding answers
   answers-in a = inside hm hp
 
-  in-most : (a b n : ℕ) → inRange a b n ≡ true → n ≤ b
-  unfolding inRange
-  in-most a b n e = leb-true _ _ (both-r _ _ e)
-
   performs-in : p ≤ 64 → m (worksAt p) ≤ 64 → m createdAt ≤ 64 → Inside (performs T m page p)
   unfolding performs contextOf
   performs-in l w c = g-need Inside none _ _ (perform-in T m page (contextOf m p) hm hp l w c _ _ refl (reports T m page (contextOf m p) _))
@@ -222,14 +213,14 @@ module _ (T : Table) (m page : Memory) (p : ℕ) (hm : Sized 17664 m) (hp : Size
       (λ e. g-pick Inside none (eqb (m (statusAt p)) 1) _ _ (λ h. answers-in 1)
       (λ h. g-need Inside none _ _ (g-test Inside none _ _ (λ w.
       g-pick Inside none (either (eqb (m (holderAt (m (worksAt p)))) 0) (eqb (m (holderAt (m (worksAt p)))) p)) _ _
-      (λ k. performs-in l (let u = in-most _ _ _ w in omega arith) c) (λ k. answers-in 1)))))
+      (λ k. performs-in l (let u = range-high _ _ _ w in omega arith) c) (λ k. answers-in 1)))))
 
   turn-in : Inside (turn T m page p)
   unfolding turn
   turn-in =
       g-pick Inside none (eqb (m failureAt) 0) _ _
       (λ e. g-test Inside none _ _ (λ c. g-pick Inside none (inRange 1 (m createdAt) p) _ _
-      (λ l. exists-in (let u = in-most _ _ _ c in let v = in-most _ _ _ l in omega arith) (in-most _ _ _ c)) (λ l. answers-in 3)))
+      (λ l. exists-in (let u = range-high _ _ _ c in let v = range-high _ _ _ l in omega arith) (range-high _ _ _ c)) (λ l. answers-in 3)))
       (λ e. g-need Inside none _ _ (answers-in (m failureAt)))
 
   settled-in : (o : Outcome Effect) → Inside o → (a : ℕ) (s d : Memory) → settled m page o ≡ done a s d → Kept s d

@@ -1,51 +1,37 @@
 -- A state that meets the rule: the variables in use hold values of their types, by parts. Assumes nothing.
-use Prim.Native.Nat.{ℕ, zero, suc, _+_, _-_, _*_, _/_, _%_, _≤_, _<_}
+use Prim.Native.Nat.{ℕ, zero, suc, _+_, _-_, _*_, _/_, _%_, _<_}
 use mathlib.Core.Path.{_≡_, refl, sym, ap, _∙_}
-use mathlib.Core.Bool.{Bool, true, false}
+use mathlib.Core.Bool.{Bool, true}
 use native.Mathlib.Omega.{arith}
-use native.Mathlib.Nat.{add-zero, not-suc-le-zero, div-add-mod'}
+use native.Mathlib.Nat.{add-zero, not-suc-le-zero}
 use lib.Dec.{eqb, ltb}
-use borrow.Author.Tests.{eqb-true, eqb-false, leb-true, ltb-true, eq-eqb, ne-eqb}
+use borrow.Author.Tests.{eqb-true, leb-true, ltb-true, eq-eqb, ne-eqb}
 use Rattle.basics.specs.Choice.{pick, cases, either}
 use Rattle.basics.specs.Course.{upto, course}
-use Rattle.basics.proofs.Bools.{both-l, both-r, no-true, all-at}
+use Rattle.basics.proofs.Bools.{both-l, both-r, no-true, all-at, either-case}
 use Rattle.basics.proofs.Courses.{upto-is}
 use Rattle.table.specs.Table.{Table}
-use Rattle.table.specs.Entries.{fieldType, varMode, varType, firstVar, vars, typeKind, typeP, typeQ, typeLow, typeHigh}
+use Rattle.table.specs.Entries.{fieldType, varMode, varType, firstVar, vars, typeP, typeQ, typeLow, typeHigh}
 use Rattle.types.specs.Match.{elements}
 use Rattle.sizes.specs.Sizes.{wordsOf, offsetIn}
 use Rattle.words.specs.Types.{inType}
 use Rattle.words.proofs.StandardTypes.{integer-is, boolean-is, character-is}
-use Rattle.machine.specs.Memory.{Memory, within}
+use Rattle.machine.specs.Memory.{Memory}
 use Rattle.machine.specs.Layout.{location, statusAt, moduleAt, statementAt, topAt, worksAt, createdAt, callerFrame, callStatement, callerWorks, calledBlock}
 use Rattle.machine.specs.Entries.{TypeEntry, integer, boolean, character, recordType, arrayType, processType, noType, typeAt}
 use Rattle.machine.specs.Variables.{offsetOf}
 use Rattle.machine.specs.Processes.{refers}
 use Rattle.machine.specs.Step.{inRange}
-use Rattle.machine.specs.Values.{someBelow, typeHolds, holdsAt, nowhere, holds, partIn, partAt, part, partOfVariable, partOfBlock}
+use Rattle.machine.specs.Values.{typeHolds, holdsAt, nowhere, holds, part}
 use Rattle.machine.specs.Rule.{isCreated, owns, lives, moduleHolds, modulesHold, frameHolds, framesHold, chain, startedOk, processOk, rule}
+use Rattle.machine.proofs.Memories.{location-plus}
+use Rattle.machine.proofs.Entries.{type-integer, type-boolean, type-character, standard-record, standard-array, at-record, at-array}
 use Rattle.sound.specs.Claims.{Small}
 use Rattle.sound.specs.InUse.{Created, Reference, empty, names, HoldsValue, simple, reference, eachField, eachElement, Part, itself, ofField, ofElement, Call, innermost, caller, Of, moduleVariable, callVariable, InUse, ofModule, ofCall, Bound, ValuesHold}
+use Rattle.sound.proofs.ValueBlocks.{variable, InBlock, in-block}
+use Rattle.sound.proofs.ValueParts as parts
 
 -- ---- tests
-
-pub either-true {ℓ} : {A : Type ℓ} (a b : Bool) → either a b ≡ true → (a ≡ true → A) → (b ≡ true → A) → A
-unfolding either
-either-true true b e f g = f refl
-either-true false b e f g = g e
-
-record Some (k : ℕ) (f : ℕ → Bool) : Type 0 where
-  at : ℕ
-  below : at < k
-  is : f at ≡ true
-
-some-at : (k : ℕ) (f : ℕ → Bool) → someBelow k f ≡ true → Some k f
-unfolding someBelow
-some-at zero f e = no-true e
-some-at (suc k) f e =
-    either-true (f k) (someBelow k f) e
-    (λ h. record { at = k; below = omega arith; is = h })
-    (λ h. let s = some-at k f h in record { at = s .at; below = let l = s .below in omega arith; is = s .is })
 
 -- what recursion on smaller numbers says at one of them
 lower : (F : ℕ → (ℕ → ℕ → Bool) → ℕ → Bool) (τ σ b : ℕ) → upto nowhere F τ σ b ≡ true → (σ < τ) × (course nowhere F σ b ≡ true)
@@ -58,97 +44,16 @@ lower F τ σ b e =
     at : {g : ℕ → Bool} → pick (ltb σ τ) (course nowhere F σ) nowhere ≡ g → upto nowhere F τ σ b ≡ g b
     at h = ap (λ (g : ℕ → Bool). g b) (upto-is nowhere F τ σ ∙ h)
 
-within-least : (a n j : ℕ) → within a n j ≡ true → a ≤ j
-unfolding within
-within-least a n j e = leb-true a j (both-l _ _ e)
+-- ---- parts
 
--- ---- types
+module _ (T : Table) (τ : ℕ) where
+  by-part : {σ k : ℕ} → parts.Part T τ σ k → Part T τ σ k
+  by-part parts.whole = itself refl refl
+  by-part (parts.in-field σ i k e l p) = ofField (typeP T σ) (typeQ T σ) i k (at-record T σ e) l refl (by-part p)
+  by-part (parts.in-element σ i k e l p) = ofElement (typeP T σ) (typeQ T σ) (typeLow T σ) (typeHigh T σ) i k (at-array T σ e) l refl (by-part p)
 
-module _ (T : Table) where
-  type-integer : (τ : ℕ) → typeAt T τ ≡ integer → τ ≡ 0
-  unfolding typeAt
-  type-integer τ e = eqb-true τ 0 (go (eqb τ 0) (eqb τ 1) (eqb τ 2) (eqb (typeKind T τ) 1) (eqb (typeKind T τ) 2) (eqb (typeKind T τ) 3) e)
-    where
-      go : (a b c d f g : Bool) → pick a integer (pick b boolean (pick c character (pick d (recordType (typeP T τ) (typeQ T τ)) (pick f (arrayType (typeP T τ) (typeQ T τ) (typeLow T τ) (typeHigh T τ)) (pick g (processType (typeP T τ)) noType))))) ≡ integer → a ≡ true
-      go true b c d f g h = refl
-      go false true c d f g h = cc
-      go false false true d f g h = cc
-      go false false false true f g h = cc
-      go false false false false true g h = cc
-      go false false false false false true h = cc
-      go false false false false false false h = cc
-
-  type-boolean : (τ : ℕ) → typeAt T τ ≡ boolean → τ ≡ 1
-  unfolding typeAt
-  type-boolean τ e = eqb-true τ 1 (go (eqb τ 0) (eqb τ 1) (eqb τ 2) (eqb (typeKind T τ) 1) (eqb (typeKind T τ) 2) (eqb (typeKind T τ) 3) e)
-    where
-      go : (a b c d f g : Bool) → pick a integer (pick b boolean (pick c character (pick d (recordType (typeP T τ) (typeQ T τ)) (pick f (arrayType (typeP T τ) (typeQ T τ) (typeLow T τ) (typeHigh T τ)) (pick g (processType (typeP T τ)) noType))))) ≡ boolean → b ≡ true
-      go true b c d f g h = cc
-      go false true c d f g h = refl
-      go false false true d f g h = cc
-      go false false false true f g h = cc
-      go false false false false true g h = cc
-      go false false false false false true h = cc
-      go false false false false false false h = cc
-
-  type-character : (τ : ℕ) → typeAt T τ ≡ character → τ ≡ 2
-  unfolding typeAt
-  type-character τ e = eqb-true τ 2 (go (eqb τ 0) (eqb τ 1) (eqb τ 2) (eqb (typeKind T τ) 1) (eqb (typeKind T τ) 2) (eqb (typeKind T τ) 3) e)
-    where
-      go : (a b c d f g : Bool) → pick a integer (pick b boolean (pick c character (pick d (recordType (typeP T τ) (typeQ T τ)) (pick f (arrayType (typeP T τ) (typeQ T τ) (typeLow T τ) (typeHigh T τ)) (pick g (processType (typeP T τ)) noType))))) ≡ character → c ≡ true
-      go true b c d f g h = cc
-      go false true c d f g h = cc
-      go false false true d f g h = refl
-      go false false false true f g h = cc
-      go false false false false true g h = cc
-      go false false false false false true h = cc
-      go false false false false false false h = cc
-
-  -- a standard type is no structured one
-  standard-record : (τ first count : ℕ) → τ < 3 → typeAt T τ ≡ recordType first count → ⊥
-  unfolding typeAt
-  standard-record zero first count h e = let z : _≡_ {A = ℕ} 0 1 = cc in omega arith
-  standard-record (suc zero) first count h e = let z : _≡_ {A = ℕ} 0 1 = cc in omega arith
-  standard-record (suc (suc zero)) first count h e = let z : _≡_ {A = ℕ} 0 1 = cc in omega arith
-  standard-record (suc (suc (suc τ))) first count h e = omega arith
-
-  standard-array : (τ ι σ low high : ℕ) → τ < 3 → typeAt T τ ≡ arrayType ι σ low high → ⊥
-  unfolding typeAt
-  standard-array zero ι σ low high h e = let z : _≡_ {A = ℕ} 0 1 = cc in omega arith
-  standard-array (suc zero) ι σ low high h e = let z : _≡_ {A = ℕ} 0 1 = cc in omega arith
-  standard-array (suc (suc zero)) ι σ low high h e = let z : _≡_ {A = ℕ} 0 1 = cc in omega arith
-  standard-array (suc (suc (suc τ))) ι σ low high h e = omega arith
-
-  -- ---- parts
-  part-entry : (τ σ : ℕ) (E : TypeEntry) (k : ℕ) → typeAt T σ ≡ E
-      → ((ρ j : ℕ) → ρ < σ → part T τ ρ j ≡ true → Part T τ ρ j)
-      → partIn T σ (upto nowhere (partAt T τ) σ) E k ≡ true → Part T τ σ k
-  unfolding partIn part
-  part-entry τ σ integer k t f e = no-true e
-  part-entry τ σ boolean k t f e = no-true e
-  part-entry τ σ character k t f e = no-true e
-  part-entry τ σ (recordType first count) k t f e =
-      let s = some-at count _ e in
-      let l = lower (partAt T τ) σ _ _ (both-r _ _ (s .is)) in
-      let w = within-least _ _ _ (both-l _ _ (s .is)) in
-      let z : k ≡ offsetIn T σ (s .at) + (k - offsetIn T σ (s .at)) = omega arith in
-      ofField first count (s .at) (k - offsetIn T σ (s .at)) t (s .below) z (f _ _ (l .0) (l .1))
-  part-entry τ σ (arrayType ι ρ low high) k t f e =
-      let l = lower (partAt T τ) σ _ _ (both-r _ _ e) in
-      ofElement ι ρ low high (k / wordsOf T ρ) (k % wordsOf T ρ) t (ltb-true _ _ (both-l _ _ e)) (sym (div-add-mod' k (wordsOf T ρ))) (f _ _ (l .0) (l .1))
-  part-entry τ σ (processType μ) k t f e = no-true e
-  part-entry τ σ noType k t f e = no-true e
-
-  part-upto : (τ n σ k : ℕ) → σ < n → part T τ σ k ≡ true → Part T τ σ k
-  unfolding part partAt course
-  part-upto τ zero σ k h e = absurd (not-suc-le-zero h)
-  part-upto τ (suc n) σ k h e =
-      either-true _ _ e
-      (λ b. itself (sym (eqb-true σ τ (both-l _ _ b))) (eqb-true k 0 (both-r _ _ b)))
-      (λ b. part-entry τ σ (typeAt T σ) k refl (λ ρ j l p. part-upto τ n ρ j (omega arith) p) b)
-
-  pub part-of : (τ σ k : ℕ) → part T τ σ k ≡ true → Part T τ σ k
-  part-of τ σ k e = part-upto τ (suc σ) σ k (omega arith) e
+pub part-of : (T : Table) (τ σ k : ℕ) → part T τ σ k ≡ true → Part T τ σ k
+part-of T τ σ k e = by-part T τ (parts.to-Part T τ σ k e)
 
 module _ (T : Table) (m : Memory) where
   -- ---- values
@@ -186,7 +91,7 @@ module _ (T : Table) (m : Memory) where
     reference-of : (μ w : ℕ) → either (eqb w 0) (refers m μ w) ≡ true → Reference m μ w
     unfolding refers
     reference-of μ w e =
-        either-true _ _ e
+        either-case _ _ e
         (λ h. empty (eqb-true w 0 h))
         (λ h. let b = both-l _ _ h in
         let two = leb-true 2 w (both-l _ _ b) in
@@ -220,38 +125,13 @@ module _ (T : Table) (m : Memory) where
 
 -- ---- variables in use
 
-location-plus : (p k j : ℕ) → location p (k + j) ≡ location p k + j
-unfolding location
-location-plus p k j = omega arith
-
 location-is : (a : ℕ) → a ≡ location (a / 256 + 1) (a % 256)
 unfolding location
 location-is a = omega arith
 
--- a part of type τ begins at word k of the variables of block b
-record InBlock (T : Table) (b τ k : ℕ) : Type 0 where
-  variable : ℕ
-  of : Of T b variable
-  noVar : varMode T variable ≡ 2 → ⊥
-  least : offsetOf T b variable ≤ k
-  part : Part T τ (varType T variable) (k - offsetOf T b variable)
-
-in-block : (T : Table) (b τ k : ℕ) → partOfBlock T b τ k ≡ true → InBlock T b τ k
-unfolding partOfBlock partOfVariable
-in-block T b τ k e =
-    let s = some-at (vars T b) _ e in
-    let l = s .below in
-    let w = within-least _ _ _ (both-l _ _ (s .is)) in
-    let p = both-r _ _ (s .is) in
-    cases (eqb (varMode T (firstVar T b + s .at)) 2)
-    (λ h. no-true (sym (ap (λ (c : Bool). pick c false (part T τ (varType T (firstVar T b + s .at)) (k - offsetOf T b (firstVar T b + s .at)))) h) ∙ p))
-    (λ h. record {
-      variable = firstVar T b + s .at;
-      of = record { least = omega arith; most = omega arith };
-      noVar = eqb-false _ 2 h;
-      least = w;
-      part = part-of T τ _ _ (sym (ap (λ (c : Bool). pick c false (part T τ (varType T (firstVar T b + s .at)) (k - offsetOf T b (firstVar T b + s .at)))) h) ∙ p);
-    })
+-- the variable of a part is one of the block
+of-block : (T : Table) (b τ k : ℕ) (p : InBlock T b τ k) → Of T b (variable T b (p .i))
+of-block T b τ k p = let l = p .there in record { least = omega arith; most = omega arith }
 
 module _ (T : Table) (m : Memory) (small : Small m) (ruled : rule T m ≡ true) where
   process-ok : (p : ℕ) → Created m p → processOk T m p ≡ true
@@ -327,26 +207,26 @@ module _ (T : Table) (m : Memory) (small : Small m) (ruled : rule T m ≡ true) 
   unfolding owns
   owned p zero f τ k c e = no-true e
   owned p (suc d) f τ k c e =
-      either-true _ _ e
+      either-case _ _ e
       (λ h.
       let l = leb-true (f + 4) k (both-l _ _ h) in
       let b = in-block T (calledBlock m p f) τ (k - (f + 4)) (both-r _ _ h) in
-      let o = b .least in
-      let y : k ≡ f + 4 + offsetOf T (calledBlock m p f) (b .variable) + (k - (f + 4) - offsetOf T (calledBlock m p f) (b .variable)) = omega arith in
-      bound-at τ _ _ _ _ (ofCall p d f (b .variable) (c d refl) (b .of) (b .noVar) refl refl) (b .part) (ap (location p) y ∙ location-plus p _ _))
+      let o = b .from in
+      let y : k ≡ f + 4 + offsetOf T (calledBlock m p f) (variable T (calledBlock m p f) (b .i)) + (k - (f + 4) - offsetOf T (calledBlock m p f) (variable T (calledBlock m p f) (b .i))) = omega arith in
+      bound-at τ _ _ _ _ (ofCall p d f (variable T (calledBlock m p f) (b .i)) (c d refl) (of-block T _ _ _ b) (b .mode) refl refl) (part-of T τ _ _ (b .part)) (ap (location p) y ∙ location-plus p _ _))
       (λ h. owned p d (callerFrame m p f) τ k (λ i z. caller f (rw z at (c d refl)) refl) h)
 
   lives-bound : (p d f τ a : ℕ) → ((e : ℕ) → d ≡ suc e → Call T m p e f) → lives T m p d f τ a ≡ true → Bound T m τ a
   unfolding lives isCreated inRange
   lives-bound p d f τ a c e =
-      either-true _ _ e
+      either-case _ _ e
       (λ h.
       let g = both-l _ _ h in
       let b = in-block T (m (moduleAt (a / 256 + 1))) τ (a % 256) (both-r _ _ h) in
-      let o = b .least in
+      let o = b .from in
       let n : Created m (a / 256 + 1) = record { least = leb-true _ _ (both-l _ _ g); most = leb-true _ _ (both-r _ _ g) } in
-      let y : a % 256 ≡ offsetOf T (m (moduleAt (a / 256 + 1))) (b .variable) + (a % 256 - offsetOf T (m (moduleAt (a / 256 + 1))) (b .variable)) = omega arith in
-      bound-at τ _ _ _ _ (ofModule (a / 256 + 1) (b .variable) n (b .of) refl refl) (b .part) (location-is a ∙ ap (location (a / 256 + 1)) y ∙ location-plus (a / 256 + 1) _ _))
+      let y : a % 256 ≡ offsetOf T (m (moduleAt (a / 256 + 1))) (variable T (m (moduleAt (a / 256 + 1))) (b .i)) + (a % 256 - offsetOf T (m (moduleAt (a / 256 + 1))) (variable T (m (moduleAt (a / 256 + 1))) (b .i))) = omega arith in
+      bound-at τ _ _ _ _ (ofModule (a / 256 + 1) (variable T (m (moduleAt (a / 256 + 1))) (b .i)) n (of-block T _ _ _ b) refl refl) (part-of T τ _ _ (b .part)) (location-is a ∙ ap (location (a / 256 + 1)) y ∙ location-plus (a / 256 + 1) _ _))
       (λ h.
       let q = eqb-true _ p (both-l _ _ h) in
       let x : a ≡ location p (a % 256) = location-is a ∙ ap (λ (r : ℕ). location r (a % 256)) q in

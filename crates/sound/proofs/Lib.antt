@@ -54,7 +54,6 @@ pub mod StoresStarted
 pub mod StoresSteps
 pub mod StoresValues
 pub mod ValueBlocks
-pub mod ValueBools
 pub mod ValueKnown
 pub mod ValueParts
 pub mod ValueStores

@@ -19,16 +19,17 @@ use Rattle.machine.specs.Layout.{location, linkAt, topAt, callerFrame, calledBl
 use Rattle.machine.specs.Variables.{firstWords, frameWords, offsetOf}
 use Rattle.machine.specs.Context.{Context, contextOf}
 use Rattle.machine.specs.Calls.{frame, pushed}
+use Rattle.machine.proofs.Memories.{store-at}
 use Rattle.verdict.specs.Accepted.{Accepted}
 use Rattle.sound.specs.Conditions.{Yields}
 use Rattle.sound.specs.Carried.{Passes, noMore, byValue, byVariable, Passed}
 use Rattle.sound.specs.OpenCalls.{variableAt, Gets, stores, binds, Enters}
-use Rattle.sound.proofs.StoresBlocks.{offset-is, first-up, variable-in, plain-words, bound-words}
-use Rattle.sound.proofs.StoresMemory.{location-add, store-at}
+use Rattle.sound.proofs.StoresMemory.{location-add}
 use Rattle.sound.proofs.StoresCalls.{frameOf, frame-length, frame-argument, frame-zero}
 use Rattle.sound.proofs.StoresStanding.{stand-area}
 use Rattle.sound.proofs.EvaluationArguments.{wordsFrom, words-first, Stands, stands-words, stands-front, stands-back}
 use Rattle.sound.proofs.HistoriesOperands.{matching-words, value-long}
+use Rattle.sound.proofs.ValueBlocks.{begins-at, begins-up, variable-in, words-value, words-var}
 
 -- ---- the words that arguments pass
 
@@ -43,13 +44,13 @@ module _ (T : Table) (m page : Memory) (x : Context) where
   passes-length _ v i _ (byValue {k = k} {σ = σ} {us = us} {ws = ws} e y h p) =
       let a = passes-length k (v + 1) (i + 1) ws p in
       let b = value-words v _ σ us e y h in
-      let c = plain-words T v (λ z. omega arith) in
+      let c = words-value T v (λ z. omega arith) in
       let d = words-first T v k in
       let f = length-append us ws in
       omega arith
   passes-length _ v i _ (byVariable {k = k} {ws = ws} e y p) =
       let a = passes-length k (v + 1) (i + 1) ws p in
-      let c = bound-words T v e in
+      let c = words-var T v e in
       let d = words-first T v k in
       omega arith
 
@@ -67,7 +68,7 @@ module _ (T : Table) (m page : Memory) (p n : ℕ) (s : Memory) where
       let z : i + suc j ≡ i + 1 + j = omega arith in
       let b = words-first T v j in
       let w = value-words T m page (contextOf m p) v _ σ us e y t in
-      let c = plain-words T v (λ z. omega arith) in
+      let c = words-value T v (λ z. omega arith) in
       let f : a + wordsFrom T v (suc j) ≡ a + length us + wordsFrom T (v + 1) j = omega arith in
       rw (x, z, f) (passes-get k (v + 1) (i + 1) (a + length us) j ws q (stands-back s a us ws h) (omega arith))
   passes-get _ v i a zero _ (byVariable {k = k} {a = b} {ws = ws} e y q) h l =
@@ -78,7 +79,7 @@ module _ (T : Table) (m page : Memory) (p n : ℕ) (s : Memory) where
       let x : v + suc j ≡ v + 1 + j = omega arith in
       let z : i + suc j ≡ i + 1 + j = omega arith in
       let c = words-first T v j in
-      let d = bound-words T v e in
+      let d = words-var T v e in
       let f : a + wordsFrom T v (suc j) ≡ a + 1 + wordsFrom T (v + 1) j = omega arith in
       rw (x, z, f) (passes-get k (v + 1) (i + 1) (a + 1) j ws q (stands-back s a (b ∷ []) ws h) (omega arith))
 
@@ -133,7 +134,7 @@ module _ (T : Table) (acc : Accepted T) (m page : Memory) (p q c d : ℕ) (ws : 
 
   pub passed-short : length ws ≤ frameWords T q
   unfolding frameWords
-  passed-short = let e = passed-length in let u = first-up T q (params T q) (vars T q) (params-vars T (acc .numbers) q there) in omega arith
+  passed-short = let e = passed-length in let u = begins-up T q (params T q) (vars T q) (params-vars T (acc .numbers) q there) in omega arith
 
   module _ (n : ℕ) (some : 1 ≤ p) (most : p ≤ 64) (s : Memory) (r : ℕ) (room : m (topAt p) + 4 + frameWords T q ≤ 256) where
     -- where variable v stands
@@ -147,11 +148,11 @@ module _ (T : Table) (acc : Accepted T) (m page : Memory) (p q c d : ℕ) (ws : 
         → state (location p (m (topAt p) + 4) + (offsetOf T q (firstVar T q + i) + k)) ≡ 0
     local-zero i k l e g =
         let u = variable-in T q i l in
-        let w = plain-words T (firstVar T q + i) (λ z. omega arith) in
-        let o = offset-is T q i in
+        let w = words-value T (firstVar T q + i) (λ z. omega arith) in
+        let o = begins-at T q i in
         let f = passed-length in
         let over : params T q ≤ i = cases (ltb i (params T q)) (λ z. let y = mode-parameter T (acc .numbers) q there i (ltb-true i (params T q) z) .0 in absurd (omega arith)) (λ z. ltb-false i (params T q) z) in
-        let t = first-up T q (params T q) i over in
+        let t = begins-up T q (params T q) i over in
         entered-zero T m page p some most s q r ws passed-short room (offsetOf T q (firstVar T q + i) + k) (omega arith) (omega arith)
 
     local-at : (i v k : ℕ) → v ≡ firstVar T q + i → i < vars T q → varMode T v ≡ 0 → k < wordsOf T (varType T v)
@@ -166,7 +167,7 @@ module _ (T : Table) (acc : Accepted T) (m page : Memory) (p q c d : ℕ) (ws : 
     call-enters =
         record {
           parameters = λ i l.
-              rw (variable-is (firstVar T q + i), offset-is T q i)
+              rw (variable-is (firstVar T q + i), begins-at T q i)
               (passes-get T m page p n state d (firstVar T q) c (location p (m (topAt p) + 4)) i ws (h .words)
               (record { at = entered-argument T m page p some most s q r ws passed-short room }) (let e = h .each in omega arith));
           locals = λ v k o e l. let a = o .least in let b = o .most in local-at (v - firstVar T q) v k (omega arith) (omega arith) e l;

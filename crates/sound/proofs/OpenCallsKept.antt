@@ -11,7 +11,7 @@ use lib.Dec.{eqb, ltb}
 use lib.ListN.{length}
 use borrow.Author.Tests.{eqb-true, eqb-false, eq-eqb, ne-eqb, leb-true, ltb-true, ltb-false}
 use Rattle.basics.specs.Choice.{pick, both, either, cases}
-use Rattle.basics.proofs.Bools.{both-l, both-r, both-false-l}
+use Rattle.basics.proofs.Bools.{both-l, both-r, both-false-l, either-l, either-r}
 use Rattle.table.specs.Table.{Table}
 use Rattle.table.specs.Entries.{blockCount, blockKind, owner}
 use Rattle.machine.specs.Memory.{Memory, update, store}
@@ -24,6 +24,7 @@ use Rattle.machine.specs.Calls.{standing, frame, pushed, popped}
 use Rattle.machine.specs.Processes.{onModule, onProcess, refers, onReference, created, started}
 use Rattle.machine.specs.Statements.{doLocalCall, doProcessCall, doStart, perform}
 use Rattle.machine.specs.Step.{Step, done, settled, inRange, performs, proceeds, exists, turn, step}
+use Rattle.machine.proofs.Memories.{update-other}
 use Rattle.verdict.specs.Accepted.{Accepted}
 use Rattle.sound.specs.Ruled.{Ruled}
 use Rattle.sound.specs.InUse.{Created, innermost, caller}
@@ -33,15 +34,14 @@ use Rattle.sound.specs.Carried.{Passed, Carries, Inside, nextArm, lastEn
 use Rattle.sound.specs.Rows.{next, Ready, CarriedOut, Changes, failureMark, nothing, givesUp, endedBefore, endsNow, absent, carried, SameFailure}
 use Rattle.sound.specs.Created.{NewProcess}
 use Rattle.sound.specs.OpenCalls.{OpenCall, callsFrom, openCalls, outer, callsBy, callsAfter, Enters, CallsKept}
-use Rattle.sound.proofs.Ruled.{either-l, either-r, procedure-there, block-there, block-kind}
+use Rattle.sound.proofs.Ruled.{procedure-there, block-there, block-kind, created-in, in-created}
 use Rattle.sound.proofs.RowsListed.{statement-listed}
 use Rattle.sound.proofs.HistoriesOperands.{place-fits, place-area, value-long}
 use Rattle.sound.proofs.HistoriesRecords.{location-end, unlike-words, new-process, record-after, old-record}
 use Rattle.sound.proofs.HistoriesSized.{room}
 use Rattle.sound.proofs.StoresBlocks.{module-fits}
-use Rattle.sound.proofs.StoresMemory.{update-other}
 use Rattle.sound.proofs.StoresStanding.{stand-word, stand-depth, stand-frame}
-use Rattle.sound.proofs.OpenCallsListed.{created-in, in-created, not-created, open-started, open-none}
+use Rattle.sound.proofs.OpenCallsListed.{not-created, open-started, open-none}
 use Rattle.sound.proofs.OpenCallsEntered.{frame-long, entered-caller, entered-block, passed-short, call-enters}
 use Rattle.sound.proofs.OpenCallsRecords.{Alike, alike, alike-record, alike-own, alike-store, alike-standing, from-kept, words-calls, alike-calls, all-calls}
 

@@ -21,30 +21,24 @@ use Rattle.sound.specs.Histories.{Seen, finally, Threaded, Every}
 use Rattle.sound.specs.OpenCalls.{OpenCall, callsFrom, openCalls, Among, CallsListed, callsAfter, callsMade, CallsKept}
 use Rattle.sound.proofs.HistoriesBegin.{begin-created}
 use Rattle.sound.proofs.HistoriesBindings.{Under, this, next, call-under, call-created, call-started}
-use Rattle.sound.proofs.Ruled.{range-low, range-high, range-i}
+use Rattle.sound.proofs.Ruled.{created-in, in-created}
 
 -- ---- of a state
 
 module _ (m : Memory) (p : ℕ) where
-  pub created-in : Created m p → inRange 1 (m createdAt) p ≡ true
-  created-in c = range-i 1 (m createdAt) p (c .least) (c .most)
-
-  pub in-created : inRange 1 (m createdAt) p ≡ true → Created m p
-  in-created e = record { least = range-low 1 (m createdAt) p e; most = range-high 1 (m createdAt) p e }
-
   pub not-created : inRange 1 (m createdAt) p ≡ false → Created m p → ⊥
-  not-created e h = no-true (sym e ∙ created-in h)
+  not-created e h = no-true (sym e ∙ created-in m p h)
 
   -- the calls of a started process; of another there are none
   pub open-started : Created m p → m (statusAt p) ≡ 2 → openCalls m p ≡ callsFrom m p (m (depthAt p)) (m (frameAt p))
   unfolding openCalls
-  open-started c e = rw (both-i _ _ (created-in c) (eq-eqb (m (statusAt p)) 2 e))
+  open-started c e = rw (both-i _ _ (created-in m p c) (eq-eqb (m (statusAt p)) 2 e))
 
   pub open-none : (Created m p → m (statusAt p) ≡ 2 → ⊥) → openCalls m p ≡ []
   unfolding openCalls
   open-none h =
       cases (inRange 1 (m createdAt) p)
-      (λ c. rw (both-false-r (inRange 1 (m createdAt) p) _ (ne-eqb (m (statusAt p)) 2 (h (in-created c)))))
+      (λ c. rw (both-false-r (inRange 1 (m createdAt) p) _ (ne-eqb (m (statusAt p)) 2 (h (in-created m p c)))))
       (λ c. rw (both-false-l _ (eqb (m (statusAt p)) 2) c))
 
   from-length : (d f : ℕ) → length (callsFrom m p d f) ≡ d

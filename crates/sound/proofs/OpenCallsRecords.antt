@@ -12,12 +12,14 @@ use Rattle.machine.specs.Memory.{Memory, update, store}
 use Rattle.machine.specs.Layout.{recordAt, linkAt, statusAt, frameAt, depthAt, createdAt, callerFrame, calledBlock}
 use Rattle.machine.specs.Calls.{standing}
 use Rattle.machine.specs.Step.{inRange}
+use Rattle.machine.proofs.Memories.{update-other}
 use Rattle.sound.specs.InUse.{Created, Call, innermost, caller}
 use Rattle.sound.specs.Bindings.{link, BindingsKept}
 use Rattle.sound.specs.OpenCalls.{callsFrom, openCalls}
 use Rattle.sound.proofs.HistoriesRecords.{unlike-words}
-use Rattle.sound.proofs.StoresMemory.{update-other, store-after, record-high, records-apart}
-use Rattle.sound.proofs.OpenCallsListed.{in-created, not-created, open-started, open-none}
+use Rattle.sound.proofs.StoresMemory.{records-apart, store-record}
+use Rattle.sound.proofs.OpenCallsListed.{not-created, open-started, open-none}
+use Rattle.sound.proofs.Ruled.{in-created}
 
 -- the record of process r says the same of its calls
 pub record Words (m s : Memory) (r : ℕ) : Type 0 where
@@ -77,10 +79,7 @@ module _ (m s : Memory) (e : ℕ) (h : Alike m s e) where
 
   pub alike-store : (a : ℕ) (ws : List ℕ) → a + length ws ≤ 16384 → Alike m (store s a ws) e
   alike-store a ws l =
-      alike-by _ (high 1 8) (λ r k i n b c. high r k)
-    where
-      high : (r k : ℕ) → store s a ws (recordAt r k) ≡ s (recordAt r k)
-      high r k = let z = record-high r k in store-after s a ws (recordAt r k) (omega arith)
+      alike-by _ (store-record s a ws l 1 8) (λ r k i n b c. store-record s a ws l r k)
 
 pub alike-standing : (m s : Memory) (e c f t w d : ℕ) → 1 ≤ e → Alike m s e → Alike m (standing s e c f t w d) e
 unfolding standing

@@ -51,9 +51,9 @@ judged-checked T =
     (pick-checked (typed T) _ 9 (omega arith) (omega arith)
     (accepts refl)))))))
 
-verdict-checked : (t : List ℕ) → Checked (verdict 1 t)
+verdict-checked : (w : ℕ) (t : List ℕ) → Checked (verdict w t)
 unfolding verdict judgedBytes
-verdict-checked t = pick-checked (whole 1 (bytesRead 1 t)) _ 2 (omega arith) (omega arith) (judged-checked (tableAt 1 (bytesRead 1 t)))
+verdict-checked w t = pick-checked (whole w (bytesRead w t)) _ 2 (omega arith) (omega arith) (judged-checked (tableAt w (bytesRead w t)))
 
 -- ---- the rows
 
@@ -98,60 +98,60 @@ success-of l v s = (λ e. refused-none l v s e, λ h. refuses-none l v s (h .0) 
 
 -- ---- begin
 
-module _ (table state : List ℕ) where
-  begin-refusal : beginRefusal (verdict 1) table state ≡ refusal (eqb (length state) 35328) (verdict 1 table) true
+module _ (w : ℕ) (table state : List ℕ) where
+  begin-refusal : beginRefusal verdict w table state ≡ refusal (eqb (length state) 35328) (verdict w table) true
   unfolding beginRefusal refusal
-  begin-refusal = ap (λ (v : ℕ). pick (eqb (length state) 35328) v 1) (unruled (verdict 1 table))
+  begin-refusal = ap (λ (v : ℕ). pick (eqb (length state) 35328) v 1) (unruled (verdict w table))
     where
       unruled : (v : ℕ) → v ≡ pick (eqb v 0) 0 v
       unruled v = cases (eqb v 0) (λ e. rw e (eqb-true v 0 e)) (λ e. rw e)
 
-  begin-is : begunResult (beginCall (verdict 1) table state) ≡ beginRefusal (verdict 1) table state
+  begin-is : begunResult (beginCall verdict w table state) ≡ beginRefusal verdict w table state
   unfolding beginCall begunResult
-  begin-is = cases (eqb (beginRefusal (verdict 1) table state) 0) (λ e. rw e (sym (eqb-true _ 0 e))) (λ e. rw e)
+  begin-is = cases (eqb (beginRefusal verdict w table state) 0) (λ e. rw e (sym (eqb-true _ 0 e))) (λ e. rw e)
 
-  begin-result : BeginResult (verdict 1) table state
+  begin-result : BeginResult verdict w table state
   begin-result =
-      let e : begunResult (beginCall (verdict 1) table state) ≡ refusal (eqb (length state) 35328) (verdict 1 table) true = begin-is ∙ begin-refusal in
+      let e : begunResult (beginCall verdict w table state) ≡ refusal (eqb (length state) 35328) (verdict w table) true = begin-is ∙ begin-refusal in
       record {
         is = begin-is;
-        lowest = rw e (lowest-of _ _ _ _ (reason-of _ _ _ (verdict-checked table)));
+        lowest = rw e (lowest-of _ _ _ _ (reason-of _ _ _ (verdict-checked w table)));
         success = rw e (success-of _ _ _);
-        unchanged = λ n. rw (begin-is) (begin-refused (verdict 1) table state (λ z. n (begin-is ∙ z)));
+        unchanged = λ n. rw (begin-is) (begin-refused verdict w table state (λ z. n (begin-is ∙ z)));
       }
 
 -- ---- run
 
-module _ (table state page schedule answers : List ℕ) (bt : Bytes table) (bs : Bytes state) (bp : Bytes page) where
+module _ (w : ℕ) (table state page schedule answers : List ℕ) (bt : Bytes table) (bs : Bytes state) (bp : Bytes page) where
   -- a call that is not refused is not stuck
-  pub open-traced : runRefusal (verdict 1) table state page schedule answers ≡ 0 → Traced (tableOf 1 table) schedule (memoryOf state) (memoryOf page)
+  pub open-traced : runRefusal verdict w table state page schedule answers ≡ 0 → Traced (tableOf w table) schedule (memoryOf state) (memoryOf page)
   open-traced e =
-      let v = run-accepted (verdict 1) table state page schedule answers e in
-      let l = run-lengths (verdict 1) table state page schedule answers e in
-      traced (tableOf 1 table) (step-laws (tableOf 1 table) (promise 1 table v) (word-table 1 table bt)) schedule (memoryOf state) (memoryOf page)
-      (record { ruled = run-ruled (verdict 1) table state page schedule answers e; words = memory-small state bs; sized = memory-sized state 17664 (l .0) })
+      let v = run-accepted verdict w table state page schedule answers e in
+      let l = run-lengths verdict w table state page schedule answers e in
+      traced (tableOf w table) (step-laws (tableOf w table) (promise w table v) (word-table w table bt)) schedule (memoryOf state) (memoryOf page)
+      (record { ruled = run-ruled verdict w table state page schedule answers e; words = memory-small state bs; sized = memory-sized state 17664 (l .0) })
       (record { words = memory-small page bp; sized = memory-sized page 4096 (l .1 .0) })
 
-  pub open-run : (e : runRefusal (verdict 1) table state page schedule answers ≡ 0)
-      → runCall (verdict 1) table state page schedule answers
+  pub open-run : (e : runRefusal verdict w table state page schedule answers ≡ 0)
+      → runCall verdict w table state page schedule answers
       ≡ called 0 (stateBytes (open-traced e .state)) (pageBytes (open-traced e .devices)) (open-traced e .given ++ drop (length (open-traced e .given)) answers)
   unfolding runCall finished stateBytes pageBytes
   open-run e = rw (eq-eqb _ 0 e, open-traced e .is)
 
-  run-is : returned (verdict 1) table state page schedule answers ≡ runRefusal (verdict 1) table state page schedule answers
+  run-is : returned verdict w table state page schedule answers ≡ runRefusal verdict w table state page schedule answers
   unfolding result
   run-is =
-      cases (eqb (runRefusal (verdict 1) table state page schedule answers) 0)
+      cases (eqb (runRefusal verdict w table state page schedule answers) 0)
       (λ e. ap result (open-run (eqb-true _ 0 e)) ∙ sym (eqb-true _ 0 e))
-      (λ e. ap result (run-refused (verdict 1) table state page schedule answers (eqb-false _ 0 e)))
+      (λ e. ap result (run-refused verdict w table state page schedule answers (eqb-false _ 0 e)))
 
-  run-result : RunResult (verdict 1) table state page schedule answers
+  run-result : RunResult verdict w table state page schedule answers
   unfolding runRefusal
   run-result = record {
     is = run-is;
-    lowest = rw run-is (lowest-of _ _ _ _ (reason-of _ _ _ (verdict-checked table)));
+    lowest = rw run-is (lowest-of _ _ _ _ (reason-of _ _ _ (verdict-checked w table)));
     success = rw run-is (success-of _ _ _);
-    unchanged = λ n. rw run-is (run-refused (verdict 1) table state page schedule answers (λ z. n (run-is ∙ z)));
+    unchanged = λ n. rw run-is (run-refused verdict w table state page schedule answers (λ z. n (run-is ∙ z)));
   }
 
 -- ---- look
@@ -169,13 +169,13 @@ data Looks (right : ℕ) (seen : Bool) (r : ℕ) : Type 0 where
   sees-none : right ≡ 0 → seen ≡ false → r ≡ 11 → Looks right seen r
   sees-word : right ≡ 0 → seen ≡ true → 65536 ≤ r → r < 131072 → Looks right seen r
 
-module _ (table state : List ℕ) (process variable place : ℕ) (bs : Bytes state) where
-  looks-seen : (right seen : Bool) (n w : ℕ) → w < 65536 → eqb n 0 ≡ right → Looks n seen (pick right (pick seen (65536 + w) 11) n)
-  looks-seen false seen n w l e = turnedDown (eqb-false n 0 e) refl
-  looks-seen true false n w l e = sees-none (eqb-true n 0 e) refl refl
-  looks-seen true true n w l e = sees-word (eqb-true n 0 e) refl (omega arith) (omega arith)
+module _ (w : ℕ) (table state : List ℕ) (process variable place : ℕ) (bs : Bytes state) where
+  looks-seen : (right seen : Bool) (n k : ℕ) → k < 65536 → eqb n 0 ≡ right → Looks n seen (pick right (pick seen (65536 + k) 11) n)
+  looks-seen false seen n k l e = turnedDown (eqb-false n 0 e) refl
+  looks-seen true false n k l e = sees-none (eqb-true n 0 e) refl refl
+  looks-seen true true n k l e = sees-word (eqb-true n 0 e) refl (omega arith) (omega arith)
 
-  looks : Looks (lookRefusal (verdict 1) table state) (sees (verdict 1) table state process variable place) (looked (verdict 1) table state process variable place)
+  looks : Looks (lookRefusal verdict w table state) (sees verdict w table state process variable place) (looked verdict w table state process variable place)
   unfolding lookCall look
   looks = looks-seen _ _ _ _ (memory-small state bs .small _) refl
 
@@ -206,10 +206,10 @@ module _ (table state : List ℕ) (process variable place : ℕ) (bs : Bytes sta
     look-most (sees-none z f q) = omega arith
     look-most (sees-word z f q h) = h
 
-  look-result : LookResult (verdict 1) table state process variable place
+  look-result : LookResult verdict w table state process variable place
   unfolding lookRefusal
   look-result =
-      let c = verdict-checked table in
+      let c = verdict-checked w table in
       record {
         lowest = lowest-of _ _ _ _ (look-reason _ _ _ _ _ _ refl c looks);
         eleven = look-eleven _ _ _ _ _ _ refl c looks;
@@ -218,5 +218,5 @@ module _ (table state : List ℕ) (process variable place : ℕ) (bs : Bytes sta
       }
 
 -- THE THEOREM
-pub results : Results (verdict 1)
-results = record { checks = verdict-checked; begins = begin-result; runs = run-result; looks = look-result }
+pub results : (w : ℕ) → Results verdict w
+results w = record { checks = verdict-checked w; begins = begin-result w; runs = run-result w; looks = look-result w }

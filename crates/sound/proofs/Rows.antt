@@ -5,9 +5,9 @@ use mathlib.Core.Bool.{Bool, true, false}
 use mathlib.Core.Logic.{_⊎_, inl, inr}
 use native.Mathlib.Omega.{arith}
 use lib.Dec.{eqb}
-use borrow.Author.Tests.{eqb-true, eqb-false, eq-eqb, ne-eqb, leb-true, le-leb}
+use borrow.Author.Tests.{eqb-true, eqb-false, eq-eqb, ne-eqb}
 use Rattle.basics.specs.Choice.{cases, either}
-use Rattle.basics.proofs.Bools.{no-true, both-l, both-r, both-i}
+use Rattle.basics.proofs.Bools.{no-true, either-l, either-r}
 use Rattle.table.specs.Table.{Table}
 use Rattle.machine.specs.Memory.{Memory, update}
 use Rattle.machine.specs.Layout.{statusAt, worksAt, holderAt, createdAt, failureAt}
@@ -20,15 +20,7 @@ use Rattle.sound.specs.InUse.{Created}
 use Rattle.sound.specs.Rows.{next, Ready, Waiting, unstarted, held, waiting, Ended, before, now, Absent, Failing, CarriedOut, Row, row0, row1, row2, row3, row16, Blocked, atGuards, Changes, failureMark, nothing, givesUp, endedBefore, endsNow, absent, carried, Answers, RowsHold, SameFailure}
 use Rattle.sound.proofs.RowsOutcomes.{g-need, Near, same, n-need, n-pick-true, n-pick-false, near-is}
 use Rattle.sound.proofs.RowsStatements.{Leaves, gives, keeps, Reports, went, waited, ended, failed, strays, reports, statement-near, carries-near, Gives, waits-near, ends-near}
-
-either-l : (a b : Bool) → a ≡ true → either a b ≡ true
-unfolding either
-either-l a b e = rw e
-
-either-r : (a b : Bool) → b ≡ true → either a b ≡ true
-unfolding either
-either-r true b e = refl
-either-r false b e = e
+use Rattle.sound.proofs.Ruled.{created-in, in-created}
 
 either-none : (a b : Bool) → either a b ≡ false → (a ≡ false) × (b ≡ false)
 unfolding either
@@ -45,14 +37,6 @@ unfolding either
 either-both-false a b e h = rw (e, h)
 
 module _ (T : Table) (m page : Memory) (p : ℕ) where
-  created-in : Created m p → inRange 1 (m createdAt) p ≡ true
-  unfolding inRange
-  created-in c = both-i _ _ (le-leb _ _ (c .least)) (le-leb _ _ (c .most))
-
-  in-created : inRange 1 (m createdAt) p ≡ true → Created m p
-  unfolding inRange
-  in-created e = record { least = leb-true _ _ (both-l _ _ e); most = leb-true _ _ (both-r _ _ e) }
-
   -- ---- what a step comes to has its row
 
   data Stepped : Outcome Effect → Type 0 where
@@ -121,20 +105,20 @@ module _ (T : Table) (m page : Memory) (p : ℕ) where
   turn-view z =
       rw (eq-eqb _ 0 z) (g-need Stepped astray _ _
       (cases (inRange 1 (m createdAt) p)
-      (λ e. rw e (exists-view (in-created e)))
-      (λ e. rw e (missing (record { none = λ c. no-true (sym e ∙ created-in c) })))))
+      (λ e. rw e (exists-view (in-created m p e)))
+      (λ e. rw e (missing (record { none = λ c. no-true (sym e ∙ created-in m p c) })))))
 
   -- ---- a row that holds says what the step comes to
 
   near-turn : {R : Outcome Effect} → m failureAt ≡ 0 → Created m p → Near R (exists T m page p) → Near R (turn T m page p)
   unfolding turn
-  near-turn z c h = rw (eq-eqb _ 0 z) (n-need _ _ _ (rw (created-in c) h))
+  near-turn z c h = rw (eq-eqb _ 0 z) (n-need _ _ _ (rw (created-in m p c) h))
 
   near-absent : m failureAt ≡ 0 → Absent T m page p → Near (ok (effect 3 m page)) (turn T m page p)
   unfolding turn answers
   near-absent z a =
       rw (eq-eqb _ 0 z) (n-need _ _ _
-      (cases (inRange 1 (m createdAt) p) (λ e. absurd (a .none (in-created e))) (λ e. rw e (same refl))))
+      (cases (inRange 1 (m createdAt) p) (λ e. absurd (a .none (in-created m p e))) (λ e. rw e (same refl))))
 
   near-proceeds : {R : Outcome Effect} → m (statusAt p) ≡ 2 → Near R (proceeds T m page p) → Near R (exists T m page p)
   unfolding exists need

@@ -1,12 +1,13 @@
 -- The state rule and its record say the same. Assumes nothing.
 use Prim.Native.Nat.{ℕ, zero, suc, _+_, _-_, _≤_, _<_}
 use mathlib.Core.Path.{_≡_, refl, sym}
-use mathlib.Core.Bool.{Bool, true, false}
+use mathlib.Core.Bool.{true}
 use native.Mathlib.Omega.{arith}
 use lib.Dec.{eqb}
 use borrow.Author.Tests.{eqb-true, eqb-false, leb-true, ltb-true, eq-eqb, ne-eqb, le-leb, lt-ltb}
-use Rattle.basics.specs.Choice.{cases, either, allBelow}
-use Rattle.basics.proofs.Bools.{no-true, both-l, both-r, both-i, all-at}
+use Rattle.basics.specs.Choice.{cases}
+use Rattle.basics.proofs.Bools.{both-l, both-r, both-i, all-at, all-i, either-l, either-r}
+pub use Rattle.basics.proofs.Bools.{either-case}
 use Rattle.table.specs.Table.{Table}
 use Rattle.table.specs.Entries.{blockCount, varMode, varType, blockKind, owner, firstVar, vars, firstStmt}
 use Rattle.sizes.specs.Sizes.{moduleWords}
@@ -19,40 +20,17 @@ use Rattle.machine.specs.Step.{inRange}
 use Rattle.machine.specs.Rule.{nextFirst, liesIn, calls, isCreated, lives, moduleHolds, modulesHold, frameHolds, framesHold, frameOk, chain, moduleOk, startedOk, processOk, failureOk, rule}
 use Rattle.numbers.proofs.BlockPromise.{program-there, program-kind, owner-self, owner-there}
 use Rattle.machine.specs.Context.{blockOf, contextual}
+pub use Rattle.machine.proofs.Tests.{range-low, range-high, range-i}
 use Rattle.verdict.specs.Accepted.{Accepted}
+use Rattle.sound.specs.InUse.{Created}
 use Rattle.sound.specs.Ruled.{Bottom, Framed, Chained, bottom, called, Process, Ruled, Standing}
 
-pub all-i : (k : ℕ) (f : ℕ → Bool) → ((i : ℕ) → i < k → f i ≡ true) → allBelow k f ≡ true
-unfolding allBelow
-all-i zero f h = refl
-all-i (suc k) f h = both-i _ _ (h k (omega arith)) (all-i k f (λ i l. h i (omega arith)))
+module _ (m : Memory) (p : ℕ) where
+  pub created-in : Created m p → inRange 1 (m createdAt) p ≡ true
+  created-in c = range-i 1 (m createdAt) p (c .least) (c .most)
 
-pub either-l : (a b : Bool) → a ≡ true → either a b ≡ true
-unfolding either
-either-l true b e = refl
-either-l false b e = no-true e
-
-pub either-r : (a b : Bool) → b ≡ true → either a b ≡ true
-unfolding either
-either-r true b e = refl
-either-r false b e = e
-
-pub either-case {ℓ} : {A : Type ℓ} (a b : Bool) → either a b ≡ true → (a ≡ true → A) → (b ≡ true → A) → A
-unfolding either
-either-case true b e f g = f refl
-either-case false b e f g = g e
-
-pub range-low : (l h n : ℕ) → inRange l h n ≡ true → l ≤ n
-unfolding inRange
-range-low l h n e = leb-true l n (both-l _ _ e)
-
-pub range-high : (l h n : ℕ) → inRange l h n ≡ true → n ≤ h
-unfolding inRange
-range-high l h n e = leb-true n h (both-r _ _ e)
-
-pub range-i : (l h n : ℕ) → l ≤ n → n ≤ h → inRange l h n ≡ true
-unfolding inRange
-range-i l h n a b = both-i _ _ (le-leb l n a) (le-leb n h b)
+  pub in-created : inRange 1 (m createdAt) p ≡ true → Created m p
+  in-created e = record { least = range-low 1 (m createdAt) p e; most = range-high 1 (m createdAt) p e }
 
 module _ (T : Table) where
   pub lies-from : (b c : ℕ) → liesIn T b c ≡ true → firstStmt T b ≤ c
@@ -75,7 +53,7 @@ module _ (T : Table) where
   unfolding isProcedure
   procedure-kind q e = eqb-true (blockKind T q) 2 (both-r _ _ e)
 
-  procedure-i : (q : ℕ) → q < blockCount T → blockKind T q ≡ 2 → isProcedure T q ≡ true
+  pub procedure-i : (q : ℕ) → q < blockCount T → blockKind T q ≡ 2 → isProcedure T q ≡ true
   unfolding isProcedure
   procedure-i q a b = both-i _ _ (lt-ltb q (blockCount T) a) (eq-eqb (blockKind T q) 2 b)
 

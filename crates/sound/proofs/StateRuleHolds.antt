@@ -37,5 +37,5 @@ module _ (T : Table) (acc : Accepted T) (words : WordTable T) where
   }
 
 -- THE THEOREM
-pub state-rule : (t : List ℕ) → Bytes t → verdict 1 t ≡ 0 → StateRule (tableOf 1 t)
-state-rule t b v = accepted-rule (tableOf 1 t) (promise 1 t v) (word-table 1 t b)
+pub state-rule : (w : ℕ) (t : List ℕ) → Bytes t → verdict w t ≡ 0 → StateRule (tableOf w t)
+state-rule w t b v = accepted-rule (tableOf w t) (promise w t v) (word-table w t b)

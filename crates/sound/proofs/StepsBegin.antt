@@ -14,13 +14,15 @@ use Rattle.machine.specs.Values.{holds}
 use Rattle.machine.specs.Calls.{standing}
 use Rattle.machine.specs.Run.{begin}
 use Rattle.machine.specs.Rule.{rule}
+use Rattle.machine.proofs.Memories.{update-at, update-other}
 use Rattle.verdict.specs.Accepted.{Accepted}
 use Rattle.sound.specs.Claims.{PlaceLaws}
 use Rattle.sound.specs.Ruled.{Bottom, bottom, Process, Ruled}
 use Rattle.sound.proofs.Ruled.{rules}
-use Rattle.sound.proofs.StoresBlocks.{variable-in, plain-words, variable-type, module-plain, module-fits}
-use Rattle.sound.proofs.StoresMemory.{location-add, location-low, location-up, record-high, words-apart, update-same, update-other}
+use Rattle.sound.proofs.StoresBlocks.{module-plain, module-fits}
+use Rattle.sound.proofs.StoresMemory.{location-add, location-low, location-up, record-high, words-apart}
 use Rattle.sound.proofs.StoresStanding.{block-begins, stand-word, stand-depth, stand-works, stand-top, stand-frame, stand-statement, stand-area}
+use Rattle.sound.proofs.ValueBlocks.{variable-in, words-value, variable-type}
 
 -- the state before process 1 stands
 unfoldable empty : Memory
@@ -28,18 +30,18 @@ empty = update (update (update zeros (statusAt 1) 2) (holderAt 1) 1) createdAt 1
 
 empty-created : empty createdAt ≡ 1
 unfolding empty
-empty-created = update-same _ createdAt 1 createdAt refl
+empty-created = update-at _ createdAt 1 createdAt refl
 
 empty-holder : empty (holderAt 1) ≡ 1
 unfolding empty
-empty-holder = update-other _ createdAt 1 (holderAt 1) (words-apart 1 6 8 (λ z. omega arith)) ∙ update-same _ (holderAt 1) 1 (holderAt 1) refl
+empty-holder = update-other _ createdAt 1 (holderAt 1) (words-apart 1 6 8 (λ z. omega arith)) ∙ update-at _ (holderAt 1) 1 (holderAt 1) refl
 
 empty-status : empty (statusAt 1) ≡ 2
 unfolding empty
 empty-status =
     update-other _ createdAt 1 (statusAt 1) (words-apart 1 0 8 (λ z. omega arith))
     ∙ update-other _ (holderAt 1) 1 (statusAt 1) (words-apart 1 0 6 (λ z. omega arith))
-    ∙ update-same _ (statusAt 1) 2 (statusAt 1) refl
+    ∙ update-at _ (statusAt 1) 2 (statusAt 1) refl
 
 empty-else : (j : ℕ) → (j ≡ createdAt → ⊥) → (j ≡ holderAt 1 → ⊥) → (j ≡ statusAt 1 → ⊥) → empty j ≡ 0
 unfolding empty zeros
@@ -91,7 +93,7 @@ module _ (T : Table) (ok : Accepted T) where
         let there = program-there T (ok .numbers) in
         let k = program-kind T (ok .numbers) in
         let low : blockKind T 0 ≤ 1 = omega arith in
-        let w = plain-words T (firstVar T 0 + i) (module-plain T ok 0 there low i l) in
+        let w = words-value T (firstVar T 0 + i) (module-plain T ok 0 there low i l) in
         let v = variable-in T 0 i l in
         let f = module-fits T ok 0 there low in
         L .zero-holds first (varType T (firstVar T 0 + i)) (location 1 (offsetOf T 0 (firstVar T 0 + i))) (variable-type T ok 0 there i l)

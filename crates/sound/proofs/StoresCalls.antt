@@ -20,15 +20,16 @@ use Rattle.machine.specs.Variables.{firstWords, frameWords, offsetOf}
 use Rattle.machine.specs.Values.{holds}
 use Rattle.machine.specs.Calls.{standing}
 use Rattle.machine.specs.Rule.{calls, lives}
+use Rattle.machine.proofs.Memories.{store-at}
 use Rattle.verdict.specs.Accepted.{Accepted}
 use Rattle.sound.specs.Claims.{PlaceLaws}
 use Rattle.sound.specs.Ruled.{Framed, Chained, bottom, called, Ruled, Carries, Fills}
-use Rattle.sound.proofs.StoresBlocks.{offset-is, first-more, first-up, variable-in, plain-words, bound-words, variable-type}
-use Rattle.sound.proofs.StoresMemory.{location-add, store-at, area-before, area-record}
+use Rattle.sound.proofs.StoresMemory.{location-add, area-before, area-record}
 use Rattle.sound.proofs.StoresChains.{Same, carries-keeps, chain-over, called-by, lives-part, owns-same, chain-same}
 use Rattle.sound.proofs.StoresProcesses.{process-keeps, variables-same}
 use Rattle.sound.proofs.StoresRule.{store-carries, store-ruled}
 use Rattle.sound.proofs.StoresStanding.{block-begins, stand-kept}
+use Rattle.sound.proofs.ValueBlocks.{begins-at, next-begins, begins-up, variable-in, words-value, words-var, variable-type}
 
 -- each call takes at least the four words of its links
 pub chain-depth : (T : Table) (m : Memory) (p : ℕ) {d f w c top : ℕ} → Chained T m p d f w c top → d * 4 ≤ top
@@ -39,7 +40,7 @@ chain-depth T m p (called k r) = let x = chain-depth T m p r in let e = k .ends 
 pub fills-short : (T : Table) → Accepted T → (m : Memory) (p q : ℕ) (ws : List ℕ) → q < blockCount T → Fills T m p q ws → length ws ≤ frameWords T q
 unfolding frameWords
 fills-short T good m p q ws l F =
-    let e = F .long in let u = first-up T q (params T q) (vars T q) (params-vars T (good .numbers) q l) in omega arith
+    let e = F .long in let u = begins-up T q (params T q) (vars T q) (params-vars T (good .numbers) q l) in omega arith
 
 -- the words of a frame: its links, the arguments, and zeros
 module _ (g c w q : ℕ) (ws : List ℕ) (z : ℕ) where
@@ -147,14 +148,14 @@ module _ (T : Table) (good : Accepted T) (L : PlaceLaws T) (s : Memory) (h : Rul
     new-values : (i : ℕ) → i < vars T q → (varMode T (firstVar T q + i) ≡ 2 → ⊥) → holds T new (varType T (firstVar T q + i)) (location p (s (topAt p) + 4 + offsetOf T q (firstVar T q + i))) ≡ true
     new-values i l n =
         cases (ltb i (params T q))
-        (λ x. rw (offset-is T q i, ← location-add p (s (topAt p) + 4) (firstWords T q i))
+        (λ x. rw (begins-at T q i, ← location-add p (s (topAt p) + 4) (firstWords T q i))
         (F .values i (ltb-true i (params T q) x) n new (location p (s (topAt p) + 4)) (carries-keeps s new new-carries)
         (λ j y. rw (location-add p (s (topAt p) + 4) j) (new-argument j y))))
         (λ x. let y = ltb-false i (params T q) x in
         let u = variable-in T q i l in
-        let v = plain-words T (firstVar T q + i) n in
-        let e = offset-is T q i in
-        let f = first-up T q (params T q) i y in
+        let v = words-value T (firstVar T q + i) n in
+        let e = begins-at T q i in
+        let f = begins-up T q (params T q) i y in
         let g = F .long in
         L .zero-holds new (varType T (firstVar T q + i)) (location p (s (topAt p) + 4 + offsetOf T q (firstVar T q + i))) (variable-type T good q there i l)
         (λ k z.
@@ -165,11 +166,11 @@ module _ (T : Table) (good : Accepted T) (L : PlaceLaws T) (s : Memory) (h : Rul
     new-bound i l n =
         cases (ltb i (params T q))
         (λ x. let y = ltb-true i (params T q) x in
-        let e = offset-is T q i in
+        let e = begins-at T q i in
         let u = variable-in T q i l in
-        let v = bound-words T (firstVar T q + i) n in
-        let w = first-up T q (i + 1) (params T q) (omega arith) in
-        let m = first-more T q i in
+        let v = words-var T (firstVar T q + i) n in
+        let w = begins-up T q (i + 1) (params T q) (omega arith) in
+        let m = next-begins T q i in
         let g = F .long in
         rw (link0, e, new-argument (firstWords T q i) (omega arith)) (free-lives (s (topAt p)) fr top-top fits (varType T (firstVar T q + i)) (getD ws (firstWords T q i) 0) (F .places i y n)))
         (λ x. let y = mode-local T (good .numbers) q there i (ltb-false i (params T q) x) l in absurd (omega arith))

@@ -6,7 +6,7 @@ use native.Mathlib.Omega.{arith}
 use lib.Dec.{eqb, leb}
 use borrow.Author.Tests.{leb-true, le-leb}
 use Rattle.basics.specs.Choice.{both}
-use Rattle.basics.proofs.Bools.{no-true, both-l, both-r, both-i}
+use Rattle.basics.proofs.Bools.{no-true, both-l, both-r, both-i, either-l, either-r, either-case}
 use Rattle.table.specs.Table.{Table}
 use Rattle.table.specs.Entries.{varMode, varType, firstVar, vars}
 use Rattle.sizes.specs.Sizes.{wordsOf, moduleWords}
@@ -16,11 +16,11 @@ use Rattle.machine.specs.Variables.{offsetOf}
 use Rattle.machine.specs.Processes.{refers}
 use Rattle.machine.specs.Values.{holds, partOfBlock}
 use Rattle.machine.specs.Rule.{isCreated, owns, lives}
+use Rattle.machine.proofs.Tests.{range-low, range-high, range-i}
 use Rattle.sound.specs.Claims.{Keeps, PlaceLaws}
 use Rattle.sound.specs.Ruled.{Bottom, Framed, Chained, bottom, called, Carries}
-use Rattle.sound.proofs.Ruled.{either-l, either-r, either-case, range-low, range-high, range-i}
-use Rattle.sound.proofs.StoresBlocks.{variable-in, plain-words, bound-words}
 use Rattle.sound.proofs.StoresMemory.{location-add}
+use Rattle.sound.proofs.ValueBlocks.{variable-in, words-value, words-var}
 
 -- references stay references
 pub carries-keeps : (m n : Memory) → Carries m n → Keeps m n
@@ -131,8 +131,8 @@ module _ (T : Table) (L : PlaceLaws T) (m n : Memory) (cs : Carries m n) (p : �
       (link-same T m n cs p (moduleWords T (m (moduleAt p))) top f 0 s x (omega arith))
       (link-same T m n cs p (moduleWords T (m (moduleAt p))) top f 1 s x (omega arith))
       (owns-same T m n cs p k (same-below T m n cs p (moduleWords T (m (moduleAt p))) top f s (omega arith)))
-      (λ i l h. let u = variable-in T q i l in let v = plain-words T (firstVar T q + i) h in value-same (varType T (firstVar T q + i)) (f + 4 + offsetOf T q (firstVar T q + i)) (λ j y. s (f + 4 + offsetOf T q (firstVar T q + i) + j) (omega arith) (omega arith)) (r .values i l h))
-      (λ i l h. let u = variable-in T q i l in let v = bound-words T (firstVar T q + i) h in s (f + 4 + offsetOf T q (firstVar T q + i)) (omega arith) (omega arith))
+      (λ i l h. let u = variable-in T q i l in let v = words-value T (firstVar T q + i) h in value-same (varType T (firstVar T q + i)) (f + 4 + offsetOf T q (firstVar T q + i)) (λ j y. s (f + 4 + offsetOf T q (firstVar T q + i) + j) (omega arith) (omega arith)) (r .values i l h))
+      (λ i l h. let u = variable-in T q i l in let v = words-var T (firstVar T q + i) h in s (f + 4 + offsetOf T q (firstVar T q + i)) (omega arith) (omega arith))
 
   bottom-same : {f w c top : ℕ} → Bottom T m p f w c top → Bottom T n p f w c top
   bottom-same b =

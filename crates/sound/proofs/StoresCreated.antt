@@ -1,6 +1,6 @@
 -- THE RULE is kept where a process is created. Assumes nothing.
 use Prim.Native.Nat.{ℕ, _+_, _≤_, _<_}
-use mathlib.Core.Path.{_≡_, refl, sym, _∙_}
+use mathlib.Core.Path.{_≡_, sym, _∙_}
 use mathlib.Core.Bool.{true}
 use mathlib.Core.List.{[], _∷_}
 use native.Mathlib.Omega.{arith}
@@ -17,15 +17,18 @@ use Rattle.machine.specs.Processes.{refers, created}
 use Rattle.machine.specs.Context.{blockOf}
 use Rattle.machine.specs.Values.{holds}
 use Rattle.machine.specs.Rule.{lives, liesIn, rule}
+use Rattle.machine.proofs.Memories.{update-at, update-other, store-below, store-above, store-at, clear-below, clear-above, clear-at}
 use Rattle.verdict.specs.Accepted.{Accepted}
 use Rattle.sound.specs.Claims.{IsValue, PlaceLaws, Started, Small}
 use Rattle.sound.specs.Ruled.{Process, Ruled, Carries}
 use Rattle.sound.proofs.Ruled.{ruled, rules}
-use Rattle.sound.proofs.StoresBlocks.{variable-in, variable-type, plain-words, module-plain, module-fits}
-use Rattle.sound.proofs.StoresMemory.{location-add, location-low, location-up, areas-apart, record-high, records-apart, words-apart, update-same, update-other, update-small, store-before, store-after, store-at, clear-before, clear-after, clear-in, clear-small}
+use Rattle.sound.proofs.StoresBlocks.{module-plain, module-fits}
+use Rattle.sound.proofs.StoresMemory.{location-add, location-low, location-up, areas-apart, record-high, records-apart, words-apart, update-small, clear-small}
 use Rattle.sound.proofs.StoresChains.{Same, created-low, created-high, lives-part, owns-same}
 use Rattle.sound.proofs.StoresProcesses.{chain-fits, base-fits, process-same}
 use Rattle.sound.proofs.StoresSteps.{area-block, assign-kept}
+use Rattle.sound.proofs.ValueBlocks.{variable-in, words-value, variable-type}
+use Rattle.sound.proofs.HistoriesRecords.{created-count, created-module, created-status}
 
 -- one word is stored as a list of one
 pub update-store : (m : Memory) (i v : ℕ) → update m i v ≡ store m i (v ∷ [])
@@ -34,11 +37,11 @@ update-store m i v = λ k j. at j k
     at : (j : ℕ) → update m i v j ≡ store m i (v ∷ []) j
     at j =
         cases (eqb j i)
-        (λ e. let x = eqb-true j i e in let y : i + 0 ≡ j = omega arith in update-same m i v j x ∙ sym (rw y at (store-at m i (v ∷ []) 0 (omega arith))))
+        (λ e. let x = eqb-true j i e in let y : i + 0 ≡ j = omega arith in update-at m i v j x ∙ sym (rw y at (store-at m i (v ∷ []) 0 (omega arith))))
         (λ e. let x = eqb-false j i e in
         cases (ltb j i)
-        (λ f. update-other m i v j x ∙ sym (store-before m i (v ∷ []) j (ltb-true j i f)))
-        (λ f. let y = ltb-false j i f in update-other m i v j x ∙ sym (store-after m i (v ∷ []) j (omega arith))))
+        (λ f. update-other m i v j x ∙ sym (store-below m i (v ∷ []) j (ltb-true j i f)))
+        (λ f. let y = ltb-false j i f in update-other m i v j x ∙ sym (store-above m i (v ∷ []) j (omega arith))))
 
 record-order : (p q i : ℕ) → 1 ≤ p → i < 20 → p < q → recordAt p i < recordAt q 0
 unfolding recordAt
@@ -62,37 +65,20 @@ area-in p j l = (omega arith, omega arith)
 
 -- process n is created in m
 module _ (m : Memory) (n μ : ℕ) (two : 2 ≤ n) (most : n ≤ 64) where
-  pub created-count : created m n μ createdAt ≡ n
-  unfolding created
-  created-count = update-same _ createdAt n createdAt refl
-
-  pub created-module : created m n μ (moduleAt n) ≡ μ
-  unfolding created
-  created-module =
-      update-other _ createdAt n (moduleAt n) (records-apart n 1 1 8 (omega arith) (omega arith) (omega arith) (omega arith) (λ z. omega arith))
-      ∙ update-same _ (moduleAt n) μ (moduleAt n) refl
-
-  pub created-status : created m n μ (statusAt n) ≡ 1
-  unfolding created
-  created-status =
-      update-other _ createdAt n (statusAt n) (records-apart n 1 0 8 (omega arith) (omega arith) (omega arith) (omega arith) (λ z. omega arith))
-      ∙ update-other _ (moduleAt n) μ (statusAt n) (words-apart n 0 1 (λ z. omega arith))
-      ∙ update-same _ (statusAt n) 1 (statusAt n) refl
-
   pub created-rest : (k : ℕ) → 2 ≤ k → k < 20 → created m n μ (recordAt n k) ≡ 0
   unfolding created
   created-rest k l h =
       update-other _ createdAt n (recordAt n k) (records-apart n 1 k 8 (omega arith) (omega arith) h (omega arith) (λ z. omega arith))
       ∙ update-other _ (moduleAt n) μ (recordAt n k) (words-apart n k 1 (λ z. omega arith))
       ∙ update-other _ (statusAt n) 1 (recordAt n k) (words-apart n k 0 (λ z. omega arith))
-      ∙ clear-in _ (recordAt n 0) 20 (recordAt n k) (record-in n k h .0) (record-in n k h .1)
+      ∙ clear-at _ (recordAt n 0) 20 (recordAt n k) (record-in n k h .0) (record-in n k h .1)
 
   clear-record : (q k : ℕ) → 1 ≤ q → k < 20 → (q ≡ n → ⊥) → clear (clear m (location n 0) 256) (recordAt n 0) 20 (recordAt q k) ≡ m (recordAt q k)
   clear-record q k a l d =
       cases (ltb q n)
-      (λ e. clear-before _ (recordAt n 0) 20 (recordAt q k) (record-order q n k a l (ltb-true q n e)))
-      (λ e. let x = ltb-false q n e in clear-after _ (recordAt n 0) 20 (recordAt q k) (record-end q n k (omega arith) (omega arith)))
-      ∙ (let x = record-high q k in let y = area-end n (omega arith) most in clear-after m (location n 0) 256 (recordAt q k) (omega arith))
+      (λ e. clear-below _ (recordAt n 0) 20 (recordAt q k) (record-order q n k a l (ltb-true q n e)))
+      (λ e. let x = ltb-false q n e in clear-above _ (recordAt n 0) 20 (recordAt q k) (record-end q n k (omega arith) (omega arith)))
+      ∙ (let x = record-high q k in let y = area-end n (omega arith) most in clear-above m (location n 0) 256 (recordAt q k) (omega arith))
 
   pub created-record : (q k : ℕ) → 1 ≤ q → k < 20 → (k ≡ 8 → ⊥) → (q ≡ n → ⊥) → created m n μ (recordAt q k) ≡ m (recordAt q k)
   unfolding created
@@ -118,7 +104,7 @@ module _ (m : Memory) (n μ : ℕ) (two : 2 ≤ n) (most : n ≤ 64) where
       update-other _ createdAt n j (λ e. omega arith)
       ∙ update-other _ (moduleAt n) μ j (λ e. omega arith)
       ∙ update-other _ (statusAt n) 1 j (λ e. omega arith)
-      ∙ clear-before _ (recordAt n 0) 20 j (omega arith)
+      ∙ clear-below _ (recordAt n 0) 20 j (omega arith)
 
   area-low : (q j : ℕ) → 1 ≤ q → q ≤ 64 → j < 256 → location q j < 16384
   area-low q j a b l = let x = location-up q j 256 l in let y = location-low q 256 a b (omega arith) in omega arith
@@ -127,11 +113,11 @@ module _ (m : Memory) (n μ : ℕ) (two : 2 ≤ n) (most : n ≤ 64) where
   created-area q j a b l d =
       created-low-word (location q j) (area-low q j a b l)
       ∙ areas-apart q n j 0 256 a (omega arith) d l (omega arith)
-      (λ x. clear-before m (location n 0) 256 (location q j) x)
-      (λ x. clear-after m (location n 0) 256 (location q j) x)
+      (λ x. clear-below m (location n 0) 256 (location q j) x)
+      (λ x. clear-above m (location n 0) 256 (location q j) x)
 
   pub created-zero : (j : ℕ) → j < 256 → created m n μ (location n j) ≡ 0
-  created-zero j l = created-low-word (location n j) (area-low n j (omega arith) most l) ∙ clear-in m (location n 0) 256 (location n j) (area-in n j l .0) (area-in n j l .1)
+  created-zero j l = created-low-word (location n j) (area-low n j (omega arith) most l) ∙ clear-at m (location n 0) 256 (location n j) (area-in n j l .0) (area-in n j l .1)
 
   pub created-small : Small m → μ < 65536 → Small (created m n μ)
   unfolding created
@@ -141,7 +127,7 @@ module _ (m : Memory) (n μ : ℕ) (two : 2 ≤ n) (most : n ≤ 64) where
   pub created-refers : refers (created m n μ) μ n ≡ true
   unfolding refers
   created-refers =
-      both-i _ _ (both-i _ _ (le-leb 2 n two) (le-leb n (created m n μ createdAt) (let e = created-count in omega arith))) (eq-eqb (created m n μ (moduleAt n)) μ created-module)
+      both-i _ _ (both-i _ _ (le-leb 2 n two) (le-leb n (created m n μ createdAt) (let e = created-count m n μ in omega arith))) (eq-eqb (created m n μ (moduleAt n)) μ (created-module m n μ))
 
 module _ (T : Table) (good : Accepted T) (L : PlaceLaws T) (m : Memory) (h : Ruled T m) (μ : ℕ) (room : m createdAt < 64) (there : μ < blockCount T) (kind : blockKind T μ ≡ 1) where
   abbrev next : ℕ
@@ -155,7 +141,7 @@ module _ (T : Table) (good : Accepted T) (L : PlaceLaws T) (m : Memory) (h : Rul
 
   pub created-carries : Carries m (created m next μ)
   created-carries =
-      let e = created-count m next μ two most in
+      let e = created-count m next μ in
       record { grows = omega arith; modules = λ p a b. created-record m next μ two most p 1 a (omega arith) (λ z. omega arith) (λ z. omega arith) }
 
   -- its variables are 0
@@ -164,14 +150,14 @@ module _ (T : Table) (good : Accepted T) (L : PlaceLaws T) (m : Memory) (h : Rul
       let k : blockKind T μ ≤ 1 = omega arith in
       let f = module-fits T good μ there k in
       let u = variable-in T μ i l in
-      let w = plain-words T (firstVar T μ + i) (module-plain T good μ there k i l) in
+      let w = words-value T (firstVar T μ + i) (module-plain T good μ there k i l) in
       L .zero-holds (created m next μ) (varType T (firstVar T μ + i)) (location next (offsetOf T μ (firstVar T μ + i))) (variable-type T good μ there i l)
       (λ j z. rw (location-add next (offsetOf T μ (firstVar T μ + i)) j) (created-zero m next μ two most (offsetOf T μ (firstVar T μ + i) + j) (omega arith)))
 
   new-process : Process T (created m next μ) next
   new-process =
-      let e0 = created-status m next μ two most in
-      let e1 = created-module m next μ two most in
+      let e0 = created-status m next μ in
+      let e1 = created-module m next μ in
       let e6 = created-rest m next μ two most 6 (omega arith) (omega arith) in
       let o = h .some in
       record {
@@ -189,7 +175,7 @@ module _ (T : Table) (good : Accepted T) (L : PlaceLaws T) (m : Memory) (h : Rul
   -- THE CREATION
   pub created-kept : Ruled T (created m next μ)
   created-kept =
-      let e8 = created-count m next μ two most in
+      let e8 = created-count m next μ in
       let e9 = created-record m next μ two most 1 9 (omega arith) (omega arith) (λ z. omega arith) (λ z. let o = h .some in omega arith) in
       record {
         some = omega arith;

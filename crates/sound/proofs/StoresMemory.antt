@@ -6,40 +6,20 @@ use native.Mathlib.Omega.{arith}
 use native.Mathlib.Nat.{div-add-mod'}
 use lib.ListN.{length, getD}
 use lib.Dec.{eqb, ltb}
-use borrow.Author.Tests.{eq-eqb, ne-eqb, ltb-true, ltb-false}
+use borrow.Author.Tests.{ltb-true, ltb-false}
 use Rattle.basics.specs.Choice.{cases}
 use Rattle.machine.specs.Memory.{Memory, update, within, store, clear}
 use Rattle.machine.specs.Layout.{location, recordAt}
+use Rattle.machine.proofs.Memories.{within-from, within-to, store-below, store-above}
 use Rattle.sound.specs.Claims.{Small}
-use Rattle.sound.proofs.StoresBlocks.{within-i, within-before, within-after, within-from, within-to}
 
 -- words
 module _ (m : Memory) (i v : ℕ) where
-  pub update-same : (j : ℕ) → j ≡ i → update m i v j ≡ v
-  unfolding update
-  update-same j e = rw (eq-eqb j i e)
-
-  pub update-other : (j : ℕ) → (j ≡ i → ⊥) → update m i v j ≡ m j
-  unfolding update
-  update-other j e = rw (ne-eqb j i e)
-
   pub update-small : Small m → v < 65536 → Small (update m i v)
   unfolding update
   update-small s l = record { small = λ j. cases (eqb j i) (λ e. rw e l) (λ e. rw e (s .small j)) }
 
 module _ (m : Memory) (a : ℕ) (ws : List ℕ) where
-  pub store-before : (j : ℕ) → j < a → store m a ws j ≡ m j
-  unfolding store
-  store-before j l = rw (within-before a (length ws) j l)
-
-  pub store-after : (j : ℕ) → a + length ws ≤ j → store m a ws j ≡ m j
-  unfolding store
-  store-after j l = rw (within-after a (length ws) j l)
-
-  pub store-at : (k : ℕ) → k < length ws → store m a ws (a + k) ≡ getD ws k 0
-  unfolding store
-  store-at k l = let e : a + k - a ≡ k = omega arith in rw (within-i a (length ws) (a + k) (omega arith) (omega arith), e)
-
   pub store-small : Small m → ((k : ℕ) → k < length ws → getD ws k 0 < 65536) → Small (store m a ws)
   unfolding store
   store-small s h =
@@ -51,18 +31,6 @@ module _ (m : Memory) (a : ℕ) (ws : List ℕ) where
       }
 
 module _ (m : Memory) (a n : ℕ) where
-  pub clear-before : (j : ℕ) → j < a → clear m a n j ≡ m j
-  unfolding clear
-  clear-before j l = rw (within-before a n j l)
-
-  pub clear-after : (j : ℕ) → a + n ≤ j → clear m a n j ≡ m j
-  unfolding clear
-  clear-after j l = rw (within-after a n j l)
-
-  pub clear-in : (j : ℕ) → a ≤ j → j < a + n → clear m a n j ≡ 0
-  unfolding clear
-  clear-in j l h = rw (within-i a n j l h)
-
   pub clear-small : Small m → Small (clear m a n)
   unfolding clear
   clear-small s =
@@ -97,6 +65,10 @@ pub record-high : (p k : ℕ) → 16384 ≤ recordAt p k
 unfolding recordAt
 record-high p k = omega arith
 
+-- what is stored in areas leaves the records
+pub store-record : (m : Memory) (a : ℕ) (ws : List ℕ) → a + length ws ≤ 16384 → (r k : ℕ) → store m a ws (recordAt r k) ≡ m (recordAt r k)
+store-record m a ws l r k = let z = record-high r k in store-above m a ws (recordAt r k) (omega arith)
+
 -- words of records are apart
 pub records-apart : (p q i k : ℕ) → 1 ≤ p → 1 ≤ q → i < 20 → k < 20 → (p ≡ q → ⊥) → recordAt p i ≡ recordAt q k → ⊥
 unfolding recordAt
@@ -112,21 +84,20 @@ words-apart p i k d e = d (omega arith)
 -- what is stored from word k of an area on leaves the words before and after, and those of other areas and of records
 module _ (m : Memory) (p k : ℕ) (ws : List ℕ) where
   pub area-before : (j : ℕ) → j < k → store m (location p k) ws (location p j) ≡ m (location p j)
-  area-before j l = store-before m (location p k) ws (location p j) (location-up p j k l)
+  area-before j l = store-below m (location p k) ws (location p j) (location-up p j k l)
 
   pub area-after : (j : ℕ) → k + length ws ≤ j → store m (location p k) ws (location p j) ≡ m (location p j)
   unfolding location
-  area-after j l = store-after m (location p k) ws (location p j) (omega arith)
+  area-after j l = store-above m (location p k) ws (location p j) (omega arith)
 
   pub area-other : (q j : ℕ) → 1 ≤ p → 1 ≤ q → (q ≡ p → ⊥) → j < 256 → k + length ws ≤ 256 → store m (location p k) ws (location q j) ≡ m (location q j)
   area-other q j u v d l h =
       areas-apart q p j k (length ws) v u d l h
-      (λ x. store-before m (location p k) ws (location q j) x)
-      (λ x. store-after m (location p k) ws (location q j) x)
+      (λ x. store-below m (location p k) ws (location q j) x)
+      (λ x. store-above m (location p k) ws (location q j) x)
 
   pub area-record : (q i : ℕ) → 1 ≤ p → p ≤ 64 → k + length ws ≤ 256 → store m (location p k) ws (recordAt q i) ≡ m (recordAt q i)
   area-record q i u v h =
-      let x = record-high q i in
       let y = location-low p (k + length ws) u v h in
       let z = location-add p k (length ws) in
-      store-after m (location p k) ws (recordAt q i) (omega arith)
+      store-record m (location p k) ws (omega arith) q i

@@ -15,8 +15,9 @@ use Rattle.verdict.specs.Accepted.{Accepted}
 use Rattle.sound.specs.Claims.{PlaceLaws}
 use Rattle.sound.specs.Ruled.{Chained, bottom, called, Process, Carries}
 use Rattle.sound.proofs.Ruled.{block-there, block-kind}
-use Rattle.sound.proofs.StoresBlocks.{variable-in, plain-words, module-plain, module-variables}
+use Rattle.sound.proofs.StoresBlocks.{module-plain, module-variables}
 use Rattle.sound.proofs.StoresChains.{Same, value-same, chain-same}
+use Rattle.sound.proofs.ValueBlocks.{variable-in, words-value}
 
 -- a chain ends within the area
 pub chain-fits : (T : Table) (m : Memory) (p : ℕ) {d f w c top : ℕ} → moduleWords T (m (moduleAt p)) ≤ 256 → Chained T m p d f w c top → top ≤ 256
@@ -72,7 +73,7 @@ module _ (T : Table) (ok : Accepted T) (L : PlaceLaws T) (m n : Memory) (cs : Ca
       let k = block-kind T ok m p r in
       let u = variable-in T (m (moduleAt p)) i l in
       let e = module-variables T ok (m (moduleAt p)) b k in
-      let w = plain-words T (firstVar T (m (moduleAt p)) + i) (module-plain T ok (m (moduleAt p)) b k i l) in
+      let w = words-value T (firstVar T (m (moduleAt p)) + i) (module-plain T ok (m (moduleAt p)) b k i l) in
       value-same T L m n cs p some made (varType T (firstVar T (m (moduleAt p)) + i)) (offsetOf T (m (moduleAt p)) (firstVar T (m (moduleAt p)) + i))
       (λ j g. h (offsetOf T (m (moduleAt p)) (firstVar T (m (moduleAt p)) + i) + j) (omega arith))
       (r .variables i l)

@@ -12,11 +12,12 @@ use Rattle.machine.specs.Memory.{Memory, update}
 use Rattle.machine.specs.Layout.{location, recordAt, statusAt, moduleAt, statementAt, frameAt, topAt, worksAt, holderAt, depthAt, createdAt, failureAt, calledBlock}
 use Rattle.machine.specs.Context.{blockOf}
 use Rattle.machine.specs.Rule.{liesIn, nextFirst, rule}
+use Rattle.machine.proofs.Memories.{update-at, update-other}
 use Rattle.verdict.specs.Accepted.{Accepted}
 use Rattle.sound.specs.Claims.{PlaceLaws, Started}
 use Rattle.sound.specs.Ruled.{Chained, bottom, called, Process, Ruled, Carries}
 use Rattle.sound.proofs.Ruled.{ruled, rules, lies-from, lies-to, block-bottom}
-use Rattle.sound.proofs.StoresMemory.{location-low, location-up, record-high, records-apart, words-apart, update-same, update-other}
+use Rattle.sound.proofs.StoresMemory.{location-low, location-up, record-high, records-apart, words-apart}
 use Rattle.sound.proofs.StoresChains.{created-low, created-high}
 use Rattle.sound.proofs.StoresProcesses.{process-by, variables-same, chain-stays, process-same, base-fits}
 
@@ -119,7 +120,7 @@ module _ (T : Table) (ok : Accepted T) (L : PlaceLaws T) (m : Memory) (h : Ruled
       let hi = x .holder in
       set-ruled m p 2 c a (omega arith) (λ z. omega arith) (λ z. omega arith) T ok L h b
       (set-own m p 2 c a (omega arith) (λ z. omega arith) (λ z. omega arith) T ok L h b (omega arith) (omega arith) (λ z. omega arith) (omega arith)
-      (λ z. rw (w 7 (λ z. omega arith), w 3 (λ z. omega arith), w 5 (λ z. omega arith), update-same m (statementAt p) c (statementAt p) refl, w 4 (λ z. omega arith))
+      (λ z. rw (w 7 (λ z. omega arith), w 3 (λ z. omega arith), w 5 (λ z. omega arith), update-at m (statementAt p) c (statementAt p) refl, w 4 (λ z. omega arith))
       (chain-at T m p (blockOf m p) c (block-bottom m p) (block-inner m p) (lies-from T (blockOf m p) c e) (lies-to T (blockOf m p) c e) (x .chain s))))
       (set-failed m p 2 c a (omega arith) (λ z. omega arith) (λ z. omega arith) T ok L h b (λ z. omega arith))
 
@@ -129,7 +130,7 @@ module _ (T : Table) (ok : Accepted T) (L : PlaceLaws T) (m : Memory) (h : Ruled
       let x = h .process p a b in
       let w = set-word m p 6 v a (omega arith) (λ z. omega arith) (λ z. omega arith) in
       let e0 = w 0 (λ z. omega arith) in
-      let e6 = update-same m (holderAt p) v (holderAt p) refl in
+      let e6 = update-at m (holderAt p) v (holderAt p) refl in
       let lo = x .low in
       let hi = x .high in
       set-ruled m p 6 v a (omega arith) (λ z. omega arith) (λ z. omega arith) T ok L h b
@@ -142,7 +143,7 @@ module _ (T : Table) (ok : Accepted T) (L : PlaceLaws T) (m : Memory) (h : Ruled
   status-kept p a b =
       let x = h .process p a b in
       let w = set-word m p 0 3 a (omega arith) (λ z. omega arith) (λ z. omega arith) in
-      let e0 = update-same m (statusAt p) 3 (statusAt p) refl in
+      let e0 = update-at m (statusAt p) 3 (statusAt p) refl in
       let e6 = w 6 (λ z. omega arith) in
       let lo = x .holder in
       set-ruled m p 0 3 a (omega arith) (λ z. omega arith) (λ z. omega arith) T ok L h b
@@ -159,7 +160,7 @@ module _ (T : Table) (ok : Accepted T) (L : PlaceLaws T) (m : Memory) (h : Ruled
       let w = set-word m 1 9 n one (omega arith) (λ z. omega arith) (λ z. omega arith) in
       let e0 = w 0 (λ z. omega arith) in
       let e6 = w 6 (λ z. omega arith) in
-      let e9 = update-same m failureAt n failureAt refl in
+      let e9 = update-at m failureAt n failureAt refl in
       let lo = x .low in
       let hi = x .high in
       let ho = x .holder in

@@ -8,7 +8,7 @@ use lib.ListN.{length}
 use lib.Dec.{eqb}
 use borrow.Author.Tests.{eqb-true, eqb-false}
 use Rattle.basics.specs.Choice.{cases, both}
-use Rattle.basics.proofs.Bools.{both-l, both-r}
+use Rattle.basics.proofs.Bools.{both-l, both-r, either-case}
 use Rattle.table.specs.Table.{Table}
 use Rattle.sizes.specs.Sizes.{moduleWords}
 use Rattle.machine.specs.Memory.{Memory, store}
@@ -18,12 +18,13 @@ use Rattle.machine.specs.Rule.{isCreated, owns, lives, rule}
 use Rattle.verdict.specs.Accepted.{Accepted}
 use Rattle.sound.specs.Claims.{IsValue, PlaceLaws, Started}
 use Rattle.sound.specs.Ruled.{Process, Ruled, Carries}
-use Rattle.sound.proofs.Ruled.{either-case, ruled, rules, block-there, block-kind}
-use Rattle.sound.proofs.StoresBlocks.{part-of, module-plain, module-variables, module-fits}
+use Rattle.sound.proofs.Ruled.{ruled, rules, block-there, block-kind}
+use Rattle.sound.proofs.StoresBlocks.{module-plain, module-variables, module-fits}
 use Rattle.sound.proofs.StoresMemory.{location-of, area-before, area-after, area-other, area-record}
 use Rattle.sound.proofs.StoresChains.{created-low, created-high}
 use Rattle.sound.proofs.StoresProcesses.{chain-fits, process-keeps, base-fits, variables-same, chain-stays, process-same}
-use Rattle.sound.proofs.StoresValues.{part-most, module-kept, owns-in, store-chain}
+use Rattle.sound.proofs.StoresValues.{module-kept, owns-in, store-chain}
+use Rattle.sound.proofs.ValueBlocks.{in-block, block-in}
 
 -- the same processes, of the same modules
 pub store-carries : (m : Memory) (r k : ℕ) (ws : List ℕ) → 1 ≤ r → r ≤ 64 → k + length ws ≤ 256 → Carries m (store m (location r k) ws)
@@ -56,8 +57,8 @@ module _ (T : Table) (ok : Accepted T) (L : PlaceLaws T) (m : Memory) (h : Ruled
   store-module r τ k ws a b e v =
       let x = h .process r a b in
       let t = block-there T ok m r x in
-      let y = part-of T (m (moduleAt r)) τ k e in
-      let z = part-most T ok L (m (moduleAt r)) τ k t y in
+      let y = in-block T (m (moduleAt r)) τ k e in
+      let z = block-in T ok (m (moduleAt r)) t τ k e .1 in
       let w = module-variables T ok (m (moduleAt r)) t (block-kind T ok m r x) in
       let f = module-fits T ok (m (moduleAt r)) t (block-kind T ok m r x) in
       let n = v .long in

@@ -16,10 +16,11 @@ use Rattle.machine.specs.Layout.{location, recordAt, statementAt, frameAt, topA
 use Rattle.machine.specs.Entries.{stmtAt, statementOf}
 use Rattle.machine.specs.Calls.{standing}
 use Rattle.machine.specs.Rule.{nextFirst, calls}
+use Rattle.machine.proofs.Memories.{update-at, update-other}
 use Rattle.verdict.specs.Accepted.{Accepted}
 use Rattle.sound.specs.Claims.{PlaceLaws, Small}
 use Rattle.sound.specs.Ruled.{Chained, Process, Ruled, Carries}
-use Rattle.sound.proofs.StoresMemory.{location-low, location-up, record-high, records-apart, words-apart, update-same, update-other, update-small}
+use Rattle.sound.proofs.StoresMemory.{location-low, location-up, record-high, records-apart, words-apart, update-small}
 use Rattle.sound.proofs.StoresProcesses.{process-by, variables-same, chain-stays, process-same, base-fits}
 
 -- each block has a first statement, and after a statement of a block that is not its end stands another
@@ -51,18 +52,18 @@ module _ (s : Memory) (p c f top w d : ℕ) where
 
   pub stand-depth : standing s p c f top w d (depthAt p) ≡ d
   unfolding standing
-  stand-depth = update-same _ (depthAt p) d (depthAt p) refl
+  stand-depth = update-at _ (depthAt p) d (depthAt p) refl
 
   pub stand-works : standing s p c f top w d (worksAt p) ≡ w
   unfolding standing
-  stand-works = update-other _ (depthAt p) d (worksAt p) (words-apart p 5 7 (λ z. omega arith)) ∙ update-same _ (worksAt p) w (worksAt p) refl
+  stand-works = update-other _ (depthAt p) d (worksAt p) (words-apart p 5 7 (λ z. omega arith)) ∙ update-at _ (worksAt p) w (worksAt p) refl
 
   pub stand-top : standing s p c f top w d (topAt p) ≡ top
   unfolding standing
   stand-top =
       update-other _ (depthAt p) d (topAt p) (words-apart p 4 7 (λ z. omega arith))
       ∙ update-other _ (worksAt p) w (topAt p) (words-apart p 4 5 (λ z. omega arith))
-      ∙ update-same _ (topAt p) top (topAt p) refl
+      ∙ update-at _ (topAt p) top (topAt p) refl
 
   pub stand-frame : standing s p c f top w d (frameAt p) ≡ f
   unfolding standing
@@ -70,7 +71,7 @@ module _ (s : Memory) (p c f top w d : ℕ) where
       update-other _ (depthAt p) d (frameAt p) (words-apart p 3 7 (λ z. omega arith))
       ∙ update-other _ (worksAt p) w (frameAt p) (words-apart p 3 5 (λ z. omega arith))
       ∙ update-other _ (topAt p) top (frameAt p) (words-apart p 3 4 (λ z. omega arith))
-      ∙ update-same _ (frameAt p) f (frameAt p) refl
+      ∙ update-at _ (frameAt p) f (frameAt p) refl
 
   pub stand-statement : standing s p c f top w d (statementAt p) ≡ c
   unfolding standing
@@ -79,7 +80,7 @@ module _ (s : Memory) (p c f top w d : ℕ) where
       ∙ update-other _ (worksAt p) w (statementAt p) (words-apart p 2 5 (λ z. omega arith))
       ∙ update-other _ (topAt p) top (statementAt p) (words-apart p 2 4 (λ z. omega arith))
       ∙ update-other _ (frameAt p) f (statementAt p) (words-apart p 2 3 (λ z. omega arith))
-      ∙ update-same _ (statementAt p) c (statementAt p) refl
+      ∙ update-at _ (statementAt p) c (statementAt p) refl
 
   pub stand-small : Small s → c < 65536 → f < 65536 → top < 65536 → w < 65536 → d < 65536 → Small (standing s p c f top w d)
   unfolding standing

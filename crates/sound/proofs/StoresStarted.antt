@@ -21,12 +21,13 @@ use Rattle.machine.specs.Calls.{standing}
 use Rattle.machine.specs.Context.{blockOf}
 use Rattle.machine.specs.Values.{holds}
 use Rattle.machine.specs.Rule.{liesIn, rule}
+use Rattle.machine.proofs.Memories.{update-at, store-at}
 use Rattle.verdict.specs.Accepted.{Accepted}
 use Rattle.sound.specs.Claims.{PlaceLaws, Started}
 use Rattle.sound.specs.Ruled.{Bottom, Chained, bottom, Process, Ruled, Carries, Fills}
 use Rattle.sound.proofs.Ruled.{ruled, rules, block-there, block-kind}
-use Rattle.sound.proofs.StoresBlocks.{offset-is, first-up, variable-in, plain-words, module-plain, module-fits}
-use Rattle.sound.proofs.StoresMemory.{location-add, update-same, store-at, area-after, area-other, area-record}
+use Rattle.sound.proofs.StoresBlocks.{module-plain, module-fits}
+use Rattle.sound.proofs.StoresMemory.{location-add, area-after, area-other, area-record}
 use Rattle.sound.proofs.StoresChains.{carries-keeps, created-low, created-high, value-same}
 use Rattle.sound.proofs.StoresProcesses.{process-by, process-keeps, variables-same, process-same, base-fits}
 use Rattle.sound.proofs.StoresRule.{store-carries, store-ruled}
@@ -34,6 +35,7 @@ use Rattle.sound.proofs.StoresRecords.{set-unlike, set-word, set-other,
 use Rattle.sound.proofs.StoresStanding.{block-begins, stand-word, stand-other, stand-same, stand-area, stand-depth, stand-works, stand-top, stand-frame, stand-statement}
 use Rattle.sound.proofs.StoresCalls.{fills-short}
 use Rattle.sound.proofs.StoresSteps.{area-block}
+use Rattle.sound.proofs.ValueBlocks.{begins-at, begins-up, variable-in, words-value}
 
 -- only the record of process r is written, and its module stays
 module _ (T : Table) (good : Accepted T) (L : PlaceLaws T) (m n : Memory) (h : Ruled T m) (r : ℕ)
@@ -98,14 +100,14 @@ module _ (T : Table) (good : Accepted T) (L : PlaceLaws T) (m : Memory) (h : Rul
   passed-variables : (i : ℕ) → i < vars T μ → holds T m (varType T (firstVar T μ + i)) (location r (offsetOf T μ (firstVar T μ + i))) ≡ true → holds T passed (varType T (firstVar T μ + i)) (location r (offsetOf T μ (firstVar T μ + i))) ≡ true
   passed-variables i l e =
       let n = module-plain T good μ there kind i l in
-      let o = offset-is T μ i in
+      let o = begins-at T μ i in
       let u = variable-in T μ i l in
-      let w = plain-words T (firstVar T μ + i) n in
+      let w = words-value T (firstVar T μ + i) n in
       let f = module-fits T good μ there kind in
       let g = F .long in
       cases (ltb i (params T μ))
       (λ x. rw o (simp zero-add at (rw (location-add r 0 (firstWords T μ i)) at (F .values i (ltb-true i (params T μ) x) n passed (location r 0) (carries-keeps m passed passed-carries) passed-word))))
-      (λ x. let y = first-up T μ (params T μ) i (ltb-false i (params T μ) x) in
+      (λ x. let y = begins-up T μ (params T μ) i (ltb-false i (params T μ) x) in
       value-same T L m passed passed-carries r one made (varType T (firstVar T μ + i)) (offsetOf T μ (firstVar T μ + i))
       (λ j z. area-after m r 0 ws (offsetOf T μ (firstVar T μ + i) + j) (omega arith)) e)
 
@@ -140,10 +142,10 @@ module _ (T : Table) (good : Accepted T) (L : PlaceLaws T) (m : Memory) (h : Rul
   held-status : held (statusAt r) ≡ 2
   held-status =
       set-word (update passed (statusAt r) 2) r 6 r one (omega arith) (λ z. omega arith) (λ z. omega arith) 0 (λ z. omega arith)
-      ∙ update-same passed (statusAt r) 2 (statusAt r) refl
+      ∙ update-at passed (statusAt r) 2 (statusAt r) refl
 
   held-holder : held (holderAt r) ≡ r
-  held-holder = update-same (update passed (statusAt r) 2) (holderAt r) r (holderAt r) refl
+  held-holder = update-at (update passed (statusAt r) 2) (holderAt r) r (holderAt r) refl
 
   -- and stands at its first statement
   abbrev begun : Memory

@@ -8,7 +8,7 @@ use lib.ListN.{length}
 use lib.Dec.{eqb, leb}
 use borrow.Author.Tests.{eqb-true, eqb-false, leb-true}
 use Rattle.basics.specs.Choice.{cases, both}
-use Rattle.basics.proofs.Bools.{both-l, both-r}
+use Rattle.basics.proofs.Bools.{both-l, both-r, either-case}
 use Rattle.table.specs.Table.{Table}
 use Rattle.sizes.specs.Sizes.{wordsOf, moduleWords}
 use Rattle.sizes.proofs.Promise.{module-most}
@@ -20,14 +20,15 @@ use Rattle.machine.specs.Rule.{isCreated, owns, lives, liesIn, rule}
 use Rattle.verdict.specs.Accepted.{Accepted}
 use Rattle.sound.specs.Claims.{IsValue, PlaceLaws, Started}
 use Rattle.sound.specs.Ruled.{Chained, bottom, called, Ruled}
-use Rattle.sound.proofs.Ruled.{either-case, ruled, rules, block-there, block-kind, stands}
-use Rattle.sound.proofs.StoresBlocks.{part-of, module-variables, module-fits}
+use Rattle.sound.proofs.Ruled.{ruled, rules, block-there, block-kind, stands}
+use Rattle.sound.proofs.StoresBlocks.{module-variables, module-fits}
 use Rattle.sound.proofs.StoresMemory.{location-of, area-before, area-after, area-other, area-record}
 use Rattle.sound.proofs.StoresChains.{created-low, created-high, chain-over}
 use Rattle.sound.proofs.StoresProcesses.{chain-fits}
-use Rattle.sound.proofs.StoresValues.{part-most, owns-in}
+use Rattle.sound.proofs.StoresValues.{owns-in}
 use Rattle.sound.proofs.StoresRule.{store-kept}
 use Rattle.sound.proofs.StoresRecords.{set-unlike, set-area, goto-kept, holder-kept}
+use Rattle.sound.proofs.ValueBlocks.{block-in}
 
 -- a process executes the same block where its record and the links of its frame stay
 pub block-same : (m n : Memory) (p : ℕ) → n (depthAt p) ≡ m (depthAt p) → n (moduleAt p) ≡ m (moduleAt p) → n (frameAt p) ≡ m (frameAt p)
@@ -88,7 +89,7 @@ module _ (T : Table) (good : Accepted T) (L : PlaceLaws T) (m : Memory) (h : Rul
     in-module r k r1 r2 e =
         let x = h .process r r1 r2 in
         let t = block-there T good m r x in
-        let z = part-most T good L (m (moduleAt r)) τ k t (part-of T (m (moduleAt r)) τ k e) in
+        let z = block-in T good (m (moduleAt r)) t τ k e .1 in
         let w = module-variables T good (m (moduleAt r)) t (block-kind T good m r x) in
         let f = module-fits T good (m (moduleAt r)) t (block-kind T good m r x) in
         let n = v .long in

@@ -8,40 +8,28 @@ use native.Mathlib.Nat.{zero-add}
 use lib.Dec.{eqb, leb, ltb}
 use borrow.Author.Tests.{eqb-true, eqb-false, leb-true, ltb-true, ltb-false}
 use Rattle.basics.specs.Choice.{cases, both, either}
-use Rattle.basics.proofs.Bools.{no-true, both-l, both-r}
+use Rattle.basics.proofs.Bools.{no-true, both-l, both-r, either-l, either-r, either-case}
 use Rattle.table.specs.Table.{Table}
 use Rattle.table.specs.Entries.{blockCount, varMode, varType, firstVar}
 use Rattle.sizes.specs.Sizes.{wordsOf, moduleWords}
 use Rattle.machine.specs.Memory.{Memory, store}
 use Rattle.machine.specs.Layout.{location, linkAt, moduleAt, createdAt, callerFrame, callStatement, callerWorks, calledBlock}
-use Rattle.machine.specs.Variables.{varWords, frameWords, offsetOf}
+use Rattle.machine.specs.Variables.{varWords, offsetOf}
 use Rattle.machine.specs.Values.{holds, partOfBlock}
 use Rattle.machine.specs.Rule.{owns}
 use Rattle.verdict.specs.Accepted.{Accepted}
 use Rattle.sound.specs.Claims.{IsValue, PlaceLaws}
-use Rattle.sound.specs.Ruled.{Framed, Chained, bottom, called, PartOf, Carries}
-use Rattle.sound.proofs.Ruled.{either-l, either-r, either-case}
-use Rattle.sound.proofs.StoresBlocks.{variable-in, variables-apart, plain-words, bound-words, variable-type, part-of}
+use Rattle.sound.specs.Ruled.{Framed, Chained, bottom, called, Carries}
 use Rattle.sound.proofs.StoresMemory.{location-add, area-before, area-after}
 use Rattle.sound.proofs.StoresChains.{Same, carries-keeps, chain-over, called-by, owns-same, frame-new, value-same, chain-same}
+use Rattle.sound.proofs.ValueBlocks.{variables-apart, words-value, words-var, variable-type, in-block, InBlock, part-inside, block-in}
 
 module _ (T : Table) (ok : Accepted T) (L : PlaceLaws T) where
-  -- where a part of a block ends
-  pub part-end : (b τ k : ℕ) → b < blockCount T → (x : PartOf T b τ k) → k + wordsOf T τ ≤ offsetOf T b (firstVar T b + x .i) + varWords T (firstVar T b + x .i)
-  part-end b τ k l x =
-      let h = L .part-in τ (varType T (firstVar T b + x .i)) (k - offsetOf T b (firstVar T b + x .i)) (variable-type T ok b l (x .i) (x .below)) (x .begins) in
-      let e = plain-words T (firstVar T b + x .i) (x .plain) in
-      let g = x .from in
-      omega arith
-
-  pub part-most : (b τ k : ℕ) → b < blockCount T → PartOf T b τ k → k + wordsOf T τ ≤ frameWords T b
-  part-most b τ k l x = let h = part-end b τ k l x in let g = variable-in T b (x .i) (x .below) in omega arith
-
   -- the variables of block b from word o on, when a value is stored in a part of one
-  module _ (m : Memory) (p o b τ k : ℕ) (there : b < blockCount T) (x : PartOf T b τ k) (ws : List ℕ) (v : IsValue T m τ ws) (cs : Carries m (store m (location p (o + k)) ws)) where
+  module _ (m : Memory) (p o b τ k : ℕ) (there : b < blockCount T) (x : InBlock T b τ k) (ws : List ℕ) (v : IsValue T m τ ws) (cs : Carries m (store m (location p (o + k)) ws)) where
     pub other-word : (i : ℕ) → (i ≡ x .i → ⊥) → (j : ℕ) → j < varWords T (firstVar T b + i) → store m (location p (o + k)) ws (location p (o + offsetOf T b (firstVar T b + i) + j)) ≡ m (location p (o + offsetOf T b (firstVar T b + i) + j))
     other-word i d j l =
-        let u = part-end b τ k there x in
+        let u = part-inside T ok b there τ k x .1 in
         let g = x .from in
         let n = v .long in
         cases (ltb i (x .i))
@@ -53,8 +41,8 @@ module _ (T : Table) (ok : Accepted T) (L : PlaceLaws T) where
     pub bound-kept : (i : ℕ) → varMode T (firstVar T b + i) ≡ 2 → store m (location p (o + k)) ws (location p (o + offsetOf T b (firstVar T b + i))) ≡ m (location p (o + offsetOf T b (firstVar T b + i)))
     bound-kept i n =
         let z : o + offsetOf T b (firstVar T b + i) + 0 ≡ o + offsetOf T b (firstVar T b + i) = omega arith in
-        let u = bound-words T (firstVar T b + i) n in
-        rw z at (other-word i (λ e. x .plain (rw e at n)) 0 (omega arith))
+        let u = words-var T (firstVar T b + i) n in
+        rw z at (other-word i (λ e. x .mode (rw e at n)) 0 (omega arith))
 
     value-in : holds T m (varType T (firstVar T b + x .i)) (location p (o + offsetOf T b (firstVar T b + x .i))) ≡ true
         → holds T (store m (location p (o + k)) ws) (varType T (firstVar T b + x .i)) (location p (o + offsetOf T b (firstVar T b + x .i))) ≡ true
@@ -62,7 +50,7 @@ module _ (T : Table) (ok : Accepted T) (L : PlaceLaws T) where
         let g = x .from in
         let j : o + offsetOf T b (firstVar T b + x .i) + (k - offsetOf T b (firstVar T b + x .i)) ≡ o + k = omega arith in
         let e : location p (o + offsetOf T b (firstVar T b + x .i)) + (k - offsetOf T b (firstVar T b + x .i)) ≡ location p (o + k) = rw (location-add, j) in
-        rw e at (L .stored m τ (varType T (firstVar T b + x .i)) (location p (o + offsetOf T b (firstVar T b + x .i))) (k - offsetOf T b (firstVar T b + x .i)) ws (variable-type T ok b there (x .i) (x .below)) h (x .begins) v (rw e (carries-keeps m (store m (location p (o + k)) ws) cs)))
+        rw e at (L .stored m τ (varType T (firstVar T b + x .i)) (location p (o + offsetOf T b (firstVar T b + x .i))) (k - offsetOf T b (firstVar T b + x .i)) ws (variable-type T ok b there (x .i) (x .there)) h (x .part) v (rw e (carries-keeps m (store m (location p (o + k)) ws) cs)))
 
     pub value-kept : 1 ≤ p → p ≤ m createdAt → (i : ℕ) → (varMode T (firstVar T b + i) ≡ 2 → ⊥) → holds T m (varType T (firstVar T b + i)) (location p (o + offsetOf T b (firstVar T b + i))) ≡ true
         → holds T (store m (location p (o + k)) ws) (varType T (firstVar T b + i)) (location p (o + offsetOf T b (firstVar T b + i))) ≡ true
@@ -70,10 +58,10 @@ module _ (T : Table) (ok : Accepted T) (L : PlaceLaws T) where
         cases (eqb i (x .i))
         (λ q. let e = eqb-true i (x .i) q in rw e (value-in (rw e at h)))
         (λ q. value-same T L m (store m (location p (o + k)) ws) cs p y z (varType T (firstVar T b + i)) (o + offsetOf T b (firstVar T b + i))
-        (λ j l. other-word i (eqb-false i (x .i) q) j (let e = plain-words T (firstVar T b + i) n in omega arith)) h)
+        (λ j l. other-word i (eqb-false i (x .i) q) j (let e = words-value T (firstVar T b + i) n in omega arith)) h)
 
   -- the same at the beginning of an area
-  pub module-kept : (m : Memory) (p b τ k : ℕ) → b < blockCount T → PartOf T b τ k → (ws : List ℕ) → IsValue T m τ ws → Carries m (store m (location p k) ws) → 1 ≤ p → p ≤ m createdAt
+  pub module-kept : (m : Memory) (p b τ k : ℕ) → b < blockCount T → InBlock T b τ k → (ws : List ℕ) → IsValue T m τ ws → Carries m (store m (location p k) ws) → 1 ≤ p → p ≤ m createdAt
       → (i : ℕ) → (varMode T (firstVar T b + i) ≡ 2 → ⊥) → holds T m (varType T (firstVar T b + i)) (location p (offsetOf T b (firstVar T b + i))) ≡ true
       → holds T (store m (location p k) ws) (varType T (firstVar T b + i)) (location p (offsetOf T b (firstVar T b + i))) ≡ true
   module-kept m p b τ k l x ws v cs y z i n h = simp zero-add at (value-kept m p 0 b τ k l x ws v (simp zero-add cs) y z i n (simp zero-add h))
@@ -87,7 +75,7 @@ module _ (T : Table) (ok : Accepted T) (L : PlaceLaws T) where
       let g = q .ends in
       either-case (both (leb (f + 4) k) (partOfBlock T (calledBlock m p f) τ (k - (f + 4)))) (owns T m p d (callerFrame m p f) τ k) e
       (λ y. let u = leb-true (f + 4) k (both-l _ _ y) in
-      let z = part-most (calledBlock m p f) τ (k - (f + 4)) (q .there) (part-of T (calledBlock m p f) τ (k - (f + 4)) (both-r _ _ y)) in
+      let z = block-in T ok (calledBlock m p f) (q .there) τ (k - (f + 4)) (both-r _ _ y) .1 in
       (omega arith, omega arith))
       (λ y. let z = owns-in m p r τ k y in (z .0, let u = z .1 in omega arith))
 
@@ -125,7 +113,7 @@ module _ (T : Table) (ok : Accepted T) (L : PlaceLaws T) where
     -- the frame that has the variable
     store-frame : {d f w c top q : ℕ} → Framed T m p d f w c top q → Chained T m p d (callerFrame m p f) (callerWorks m p f) (callStatement m p f) f → f + 4 ≤ k → partOfBlock T q τ (k - (f + 4)) ≡ true → Framed T (store m (location p k) ws) p d f w c top q
     store-frame {f = f} {q = q} r h l e =
-        let x = part-of T q τ (k - (f + 4)) e in
+        let x = in-block T q τ (k - (f + 4)) e in
         let j : f + 4 + (k - (f + 4)) ≡ k = omega arith in
         frame-new T m (store m (location p k) ws) cs p r
         (link-before f 0 (omega arith)) (link-before f 1 (omega arith))

@@ -5,15 +5,15 @@ use mathlib.Core.Bool.{true, false}
 use native.Mathlib.Omega.{arith}
 use borrow.Author.Tests.{eq-eqb, lt-ltb, le-leb}
 use Rattle.basics.specs.Course.{upto, course}
-use Rattle.basics.proofs.Bools.{both-i}
-use Rattle.basics.proofs.Courses.{upto-below}
+use Rattle.basics.proofs.Bools.{both-i, all-i}
+use Rattle.basics.proofs.Courses.{upto-below, strong}
 use Rattle.table.specs.Table.{Table}
 use Rattle.table.specs.Entries.{typeCount, fieldCount, blockCount, typeKind, typeP, typeQ, blockKind}
 use Rattle.numbers.proofs.TypePromise.{fields-there, array-index}
 use Rattle.machine.specs.Variables.{isModule, knownType, knownAt, known}
+use Rattle.machine.proofs.Entries.{at-integer, at-boolean, at-character, at-record, at-array, at-process}
 use Rattle.verdict.specs.Accepted.{Accepted}
-use Rattle.sound.proofs.ValueBools.{all-i, strong}
-use Rattle.sound.proofs.ValueTypes.{fieldAt, at-integer, at-boolean, at-character, at-record, at-array, at-process, Form, is-integer, is-boolean, is-character, is-record, is-array, is-process, is-none, form, lower-field, lower-element, of-module, some-kind}
+use Rattle.sound.proofs.ValueTypes.{fieldAt, Form, is-integer, is-boolean, is-character, is-record, is-array, is-process, is-none, form, lower-field, lower-element, of-module, some-kind}
 
 -- a process type names a module
 pub names-module : (T : Table) → Accepted T → (τ : ℕ) → τ < 3 + typeCount T → typeKind T τ ≡ 3 → isModule T (typeP T τ) ≡ true

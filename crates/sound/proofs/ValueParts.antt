@@ -5,11 +5,11 @@ use mathlib.Core.Bool.{true}
 use native.Mathlib.Omega.{arith}
 use native.Mathlib.Nat.{add-assoc, add-zero, div-add-mod', mod-eq-of-lt, div-eq-of-lt, mul-add-div-right, mul-add-mod-self-right}
 use lib.Dec.{eqb, ltb}
-use borrow.Author.Tests.{eqb-true, eq-eqb, leb-true, le-leb, ltb-true, ltb-false, lt-ltb}
+use borrow.Author.Tests.{eqb-true, eq-eqb, leb-true, ltb-true, ltb-false, lt-ltb}
 use Rattle.basics.specs.Choice.{cases, both, either}
 use Rattle.basics.specs.Course.{upto, course}
-use Rattle.basics.proofs.Bools.{no-true, both-l, both-r, both-i}
-use Rattle.basics.proofs.Courses.{upto-below, upto-above}
+use Rattle.basics.proofs.Bools.{no-true, both-l, both-r, both-i, either-l, either-r, either-case}
+use Rattle.basics.proofs.Courses.{upto-below, upto-above, strong}
 use Rattle.table.specs.Table.{Table}
 use Rattle.table.specs.Entries.{typeCount, typeKind, typeQ, fieldType}
 use Rattle.types.specs.Match.{elements}
@@ -18,18 +18,16 @@ use Rattle.sizes.proofs.Counting.{field-in, element-in}
 use Rattle.machine.specs.Memory.{Memory, within}
 use Rattle.machine.specs.Entries.{recordType, arrayType, typeAt}
 use Rattle.machine.specs.Values.{partIn, partAt, nowhere, part, holds}
+use Rattle.machine.proofs.Tests.{some-i, some-case}
+use Rattle.machine.proofs.Memories.{within-yes}
+use Rattle.machine.proofs.Entries.{at-integer, at-boolean, at-character, at-record, at-array, at-process}
 use Rattle.verdict.specs.Accepted.{Accepted}
-use Rattle.sound.proofs.ValueBools.{either-l, either-r, either-cases, some-i, some-cases, strong}
-use Rattle.sound.proofs.ValueTypes.{fieldAt, at-integer, at-boolean, at-character, at-record, at-array, at-process, Form, is-integer, is-boolean, is-character, is-record, is-array, is-process, is-none, form, lower-field, lower-element, some-words, record-kind, array-kind}
+use Rattle.sound.proofs.ValueTypes.{fieldAt, Form, is-integer, is-boolean, is-character, is-record, is-array, is-process, is-none, form, lower-field, lower-element, some-words, record-kind, array-kind}
 use Rattle.sound.proofs.Values.{field-holds, element-holds}
 
 pub within-true : (a n j : ℕ) → within a n j ≡ true → (a ≤ j) × (j < a + n)
 unfolding within
 within-true a n j e = (leb-true a j (both-l _ _ e), ltb-true j (a + n) (both-r _ _ e))
-
-pub within-i : (a n j : ℕ) → a ≤ j → j < a + n → within a n j ≡ true
-unfolding within
-within-i a n j l g = both-i _ _ (le-leb a j l) (lt-ltb j (a + n) g)
 
 -- a part of type τ begins at word k of a variable of type σ
 pub data Part (T : Table) (τ : ℕ) : ℕ → ℕ → Type 0 where
@@ -47,7 +45,7 @@ module _ (T : Table) (τ σ k : ℕ) where
   -- the variable itself, or a part of one of its parts
   part-cases : {A : Type 0} → part T τ σ k ≡ true → ((σ ≡ τ) × (k ≡ 0) → A) → (partIn T σ (upto nowhere (partAt T τ) σ) (typeAt T σ) k ≡ true → A) → A
   part-cases e f g =
-      either-cases (both (eqb σ τ) (eqb k 0)) _ (sym part-is ∙ e)
+      either-case (both (eqb σ τ) (eqb k 0)) _ (sym part-is ∙ e)
       (λ q. f (eqb-true σ τ (both-l _ _ q), eqb-true k 0 (both-r _ _ q)))
       g
 
@@ -69,7 +67,7 @@ module _ (T : Table) (τ σ k : ℕ) where
       → part T τ (fieldAt T σ i) (k - offsetIn T σ i) ≡ true → part T τ σ k ≡ true
   unfolding partIn
   record-part e i l f x y p =
-      inside (rw (at-record T σ e) (some-i (typeQ T σ) _ i l (both-i _ _ (within-i (offsetIn T σ i) (wordsOf T (fieldAt T σ i)) k x y) (part-lower (fieldAt T σ i) (k - offsetIn T σ i) f p))))
+      inside (rw (at-record T σ e) (some-i (typeQ T σ) _ i l (both-i _ _ (within-yes (offsetIn T σ i) (wordsOf T (fieldAt T σ i)) k x y) (part-lower (fieldAt T σ i) (k - offsetIn T σ i) f p))))
 
   array-part : typeKind T σ ≡ 2 → typeQ T σ < σ → k / wordsOf T (typeQ T σ) < elements T σ
       → part T τ (typeQ T σ) (k % wordsOf T (typeQ T σ)) ≡ true → part T τ σ k ≡ true
@@ -99,7 +97,7 @@ module _ (T : Table) (τ : ℕ) where
   tells-step σ ih (is-character q) k e = part-cases T τ σ k e (itself σ k) (λ x. no-true (rw (q, at-character T) at x))
   tells-step σ ih (is-record q) k e =
       part-cases T τ σ k e (itself σ k) (λ x.
-      some-cases (typeQ T σ) _ (rw (at-record T σ q) at x) (λ i l y.
+      some-case (typeQ T σ) _ (rw (at-record T σ q) at x) (λ i l y.
       let w = within-true (offsetIn T σ i) (wordsOf T (fieldAt T σ i)) k (both-l _ _ y) in
       let p = lower-part T τ σ k (fieldAt T σ i) (k - offsetIn T σ i) (both-r _ _ y) in
       part-of σ (offsetIn T σ i + (k - offsetIn T σ i)) k (omega arith)

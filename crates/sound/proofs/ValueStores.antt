@@ -1,46 +1,35 @@
 -- Words that are retrieved and stored: values of a type, and a value stored in a part of a variable. Assumes nothing.
-use Prim.Native.Nat.{ℕ, zero, suc, _+_, _*_, _≤_, _<_}
-use mathlib.Core.Path.{_≡_, refl, sym, ap, _∙_}
+use Prim.Native.Nat.{ℕ, suc, _+_, _*_, _≤_, _<_}
+use mathlib.Core.Path.{_≡_, refl, sym, _∙_}
 use mathlib.Core.Bool.{true}
 use mathlib.Core.List.{List, [], _∷_}
 use native.Mathlib.Omega.{arith}
-use native.Mathlib.Nat.{add-zero, add-sub-cancel-left, mul-le-mul-right, suc-mul, not-suc-le-zero}
+use native.Mathlib.Nat.{add-zero, mul-le-mul-right, suc-mul}
 use lib.ListN.{length, getD}
-use lib.Dec.{eqb, leb, ltb}
-use borrow.Author.Tests.{eqb-true, eqb-false, ltb-true, ltb-false, lt-leb, le-ltb}
+use lib.Dec.{eqb, ltb}
+use borrow.Author.Tests.{eqb-true, eqb-false, ltb-true, ltb-false}
 use Rattle.basics.specs.Choice.{cases}
-use Rattle.basics.proofs.Bools.{no-true, both-false-l, both-false-r}
+use Rattle.basics.proofs.Bools.{no-true}
 use Rattle.table.specs.Table.{Table}
 use Rattle.table.specs.Entries.{typeCount, typeKind, typeQ}
 use Rattle.types.specs.Match.{elements, isString, matches}
-use Rattle.sizes.specs.Sizes.{wordsOf, partWords, fieldsWords, offsetIn}
-use Rattle.sizes.proofs.Sums.{sum-up}
-use Rattle.sizes.proofs.Counting.{words-array, part-lower, offset-more}
+use Rattle.sizes.specs.Sizes.{wordsOf, offsetIn}
+use Rattle.sizes.proofs.Counting.{words-array, part-lower, offset-more, offset-up}
 use Rattle.numbers.proofs.TypePromise.{declared-from}
-use Rattle.machine.specs.Memory.{Memory, within, store, wordsAt}
+use Rattle.machine.specs.Memory.{Memory, store, wordsAt}
 use Rattle.machine.specs.Values.{part, holds}
+use Rattle.machine.proofs.Memories.{length-words, words-at, store-below, store-above, words-store}
 use Rattle.verdict.specs.Accepted.{Accepted}
 use Rattle.sound.specs.Claims.{Keeps, IsValue, PlaceLaws}
 use Rattle.sound.proofs.ValueTypes.{fieldAt, lower-field, lower-element, some-words}
 use Rattle.sound.proofs.Values.{Same, field-holds, record-holds, element-holds, array-holds, holds-moved, zero-holds}
-use Rattle.sound.proofs.ValueParts.{within-i, Part, whole, in-field, in-element, to-Part, Part-in, part-self, part-in, part-field, part-element, part-holds}
+use Rattle.sound.proofs.ValueParts.{Part, whole, in-field, in-element, to-Part, Part-in, part-self, part-in, part-field, part-element, part-holds}
 
 -- ---- words of memories
 
-pub words-long : (m : Memory) (a n : ℕ) → length (wordsAt m a n) ≡ n
-unfolding wordsAt
-words-long m a zero = refl
-words-long m a (suc n) = ap suc (words-long m (a + 1) n)
-
-pub word-at : (m : Memory) (a n k : ℕ) → k < n → getD (wordsAt m a n) k 0 ≡ m (a + k)
-unfolding wordsAt
-word-at m a zero k l = absurd (not-suc-le-zero l)
-word-at m a (suc n) zero l = rw (add-zero a)
-word-at m a (suc n) (suc k) l = let e : a + 1 + k ≡ a + suc k = omega arith in rw (← e) (word-at m (a + 1) n k (omega arith))
-
 -- memories that have the same words
 pub words-same : (m n : Memory) (a b w : ℕ) → wordsAt n b w ≡ wordsAt m a w → Same w m a n b
-words-same m n a b w e k l = sym (word-at n b w k l) ∙ rw e (word-at m a w k l)
+words-same m n a b w e k l = sym (words-at n b w k l) ∙ rw e (words-at m a w k l)
 
 pub words-are : (m : Memory) (a : ℕ) (ws : List ℕ) → ((k : ℕ) → k < length ws → m (a + k) ≡ getD ws k 0) → wordsAt m a (length ws) ≡ ws
 unfolding wordsAt
@@ -50,22 +39,6 @@ words-are m a (w ∷ ws) h =
     let y : m a ≡ w = rw (add-zero a) at x in
     let z : wordsAt m (a + 1) (length ws) ≡ ws = words-are m (a + 1) ws (λ k l. let e : a + 1 + k ≡ a + suc k = omega arith in rw e (h (suc k) (omega arith))) in
     cc
-
-module _ (m : Memory) (a : ℕ) (ws : List ℕ) where
-  pub store-in : (k : ℕ) → k < length ws → store m a ws (a + k) ≡ getD ws k 0
-  unfolding store
-  store-in k l = rw (within-i a (length ws) (a + k) (omega arith) (omega arith), add-sub-cancel-left a k)
-
-  pub store-below : (j : ℕ) → j < a → store m a ws j ≡ m j
-  unfolding store within
-  store-below j l = rw (both-false-l (leb a j) (ltb j (a + length ws)) (lt-leb a j l))
-
-  pub store-above : (j : ℕ) → a + length ws ≤ j → store m a ws j ≡ m j
-  unfolding store within
-  store-above j l = rw (both-false-r (leb a j) (ltb j (a + length ws)) (le-ltb j (a + length ws) l))
-
-  pub words-stored : wordsAt (store m a ws) a (length ws) ≡ ws
-  words-stored = words-are (store m a ws) a ws store-in
 
 -- ---- a value stored in a part leaves the whole with one
 
@@ -77,10 +50,6 @@ pub record Else (w p : ℕ) (m n : Memory) : Type 0 where
 pub store-else : (m : Memory) (a w : ℕ) (ws : List ℕ) → length ws ≡ w → Else w a m (store m a ws)
 store-else m a w ws e =
     record { below = λ j d. store-below m a ws j d; above = λ j d. store-above m a ws j (omega arith) }
-
-offset-up : (T : Table) (τ i k : ℕ) → i ≤ k → offsetIn T τ i ≤ offsetIn T τ k
-unfolding offsetIn fieldsWords
-offset-up T τ i k l = sum-up (λ n. partWords T τ (fieldAt T τ n)) i k l
 
 -- a field ends where the next begins, or before
 pub field-apart : (T : Table) (τ i k : ℕ) → fieldAt T τ i < τ → i < k → offsetIn T τ i + wordsOf T (fieldAt T τ i) ≤ offsetIn T τ k
@@ -139,7 +108,7 @@ module _ (T : Table) (m : Memory) where
   pub retrieved : (τ a : ℕ) → holds T m τ a ≡ true → IsValue T m τ (wordsAt m a (wordsOf T τ))
   retrieved τ a h =
       record {
-        long = words-long m a (wordsOf T τ);
+        long = length-words m a (wordsOf T τ);
         anywhere = λ n b keeps e. holds-moved T m n keeps τ a b (words-same m n a b (wordsOf T τ) e) h;
       }
 
@@ -151,7 +120,7 @@ module _ (T : Table) (m : Memory) where
         let g = v .long in
         Part-stored T ok m n keeps a l (to-Part T τ σ k p)
         (store-else m (a + k) (wordsOf T τ) ws g)
-        h (v .anywhere n (a + k) keeps (rw (← g) (words-stored m (a + k) ws)))
+        h (v .anywhere n (a + k) keeps (rw (← g) (words-store m (a + k) ws)))
 
 -- strings of one length
 string-kind : (T : Table) (τ : ℕ) → isString T τ ≡ true → (typeKind T τ ≡ 2) × (typeQ T τ ≡ 2)

@@ -1,10 +1,11 @@
 -- The types of a table by their kind, what an accepted table says of them, and their words. Assumes nothing.
 use Prim.Native.Nat.{ℕ, _+_, _-_, _≤_, _<_}
-use mathlib.Core.Path.{_≡_, refl, ap, _∙_}
+use mathlib.Core.Path.{_≡_, ap, _∙_}
 use native.Mathlib.Omega.{arith}
 use lib.Dec.{eqb}
-use borrow.Author.Tests.{eqb-true, eqb-false, ne-eqb}
-use Rattle.basics.specs.Choice.{pick, cases}
+use borrow.Author.Tests.{eqb-true, eqb-false}
+use Rattle.basics.specs.Choice.{cases}
+use Rattle.basics.proofs.Courses.{strong}
 use Rattle.table.specs.Table.{Table}
 use Rattle.table.specs.Entries.{typeCount, blockCount, typeKind, typeP, typeQ, typeLow, typeHigh, fieldType, blockKind}
 use Rattle.types.specs.Match.{elements}
@@ -12,45 +13,14 @@ use Rattle.sizes.specs.Sizes.{wordsOf}
 use Rattle.sizes.proofs.Counting.{words-simple, words-standard, field-in, element-in}
 use Rattle.sizes.proofs.Promise.{elements-some}
 use Rattle.entries.proofs.Promise.{type-kind}
-use Rattle.numbers.proofs.TypePromise.{declared-from, record-some, field-lower, element-lower, process-module}
+use Rattle.numbers.proofs.TypePromise.{record-some, field-lower, element-lower, process-module}
 use Rattle.machine.specs.Entries.{TypeEntry, integer, boolean, character, recordType, arrayType, processType, noType, typeAt}
+use Rattle.machine.proofs.Entries.{at-integer, at-boolean, at-character, at-record, at-array, at-process, by-kind}
 use Rattle.verdict.specs.Accepted.{Accepted}
-use Rattle.sound.proofs.ValueBools.{strong}
 
 -- the type of field i of record type τ
 abbrev pub fieldAt : Table → ℕ → ℕ → ℕ
 fieldAt T τ i = fieldType T (typeP T τ + i)
-
--- ---- the entry of a type, by its kind
-
-module _ (T : Table) where
-  pub at-integer : typeAt T 0 ≡ integer
-  unfolding typeAt
-  at-integer = refl
-
-  pub at-boolean : typeAt T 1 ≡ boolean
-  unfolding typeAt
-  at-boolean = refl
-
-  pub at-character : typeAt T 2 ≡ character
-  unfolding typeAt
-  at-character = refl
-
-module _ (T : Table) (τ : ℕ) where
-  by-kind : 3 ≤ τ → typeAt T τ ≡ pick (eqb (typeKind T τ) 1) (recordType (typeP T τ) (typeQ T τ))
-      (pick (eqb (typeKind T τ) 2) (arrayType (typeP T τ) (typeQ T τ) (typeLow T τ) (typeHigh T τ))
-      (pick (eqb (typeKind T τ) 3) (processType (typeP T τ)) noType))
-  unfolding typeAt
-  by-kind l = rw (ne-eqb τ 0 (λ e. omega arith), ne-eqb τ 1 (λ e. omega arith), ne-eqb τ 2 (λ e. omega arith))
-
-  pub at-record : typeKind T τ ≡ 1 → typeAt T τ ≡ recordType (typeP T τ) (typeQ T τ)
-  at-record e = by-kind (declared-from T τ 1 e (omega arith)) ∙ rw e
-
-  pub at-array : typeKind T τ ≡ 2 → typeAt T τ ≡ arrayType (typeP T τ) (typeQ T τ) (typeLow T τ) (typeHigh T τ)
-  at-array e = by-kind (declared-from T τ 2 e (omega arith)) ∙ rw e
-
-  pub at-process : typeKind T τ ≡ 3 → typeAt T τ ≡ processType (typeP T τ)
-  at-process e = by-kind (declared-from T τ 3 e (omega arith)) ∙ rw e
 
 -- what a type is
 pub data Form (T : Table) (τ : ℕ) : Type 0 where

@@ -8,6 +8,7 @@ use lib.ListN.{length}
 use lib.Dec.{eqb}
 use borrow.Author.Tests.{eq-eqb, leb-true, le-leb}
 use Rattle.basics.specs.Choice.{either}
+use Rattle.basics.proofs.Bools.{either-l, either-r}
 use Rattle.table.specs.Table.{Table}
 use Rattle.sizes.specs.Sizes.{wordsOf}
 use Rattle.sizes.proofs.Counting.{words-standard}
@@ -17,11 +18,10 @@ use Rattle.machine.specs.Outcomes.{wordOf}
 use Rattle.machine.specs.Entries.{processType, typeAt}
 use Rattle.machine.specs.Processes.{refers}
 use Rattle.machine.specs.Values.{holds}
+use Rattle.machine.proofs.Memories.{store-at, store-above, words-store}
 use Rattle.sound.specs.Claims.{Keeps, IsValue}
-use Rattle.sound.proofs.ValueBools.{either-l, either-r}
 use Rattle.sound.proofs.ValueTypes.{process-kind, words-process}
 use Rattle.sound.proofs.Values.{refersOrEmpty, integer-holds, boolean-is, character-is, process-is, keeps-refers}
-use Rattle.sound.proofs.ValueStores.{store-in, store-above, words-stored}
 
 -- ---- references depend on the control records only: words from 16,384 on
 
@@ -89,11 +89,11 @@ module _ (T : Table) (m : Memory) (τ : ℕ) (ws : List ℕ) (v : IsValue T m τ
   word-holds =
       let l = long-one in
       v .anywhere (store m 0 ws) 0 (areas-keep m (store m 0 ws) (λ j d. store-above m 0 ws j (omega arith)))
-      (rw (← v .long) (words-stored m 0 ws))
+      (rw (← v .long) (words-store m 0 ws))
 
   word-there : store m 0 ws 0 ≡ wordOf ws
   unfolding wordOf
-  word-there = let l = long-one in store-in m 0 ws 0 (omega arith)
+  word-there = let l = long-one in store-at m 0 ws 0 (omega arith)
 
 module _ (T : Table) (m : Memory) (ws : List ℕ) where
   pub boolean-word : IsValue T m 1 ws → wordOf ws ≤ 1

@@ -8,8 +8,8 @@ use lib.Dec.{eqb, leb, ltb}
 use borrow.Author.Tests.{eqb-true, eq-eqb, le-leb, ltb-true, ltb-false}
 use Rattle.basics.specs.Choice.{cases, either, allBelow}
 use Rattle.basics.specs.Course.{upto, course}
-use Rattle.basics.proofs.Bools.{no-true, all-at}
-use Rattle.basics.proofs.Courses.{upto-below, upto-above}
+use Rattle.basics.proofs.Bools.{no-true, all-at, either-l, either-r, either-case, all-i}
+use Rattle.basics.proofs.Courses.{upto-below, upto-above, strong}
 use Rattle.table.specs.Table.{Table}
 use Rattle.table.specs.Entries.{typeCount, typeKind, typeP, typeQ}
 use Rattle.types.specs.Match.{elements}
@@ -19,10 +19,10 @@ use Rattle.machine.specs.Memory.{Memory}
 use Rattle.machine.specs.Entries.{processType, noType, typeAt}
 use Rattle.machine.specs.Processes.{refers}
 use Rattle.machine.specs.Values.{typeHolds, holdsAt, nowhere, holds}
+use Rattle.machine.proofs.Entries.{at-integer, at-boolean, at-character, at-record, at-array, at-process}
 use Rattle.verdict.specs.Accepted.{Accepted}
 use Rattle.sound.specs.Claims.{Keeps}
-use Rattle.sound.proofs.ValueBools.{either-l, either-r, either-cases, all-i, strong}
-use Rattle.sound.proofs.ValueTypes.{fieldAt, at-integer, at-boolean, at-character, at-record, at-array, at-process, Form, is-integer, is-boolean, is-character, is-record, is-array, is-process, is-none, form, words-process, lower-field, lower-element, some-kind}
+use Rattle.sound.proofs.ValueTypes.{fieldAt, Form, is-integer, is-boolean, is-character, is-record, is-array, is-process, is-none, form, words-process, lower-field, lower-element, some-kind}
 
 -- w is a reference of module μ, or empty
 unfoldable pub refersOrEmpty : Memory → ℕ → ℕ → Bool
@@ -97,13 +97,13 @@ Same n m a m′ b = (k : ℕ) → k < n → m′ (b + k) ≡ m (a + k)
 pub keeps-refers : (m n : Memory) (μ w : ℕ) → Keeps m n → refersOrEmpty m μ w ≡ true → refersOrEmpty n μ w ≡ true
 unfolding refersOrEmpty
 keeps-refers m n μ w h e =
-    either-cases (eqb w 0) (refers m μ w) e
+    either-case (eqb w 0) (refers m μ w) e
     (λ q. either-l (eqb w 0) (refers n μ w) q)
     (λ q. either-r (eqb w 0) (refers n μ w) (h .refs μ w q))
 
 pub refers-cases {ℓ} : {A : Type ℓ} (m : Memory) (μ w : ℕ) → refersOrEmpty m μ w ≡ true → (w ≡ 0 → A) → (refers m μ w ≡ true → A) → A
 unfolding refersOrEmpty
-refers-cases m μ w e f g = either-cases (eqb w 0) (refers m μ w) e (λ q. f (eqb-true w 0 q)) g
+refers-cases m μ w e f g = either-case (eqb w 0) (refers m μ w) e (λ q. f (eqb-true w 0 q)) g
 
 module _ (T : Table) (m n : Memory) (keeps : Keeps m n) where
   unfoldable Moves : ℕ → Type 0

@@ -40,41 +40,41 @@ pub record StepHolds (T : Table) (e : Seen) : Type 0 where
   pub rows : memoryOf (e .before) failureAt ≡ 0 → RowsHold T (memoryOf (e .before)) (memoryOf (e .given)) (e .process)
   pub failed : (memoryOf (e .before) failureAt ≡ 0 → ⊥) → SameFailure T (memoryOf (e .before)) (memoryOf (e .given)) (e .process)
 
-module _ (verdict : List ℕ → ℕ) where
+module _ (verdict : ℕ → List ℕ → ℕ) (w : ℕ) where
   -- OF A RUN
-  pub record Demand3 (h : History verdict) : Type 0 where
+  pub record Demand3 (h : History verdict w) : Type 0 where
     -- at the start every variable in use holds a value of its type
-    pub begins : ValuesHold (tableOf 1 (h .table)) (memoryOf (first verdict h))
+    pub begins : ValuesHold (tableOf w (h .table)) (memoryOf (first verdict w h))
     -- no call with begin's table and the right lengths is refused
-    pub served : Served verdict (h .table) (first verdict h) (h .calls)
+    pub served : Served verdict w (h .table) (first verdict w h) (h .calls)
     -- there is a step for each number of the order named, and its answer is the byte written for it
-    pub named : processes (steps verdict h) ≡ order verdict (first verdict h) (h .calls)
-    pub answered : answers (steps verdict h) ≡ written verdict (first verdict h) (h .calls)
+    pub named : processes (steps verdict w h) ≡ order verdict w (first verdict w h) (h .calls)
+    pub answered : answers (steps verdict w h) ≡ written verdict w (first verdict w h) (h .calls)
     -- each begins with the state that the last one left, sees the device words that it left or that the call was handed, and holds
-    pub threaded : Threaded (first verdict h) (steps verdict h)
-    pub handed : Handed verdict (first verdict h) (h .calls)
-    pub holds : Every (StepHolds (tableOf 1 (h .table))) (steps verdict h)
-    pub lasting : Lasting (steps verdict h)
+    pub threaded : Threaded (first verdict w h) (steps verdict w h)
+    pub handed : Handed verdict w (first verdict w h) (h .calls)
+    pub holds : Every (StepHolds (tableOf w (h .table))) (steps verdict w h)
+    pub lasting : Lasting (steps verdict w h)
     -- as long as no step has failed the mark is 0, so that the rows hold
-    pub unfailed : (es fs : List Seen) → es ++ fs ≡ steps verdict h → Every (λ e. e .answer < 16) es → memoryOf (finally (first verdict h) es) failureAt ≡ 0
+    pub unfailed : (es fs : List Seen) → es ++ fs ≡ steps verdict w h → Every (λ e. e .answer < 16) es → memoryOf (finally (first verdict w h) es) failureAt ≡ 0
     -- the calls leave the state that the last step left
-    pub last : finally (first verdict h) (steps verdict h) ≡ stateAfter verdict (first verdict h) (h .calls)
+    pub last : finally (first verdict w h) (steps verdict w h) ≡ stateAfter verdict w (first verdict w h) (h .calls)
     -- at the start process 1, which runs block 0, is the one created; after the first steps, es, there is one more for each create that
     -- these carried out
-    pub program : memoryOf (first verdict h) (moduleAt 1) ≡ 0
-    pub created : (es fs : List Seen) → es ++ fs ≡ steps verdict h
-        → memoryOf (finally (first verdict h) es) createdAt ≡ 1 + creations (tableOf 1 (h .table)) es
+    pub program : memoryOf (first verdict w h) (moduleAt 1) ≡ 0
+    pub created : (es fs : List Seen) → es ++ fs ≡ steps verdict w h
+        → memoryOf (finally (first verdict w h) es) createdAt ≡ 1 + creations (tableOf w (h .table)) es
     -- each that is created after the steps es stays so over the next ones, fs, of the same module, and its status does not fall
-    pub kept : (es fs gs : List Seen) → es ++ (fs ++ gs) ≡ steps verdict h
-        → ProcessesKept (memoryOf (finally (first verdict h) es)) (memoryOf (finally (first verdict h) (es ++ fs)))
+    pub kept : (es fs gs : List Seen) → es ++ (fs ++ gs) ≡ steps verdict w h
+        → ProcessesKept (memoryOf (finally (first verdict w h) es)) (memoryOf (finally (first verdict w h) (es ++ fs)))
     -- after the steps es the calls of each process that have not ended are those that these made and no later one of them ended; at the
     -- start there are none
-    pub unended : (es fs : List Seen) → es ++ fs ≡ steps verdict h
-        → (p : ℕ) → openCalls (memoryOf (finally (first verdict h) es)) p ≡ callsMade (tableOf 1 (h .table)) p [] es
+    pub unended : (es fs : List Seen) → es ++ fs ≡ steps verdict w h
+        → (p : ℕ) → openCalls (memoryOf (finally (first verdict w h) es)) p ≡ callsMade (tableOf w (h .table)) p [] es
     -- the variables of calls in use are those of these calls
-    pub callsListed : (es fs : List Seen) → es ++ fs ≡ steps verdict h → CallsListed (tableOf 1 (h .table)) (memoryOf (finally (first verdict h) es))
+    pub callsListed : (es fs : List Seen) → es ++ fs ≡ steps verdict w h → CallsListed (tableOf w (h .table)) (memoryOf (finally (first verdict w h) es))
     -- a run begun alike begins with the same state; as far as it names the same order and sees the same device words, it gives the same
     -- answers, states and device words, wherever the calls of the two begin and end (of a host that cuts its calls: Cuts)
-    pub alike : (k : History verdict) → k .table ≡ h .table → first verdict k ≡ first verdict h
-    pub agrees : (k : History verdict) → k .table ≡ h .table → (n : ℕ) → take n (asked (steps verdict k)) ≡ take n (asked (steps verdict h))
-        → take n (told (steps verdict k)) ≡ take n (told (steps verdict h))
+    pub alike : (k : History verdict w) → k .table ≡ h .table → first verdict w k ≡ first verdict w h
+    pub agrees : (k : History verdict w) → k .table ≡ h .table → (n : ℕ) → take n (asked (steps verdict w k)) ≡ take n (asked (steps verdict w h))
+        → take n (told (steps verdict w k)) ≡ take n (told (steps verdict w h))

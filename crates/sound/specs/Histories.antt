@@ -120,16 +120,16 @@ pub record Ask : Type 0 where
   pub schedule : List ℕ
   pub answers : List ℕ
 
-module _ (verdict : List ℕ → ℕ) where
+module _ (verdict : ℕ → List ℕ → ℕ) (w : ℕ) where
   unfoldable pub callOf : List ℕ → Ask → Called
-  callOf s x = runCall verdict (x .table) s (x .page) (x .schedule) (x .answers)
+  callOf s x = runCall verdict w (x .table) s (x .page) (x .schedule) (x .answers)
 
   unfoldable pub refused : List ℕ → Ask → Bool
   refused s x = pick (eqb (result (callOf s x)) 0) false true
 
   -- its steps: none where it is refused
   unfoldable pub stepsOf : List ℕ → Ask → List Seen
-  stepsOf s x = pick (refused s x) [] (trace (tableOf 1 (x .table)) (x .schedule) (memoryOf s) (memoryOf (x .page)))
+  stepsOf s x = pick (refused s x) [] (trace (tableOf w (x .table)) (x .schedule) (memoryOf s) (memoryOf (x .page)))
 
   -- its schedule, and the answer bytes that it wrote
   unfoldable pub orderOf : List ℕ → Ask → List ℕ
@@ -183,7 +183,7 @@ module _ (verdict : List ℕ → ℕ) where
 
   -- the state that begin leaves in the slice that it is lent
   unfoldable pub begunWith : List ℕ → List ℕ → List ℕ
-  begunWith t slice = begunState (beginCall verdict t slice)
+  begunWith t slice = begunState (beginCall verdict w t slice)
 
   -- A RUN: a begin that is not refused, with its table and the slice that it fills, and any list of run calls
   pub record History : Type 0 where
@@ -191,7 +191,7 @@ module _ (verdict : List ℕ → ℕ) where
     pub slice : List ℕ
     pub calls : List Ask
     pub bytes : Bytes table
-    pub begins : begunResult (beginCall verdict table slice) ≡ 0
+    pub begins : begunResult (beginCall verdict w table slice) ≡ 0
     pub fits : Calls table (begunWith table slice) calls
 
   -- the state that it begins with, its steps, its order and its answers

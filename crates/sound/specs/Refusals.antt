@@ -31,19 +31,19 @@ module _ (lengths : Bool) (v : ℕ) (state : Bool) where
     pub table : (n : ℕ) → 2 ≤ n → n ≤ 9 → (r ≡ n) ↔ ((lengths ≡ true) × (v ≡ n))
     pub ten : (r ≡ 10) ↔ ((lengths ≡ true) × ((v ≡ 0) × (state ≡ false)))
 
-module _ (verdict : List ℕ → ℕ) (table state : List ℕ) where
+module _ (verdict : ℕ → List ℕ → ℕ) (w : ℕ) (table state : List ℕ) where
   -- BEGIN
   pub record BeginResult : Type 0 where
-    pub is : begunResult (beginCall verdict table state) ≡ beginRefusal verdict table state
-    pub lowest : Lowest (eqb (length state) 35328) (verdict table) true (begunResult (beginCall verdict table state))
-    pub success : (begunResult (beginCall verdict table state) ≡ 0) ↔ AllRight (eqb (length state) 35328) (verdict table) true
+    pub is : begunResult (beginCall verdict w table state) ≡ beginRefusal verdict w table state
+    pub lowest : Lowest (eqb (length state) 35328) (verdict w table) true (begunResult (beginCall verdict w table state))
+    pub success : (begunResult (beginCall verdict w table state) ≡ 0) ↔ AllRight (eqb (length state) 35328) (verdict w table) true
     -- where it refuses, the state is as it was
-    pub unchanged : (begunResult (beginCall verdict table state) ≡ 0 → ⊥)
-        → beginCall verdict table state ≡ begun (begunResult (beginCall verdict table state)) state
+    pub unchanged : (begunResult (beginCall verdict w table state) ≡ 0 → ⊥)
+        → beginCall verdict w table state ≡ begun (begunResult (beginCall verdict w table state)) state
 
   -- does the state meet its rule
   abbrev pub ruled : Bool
-  ruled = rule (tableOf 1 table) (memoryOf state)
+  ruled = rule (tableOf w table) (memoryOf state)
 
   -- RUN
   module _ (page schedule answers : List ℕ) where
@@ -51,32 +51,32 @@ module _ (verdict : List ℕ → ℕ) (table state : List ℕ) where
     lengths = runLengths (length state) (length page) (length schedule) (length answers)
 
     abbrev pub returned : ℕ
-    returned = result (runCall verdict table state page schedule answers)
+    returned = result (runCall verdict w table state page schedule answers)
 
     pub record RunResult : Type 0 where
-      pub is : returned ≡ runRefusal verdict table state page schedule answers
-      pub lowest : Lowest lengths (verdict table) ruled returned
-      pub success : (returned ≡ 0) ↔ AllRight lengths (verdict table) ruled
+      pub is : returned ≡ runRefusal verdict w table state page schedule answers
+      pub lowest : Lowest lengths (verdict w table) ruled returned
+      pub success : (returned ≡ 0) ↔ AllRight lengths (verdict w table) ruled
       -- where it refuses, state, page and answers are as they were
-      pub unchanged : (returned ≡ 0 → ⊥) → runCall verdict table state page schedule answers ≡ called returned state page answers
+      pub unchanged : (returned ≡ 0 → ⊥) → runCall verdict w table state page schedule answers ≡ called returned state page answers
 
   -- LOOK
   module _ (process variable place : ℕ) where
     abbrev pub sees : Bool
-    sees = visible (tableOf 1 table) (memoryOf state) process variable place
+    sees = visible (tableOf w table) (memoryOf state) process variable place
 
     abbrev pub looked : ℕ
-    looked = lookCall verdict table state process variable place
+    looked = lookCall verdict w table state process variable place
 
     pub record LookResult : Type 0 where
-      pub lowest : Lowest (eqb (length state) 35328) (verdict table) ruled looked
-      pub eleven : (looked ≡ 11) ↔ (AllRight (eqb (length state) 35328) (verdict table) ruled × (sees ≡ false))
-      pub success : (65536 ≤ looked) ↔ (AllRight (eqb (length state) 35328) (verdict table) ruled × (sees ≡ true))
+      pub lowest : Lowest (eqb (length state) 35328) (verdict w table) ruled looked
+      pub eleven : (looked ≡ 11) ↔ (AllRight (eqb (length state) 35328) (verdict w table) ruled × (sees ≡ false))
+      pub success : (65536 ≤ looked) ↔ (AllRight (eqb (length state) 35328) (verdict w table) ruled × (sees ≡ true))
       pub most : looked < 65536 + 65536
 
 -- ALL FOUR CALLS, for every input: a table, a state and a page are bytes
-pub record Results (verdict : List ℕ → ℕ) : Type 0 where
-  pub checks : (table : List ℕ) → Checked (verdict table)
-  pub begins : (table state : List ℕ) → BeginResult verdict table state
-  pub runs : (table state page schedule answers : List ℕ) → Bytes table → Bytes state → Bytes page → RunResult verdict table state page schedule answers
-  pub looks : (table state : List ℕ) (process variable place : ℕ) → Bytes state → LookResult verdict table state process variable place
+pub record Results (verdict : ℕ → List ℕ → ℕ) (w : ℕ) : Type 0 where
+  pub checks : (table : List ℕ) → Checked (verdict w table)
+  pub begins : (table state : List ℕ) → BeginResult verdict w table state
+  pub runs : (table state page schedule answers : List ℕ) → Bytes table → Bytes state → Bytes page → RunResult verdict w table state page schedule answers
+  pub looks : (table state : List ℕ) (process variable place : ℕ) → Bytes state → LookResult verdict w table state process variable place

@@ -12,7 +12,7 @@ use Rattle.machine.specs.Layout.{location, statusAt, moduleAt, statementAt, fra
 use Rattle.machine.specs.Entries.{stmtAt}
 use Rattle.machine.specs.Variables.{firstWords, frameWords, offsetOf}
 use Rattle.machine.specs.Context.{blockOf}
-use Rattle.machine.specs.Values.{holds, part}
+use Rattle.machine.specs.Values.{holds}
 use Rattle.sound.specs.Claims.{Keeps}
 use Rattle.machine.specs.Outcomes.{Outcome, ok, fail}
 use Rattle.machine.specs.Rule.{nextFirst, calls, lives, rule}
@@ -75,15 +75,6 @@ pub record Standing (T : Table) (m : Memory) (p : ℕ) : Type 0 where
   pub from : firstStmt T (blockOf m p) ≤ m (statementAt p)
   pub to : m (statementAt p) < nextFirst T (blockOf m p)
   pub room : (m (depthAt p) ≡ 0 → ⊥) → m (frameAt p) + 4 ≤ 256
-
--- word k, counted from where the variables of block b begin, lies in one of them, variable i, which is no var parameter, and a part of
--- type τ begins there
-pub record PartOf (T : Table) (b τ k : ℕ) : Type 0 where
-  pub i : ℕ
-  pub below : i < vars T b
-  pub plain : varMode T (firstVar T b + i) ≡ 2 → ⊥
-  pub from : offsetOf T b (firstVar T b + i) ≤ k
-  pub begins : part T τ (varType T (firstVar T b + i)) (k - offsetOf T b (firstVar T b + i)) ≡ true
 
 -- the processes of m are processes of n, of the same modules
 pub record Carries (m n : Memory) : Type 0 where

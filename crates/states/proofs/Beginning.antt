@@ -11,11 +11,9 @@ use borrow.Author.Tests.{eq-eqb, ne-eqb, eqb-true, eqb-false, ltb-true, ltb-fals
 use Rattle.basics.specs.Choice.{cases}
 use Rattle.table.specs.Empty.{bytesRead}
 use Rattle.table.specs.Table.{Table, tableOf}
-use Rattle.table.proofs.ReadBytes.{read-bytes}
-use Rattle.table.specs.Entries.{firstStmt, vars}
+use Rattle.table.specs.Entries.{typeCount, firstStmt, vars}
 use Rattle.words.specs.Memory.{Bytes}
 use Rattle.code.specs.Code.{decoded}
-use Rattle.code.proofs.Blanks.{new-standard}
 use Rattle.sizes.specs.Sizes.{typesSized, varOffset, moduleWords, Room}
 use Rattle.sizes.proofs.Counting.{kind-none}
 use Rattle.sizes.proofs.Promise.{types-pass, module-most, var-exact}
@@ -23,7 +21,9 @@ use Rattle.numbers.proofs.BlockPromise.{program-there, program-kind}
 use Rattle.verdict.specs.Verdict.{verdict}
 use Rattle.verdict.specs.Accepted.{Accepted}
 use Rattle.verdict.specs.Checked.{Checked}
+use Rattle.verdict.specs.Edition.{rowsBelow, typesBelow}
 use Rattle.verdict.proofs.Promise.{promise}
+use Rattle.verdict.proofs.Rooming.{rows-small}
 use Rattle.machine.specs.Memory.{update, zeros, memoryOf, bytesOf}
 use Rattle.machine.specs.Lent.{Lent, Changed}
 use Rattle.machine.specs.Layout.{statusAt, statementAt, frameAt, topAt, worksAt, holderAt, depthAt, createdAt}
@@ -31,7 +31,7 @@ use Rattle.machine.specs.Calls.{standing}
 use Rattle.machine.specs.Run.{begin}
 use Rattle.machine.specs.Public.{begun, beginCall, beginRefusal}
 use Rattle.machine.proofs.Memories.{bytes-memory}
-use Rattle.states.specs.Parts.{Cleared, firstMade, Small}
+use Rattle.states.specs.Parts.{Cleared, firstMade, OfEdition}
 
 -- ---- clearing
 
@@ -112,26 +112,28 @@ begin-bytes T s₁ s₂ s₃ c t hc ht a b d bytes =
 pub lent-bytes : (s : List ℕ) → length s ≡ 35328 → Lent 17664 s
 lent-bytes s e = record { long = e }
 
-pub begin-room : (T : Table) → Small T → Room T (replicate 258 0)
-begin-room T h = let k = h .types in record { room = rw (length-replicate {A = ℕ} 258 0) (omega arith); beyond = h .beyond }
+pub begin-room : (w : ℕ) (T : Table) → OfEdition w T → Room T (replicate (typesBelow w) 0)
+begin-room w T h = let k = h .types in record { room = rw (length-replicate {A = ℕ} (typesBelow w) 0) (omega arith); beyond = h .beyond }
 
--- the table that a check with verdict 0 leaves
-pub check-small : (t c : List ℕ) (v : ℕ) → ((i : ℕ) → getD t i 0 < 256) → Checked t v c → v ≡ 0 → Small (decoded c)
+-- the table that a check with verdict 0 leaves, if it has few enough types; those of the small edition have
+pub check-edition : (w : ℕ) (t c : List ℕ) (v : ℕ) → typeCount (tableOf w t) < rowsBelow w → Checked w t v c → v ≡ 0 → OfEdition w (decoded c)
 unfolding tableOf
-check-small t c v bytes h z =
-    let k = new-standard (bytesRead 1 t) (read-bytes 1 t bytes) in
-    rw (h .table z) (record { accepted = promise 1 t (sym (h .is) ∙ z); types = omega arith; beyond = kind-none 1 (bytesRead 1 t) })
+check-edition w t c v few h z =
+    rw (h .table z) (record { accepted = promise w t (sym (h .is) ∙ z); types = few; beyond = kind-none w (bytesRead w t) })
 
-module _ (t s : List ℕ) where
-  pub begun-short : (length s ≡ 35328 → ⊥) → begun 1 s ≡ beginCall (verdict 1) t s
+pub check-small : (t c : List ℕ) (v : ℕ) → ((i : ℕ) → getD t i 0 < 256) → Checked 1 t v c → v ≡ 0 → OfEdition 1 (decoded c)
+check-small t c v bytes h z = check-edition 1 t c v (rows-small t bytes 0) h z
+
+module _ (w : ℕ) (t s : List ℕ) where
+  pub begun-short : (length s ≡ 35328 → ⊥) → begun 1 s ≡ beginCall verdict w t s
   unfolding beginCall beginRefusal
   begun-short n = rw (ne-eqb (length s) 35328 n)
 
-  module _ (v : ℕ) (l : length s ≡ 35328) (e : v ≡ verdict 1 t) where
-    pub begun-refused : (v ≡ 0 → ⊥) → begun v s ≡ beginCall (verdict 1) t s
+  module _ (v : ℕ) (l : length s ≡ 35328) (e : v ≡ verdict w t) where
+    pub begun-refused : (v ≡ 0 → ⊥) → begun v s ≡ beginCall verdict w t s
     unfolding beginCall beginRefusal
     begun-refused n = rw (eq-eqb (length s) 35328 l, ← e, ne-eqb v 0 n)
 
-    pub begun-done : (c s₁ : List ℕ) → v ≡ 0 → decoded c ≡ tableOf 1 t → s₁ ≡ bytesOf 17664 (begin (decoded c)) → begun 0 s₁ ≡ beginCall (verdict 1) t s
+    pub begun-done : (c s₁ : List ℕ) → v ≡ 0 → decoded c ≡ tableOf w t → s₁ ≡ bytesOf 17664 (begin (decoded c)) → begun 0 s₁ ≡ beginCall verdict w t s
     unfolding beginCall beginRefusal
     begun-done c s₁ z d h = let g = rw d at h in rw (eq-eqb (length s) 35328 l, ← e, eq-eqb v 0 z, g)

@@ -263,20 +263,20 @@ module _ (T : Table) (m : Memory) (p v k : ℕ) (c : Bool) (ec : c ≡ visible T
 
 -- ---- the call, where it is known whether the state meets its rule
 
-module _ (table state : List ℕ) (p v k : ℕ) where
-  pub looked-short : (length state ≡ 35328 → ⊥) → 1 ≡ lookCall (verdict 1) table state p v k
+module _ (w : ℕ) (table state : List ℕ) (p v k : ℕ) where
+  pub looked-short : (length state ≡ 35328 → ⊥) → 1 ≡ lookCall verdict w table state p v k
   unfolding lookCall lookRefusal refusal
   looked-short n = rw (ne-eqb (length state) 35328 n)
 
-  module _ (x : ℕ) (l : length state ≡ 35328) (e : x ≡ verdict 1 table) where
-    pub looked-refused : (x ≡ 0 → ⊥) → x ≡ lookCall (verdict 1) table state p v k
+  module _ (x : ℕ) (l : length state ≡ 35328) (e : x ≡ verdict w table) where
+    pub looked-refused : (x ≡ 0 → ⊥) → x ≡ lookCall verdict w table state p v k
     unfolding lookCall lookRefusal refusal
     looked-refused n = rw (eq-eqb (length state) 35328 l, ← e, ne-eqb x 0 n, ne-eqb x 0 n)
 
-    pub looked-judged : (r : ℕ) → x ≡ 0 → r ≡ lookJudged (tableOf 1 table) (memoryOf state) p v k → r ≡ lookCall (verdict 1) table state p v k
+    pub looked-judged : (r : ℕ) → x ≡ 0 → r ≡ lookJudged (tableOf w table) (memoryOf state) p v k → r ≡ lookCall verdict w table state p v k
     unfolding lookCall lookRefusal refusal lookJudged
     looked-judged r z h =
-        h ∙ cases (rule (tableOf 1 table) (memoryOf state))
+        h ∙ cases (rule (tableOf w table) (memoryOf state))
         (λ q. rw (eq-eqb (length state) 35328 l, ← e, eq-eqb x 0 z, q))
         (λ q. rw (eq-eqb (length state) 35328 l, ← e, eq-eqb x 0 z, q))
 

@@ -9,6 +9,7 @@ use Rattle.basics.specs.Choice.{pick}
 use Rattle.table.specs.Table.{Table}
 use Rattle.table.specs.Entries.{typeCount, typeKind}
 use Rattle.verdict.specs.Accepted.{Accepted}
+use Rattle.verdict.specs.Edition.{rowsBelow}
 use Rattle.machine.specs.Memory.{Memory, update}
 use Rattle.machine.specs.Layout.{statusAt, holderAt, createdAt}
 use Rattle.machine.specs.Rule.{rule}
@@ -37,8 +38,8 @@ shown m p =
 unfoldable pub lookJudged : Table → Memory → ℕ → ℕ → ℕ → ℕ
 lookJudged T m p v k = pick (rule T m) (look T m p v k) 10
 
--- an accepted table of the small edition: its types fit the array of their words, and a number beyond is of no type
-pub record Small (T : Table) : Type 0 where
+-- an accepted table of the edition of width w: its types fit the array of their words, and a number beyond is of no type
+pub record OfEdition (w : ℕ) (T : Table) : Type 0 where
   pub accepted : Accepted T
-  pub types : typeCount T < 256
+  pub types : typeCount T < rowsBelow w
   pub beyond : (τ : ℕ) → 3 + typeCount T ≤ τ → typeKind T τ ≡ 0

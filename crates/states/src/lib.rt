@@ -15,7 +15,7 @@ ghost use Rattle.machine.specs.Variables.{offsetOf, belongs};
 ghost use Rattle.machine.specs.Run as runs;
 ghost use Rattle.machine.specs.Rule.{rule};
 ghost use Rattle.machine.specs.Public.{visible, look, begun, beginCall};
-ghost use Rattle.states.specs.Parts.{firstMade, shown, lookJudged, Small};
+ghost use Rattle.states.specs.Parts.{firstMade, shown, lookJudged, OfEdition};
 
 fn wide(x: u16) -> usize
     ensures { λ r. ⌜ r ≡ x ⌝ }
@@ -215,7 +215,7 @@ pub fn look_judged(
 
 // Begins a run of an accepted table: the array of the words of types is that of the small edition.
 fn begin_accepted(c: &code::Slots, state: &mut [u8])
-    requires { ⌜ Small (decoded (now c)) ⌝ }
+    requires { ⌜ OfEdition 1 (decoded (now c)) ⌝ }
     requires { ⌜ Lent 17664 (now state) ⌝ }
     ensures { λ _. ⌜ now (state .exit) ≡ bytesOf 17664 (runs.begin (decoded (now (c .entry)))) ⌝ }
 {
@@ -226,7 +226,7 @@ fn begin_accepted(c: &code::Slots, state: &mut [u8])
 
 // Makes the lent state that in which a run of the table begins, or refuses.
 pub fn begin(table: &[u8], state: &mut [u8]) -> u32
-    ensures { λ r. ⌜ begun r (now (state .exit)) ≡ beginCall (verdict 1) (now (table .entry)) (now (state .entry)) ⌝ }
+    ensures { λ r. ⌜ begun r (now (state .exit)) ≡ beginCall verdict 1 (now (table .entry)) (now (state .entry)) ⌝ }
 {
     if state.len() == 35328 {
         let mut c = [0u16; 8256];

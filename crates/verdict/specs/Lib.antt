@@ -1,4 +1,5 @@
 pub mod Verdict
 pub mod Rooms
 pub mod Accepted
+pub mod Edition
 pub mod Checked

@@ -139,7 +139,7 @@ const LISTING: [u8; 27] = [
 // All refusals of the bytes that are read; the table of bytes that are accepted is left decoded.
 fn check_bytes(t: &[u8], c: &mut code::Slots) -> u32
     requires { ⌜ decoding.Blank (now c) ⌝ }
-    ensures { λ r. ⌜ CheckedBytes (now (t .entry)) r (now (c .exit)) ⌝ }
+    ensures { λ r. ⌜ CheckedBytes 1 (now (t .entry)) r (now (c .exit)) ⌝ }
 {
     let r = table::read_sections(t, 1);
     if r.found {
@@ -153,7 +153,7 @@ fn check_bytes(t: &[u8], c: &mut code::Slots) -> u32
 // The verdict on any bytes, in the small edition; the table of bytes that are accepted is left decoded.
 pub fn check_into(t: &[u8], c: &mut code::Slots) -> u32
     requires { ⌜ decoding.Blank (now c) ⌝ }
-    ensures { λ r. ⌜ Checked (now (t .entry)) r (now (c .exit)) ⌝ }
+    ensures { λ r. ⌜ Checked 1 (now (t .entry)) r (now (c .exit)) ⌝ }
 {
     if t.len() == 0 {
         let listing = LISTING;

@@ -2,10 +2,9 @@ use Prim.Native.Nat.{_≤_, _-_}
 use native.Mathlib.Omega.{arith}
 use borrow.Author.Needs.{needs}
 use Rattle.basics.specs.Choice.{Passed}
-use Rattle.basics.proofs.Passes.{passes}
+use Rattle.basics.proofs.Passes.{passes, counts}
 use Rattle.code.specs.Code.{decoded}
 use Rattle.sizes.specs.Sizes.{blockSized, blocksSized}
-use Rattle.sizes.proofs.Judging.{sections}
 use Rattle.sizes.proofs.blocks_sized.Statement.{statement}
 use Rattle.sizes.proofs.blocks_sized.Tie as tie
 
@@ -28,5 +27,5 @@ blocks-sized-spec =
     (λ c. search needs)
     (λ c. omega arith)
     (λ c. (omega arith, search passes))
-    (λ c. search sections)
-    (λ c. search sections))
+    (λ c. search counts)
+    (λ c. search counts))

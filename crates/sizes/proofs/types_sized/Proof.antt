@@ -2,10 +2,10 @@ use Prim.Native.Nat.{_≤_, _-_}
 use native.Mathlib.Omega.{arith}
 use borrow.Author.Needs.{needs}
 use Rattle.basics.specs.Choice.{Passed}
-use Rattle.basics.proofs.Passes.{passes}
+use Rattle.basics.proofs.Passes.{passes, counts}
 use Rattle.code.specs.Code.{decoded}
 use Rattle.sizes.specs.Sizes.{typeSized, typesSized}
-use Rattle.sizes.proofs.Judging.{type-row, sections}
+use Rattle.sizes.proofs.Judging.{type-row}
 use Rattle.sizes.proofs.types_sized.Statement.{statement}
 use Rattle.sizes.proofs.types_sized.Tie as tie
 
@@ -29,5 +29,5 @@ types-sized-spec =
     (λ c. search needs)
     (λ c. omega arith)
     (λ c. (omega arith, search (passes, type-row)))
-    (λ c. search (sections, type-row))
-    (λ c. search sections))
+    (λ c. search (counts, type-row))
+    (λ c. search counts))

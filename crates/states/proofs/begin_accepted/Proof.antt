@@ -8,7 +8,7 @@ begin-accepted-spec =
     tie.close
     (tie.spec
     (λ c. search needs)
-    (λ c κs. begin-room _ (c .before .before .pre .0))
+    (λ c κs. begin-room _ _ (c .before .before .pre .0))
     (λ c. search needs)
     (λ c κs. search needs)
     (λ c. search needs)

@@ -1,0 +1,44 @@
+-- Laws of the tests `someBelow` and `inRange`. Assumes nothing.
+use Prim.Native.Nat.{ℕ, zero, suc, _≤_, _<_}
+use mathlib.Core.Path.{_≡_, sym, ap, _∙_}
+use mathlib.Core.Bool.{Bool, true}
+use native.Mathlib.Omega.{arith}
+use native.Mathlib.Nat.{not-suc-le-zero}
+use lib.Dec.{eqb}
+use borrow.Author.Tests.{eqb-true, eqb-false, leb-true, le-leb}
+use Rattle.basics.specs.Choice.{cases}
+use Rattle.basics.proofs.Bools.{no-true, both-l, both-r, both-i, either-l, either-r, either-case}
+use Rattle.machine.specs.Values.{someBelow}
+use Rattle.machine.specs.Step.{inRange}
+
+-- ---- a test that holds somewhere
+
+pub some-i : (k : ℕ) (f : ℕ → Bool) (i : ℕ) → i < k → f i ≡ true → someBelow k f ≡ true
+unfolding someBelow
+some-i zero f i l e = absurd (not-suc-le-zero l)
+some-i (suc k) f i l e =
+    cases (eqb i k)
+    (λ q. either-l (f k) (someBelow k f) (ap f (sym (eqb-true i k q)) ∙ e))
+    (λ q. either-r (f k) (someBelow k f) (some-i k f i (omega (arith, eqb-false i k q)) e))
+
+pub some-case {ℓ} : {A : Type ℓ} (k : ℕ) (f : ℕ → Bool) → someBelow k f ≡ true → ((i : ℕ) → i < k → f i ≡ true → A) → A
+unfolding someBelow
+some-case zero f e g = no-true e
+some-case (suc k) f e g =
+    either-case (f k) (someBelow k f) e
+    (λ q. g k (omega arith) q)
+    (λ q. some-case k f q (λ i l r. g i (omega arith) r))
+
+-- ---- a number between two
+
+pub range-low : (l h n : ℕ) → inRange l h n ≡ true → l ≤ n
+unfolding inRange
+range-low l h n e = leb-true l n (both-l _ _ e)
+
+pub range-high : (l h n : ℕ) → inRange l h n ≡ true → n ≤ h
+unfolding inRange
+range-high l h n e = leb-true n h (both-r _ _ e)
+
+pub range-i : (l h n : ℕ) → l ≤ n → n ≤ h → inRange l h n ≡ true
+unfolding inRange
+range-i l h n a b = both-i _ _ (le-leb l n a) (le-leb n h b)
