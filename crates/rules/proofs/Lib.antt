@@ -1,5 +1,6 @@
 pub mod Reading
 pub mod Values
+pub mod Heading
 pub mod Parts
 pub mod Frames
 pub mod Chains

@@ -1,8 +1,10 @@
 // The test of the state rule (01, Verdicts and other refusals): the words of a lent state against an accepted table.
+pub mod heads;
+
 ghost use mathlib.Core.Path.{_≡_};
 ghost use Prim.Native.Nat.{_+_, _*_, _/_, _%_, _≤_, _<_};
-ghost use lib.Dec.{eqb};
-ghost use Rattle.basics.specs.Choice.{both};
+ghost use lib.Dec.{eqb, leb};
+ghost use Rattle.basics.specs.Choice.{both, allBelow};
 ghost use Rattle.code.specs.Code.{decoded};
 ghost use Rattle.table.specs.Reading.{Field};
 ghost use Rattle.sizes.specs.Sizes.{wordsOf, partWords, moduleWords};
@@ -15,6 +17,7 @@ ghost use Rattle.machine.specs.Variables.{varWords, frameWords, isModule, isPro
 ghost use Rattle.machine.specs.Step.{inRange};
 ghost use Rattle.machine.specs.Values.{holds, part, partOfBlock};
 ghost use Rattle.machine.specs.Rule.{nextFirst, liesIn, calls, owns, lives, modulesHold, framesHold, frameOk, startedOk, moduleOk, processOk, rule};
+ghost use Rattle.rules.specs.Heads.{Heads, Tested, wordsHold, wordUpTo, wordRefers};
 ghost use Rattle.rules.specs.Frames.{variableHolds, livesInModule, ownedIn, frameVariable};
 ghost use Rattle.rules.specs.Chains.{Sum, createdOf, frameFits, calledOk, callOk, baseOk, runningOk, failureHolds, processesHold};
 ghost use Rattle.rules.specs.Walks.{Ready, Near, Words, simpleHolds, referenceHolds, fieldsHold, elementsHold, RecordAt, ArrayAt, fieldBegins, fieldsBegin, elementBegins, variableBegins};
@@ -94,21 +97,29 @@ fn words_of(c: &code::Slots, sizes: &[u16], x: usize) -> usize
     sizes::size_of(c, sizes, x)
 }
 
-// A value of a standard type stands at location a.
-fn simple_holds(state: &[u8], x: usize, a: usize) -> bool
+// The word at location a is at most `most`.
+fn word_up_to(state: &[u8], a: usize, most: usize) -> bool
     requires { ⌜ Lent 17664 (now state) ⌝ }
-    ensures { λ r. ⌜ r ≡ simpleHolds (memoryOf (now (state .entry))) x a ⌝ }
+    ensures { λ r. ⌜ r ≡ leb (memoryOf (now (state .entry)) a) most ⌝ }
 {
-    if x == 0 {
-        return true;
+    word_or_zero(state, a) <= most
+}
+
+// Each of the n words from location a on is.
+fn words_up_to(state: &[u8], a: usize, n: usize, most: usize) -> bool
+    requires { ⌜ Lent 17664 (now state) ⌝ }
+    requires { ⌜ (a ≤ 20000000) × (n ≤ 200) ⌝ }
+    ensures { λ r. ⌜ r ≡ allBelow n (wordUpTo (memoryOf (now (state .entry))) most a) ⌝ }
+{
+    let mut i = 0;
+    while i < n {
+        if word_up_to(state, a + i, most) {
+            i += 1;
+        } else {
+            return false;
+        }
     }
-    if x == 1 {
-        return word_or_zero(state, a) <= 1;
-    }
-    if x == 2 {
-        return word_or_zero(state, a) <= 127;
-    }
-    false
+    true
 }
 
 // A process variable at location a is empty, or names a created process of its module.
@@ -123,28 +134,81 @@ fn reference_holds(state: &[u8], home: usize, a: usize) -> bool
     refers_to(state, home, r)
 }
 
+// So does each of the n words from location a on.
+fn references_hold(state: &[u8], home: usize, a: usize, n: usize) -> bool
+    requires { ⌜ Lent 17664 (now state) ⌝ }
+    requires { ⌜ (a ≤ 20000000) × (n ≤ 200) ⌝ }
+    ensures { λ r. ⌜ r ≡ allBelow n (wordRefers (memoryOf (now (state .entry))) home a) ⌝ }
+{
+    let mut i = 0;
+    while i < n {
+        if reference_holds(state, home, a + i) {
+            i += 1;
+        } else {
+            return false;
+        }
+    }
+    true
+}
+
+// A value of the simple or process type h, integers apart, stands at each of the n words from location a on.
+fn words_hold(c: &code::Slots, state: &[u8], h: usize, a: usize, n: usize) -> bool
+    requires { ⌜ Lent 17664 (now state) ⌝ }
+    requires { ⌜ Tested (decoded (now c)) h ⌝ }
+    requires { ⌜ (a ≤ 20000000) × (n ≤ 200) ⌝ }
+    ensures { λ r. ⌜ r ≡ wordsHold (decoded (now (c .entry))) (memoryOf (now (state .entry))) h a n ⌝ }
+{
+    if h == 1 {
+        return words_up_to(state, a, n, 1);
+    }
+    if h == 2 {
+        return words_up_to(state, a, n, 127);
+    }
+    if code::type_kind(c, h) == 3 {
+        return references_hold(state, code::type_p(c, h), a, n);
+    }
+    n == 0
+}
+
 // A value of type x stands at location a.
-fn value_holds(c: &code::Slots, sizes: &[u16], state: &[u8], x: usize, a: usize) -> bool
+fn value_holds(
+    c: &code::Slots,
+    sizes: &[u16],
+    heads: &[u16],
+    state: &[u8],
+    x: usize,
+    a: usize,
+) -> bool
     requires { ⌜ Ready (decoded (now c)) (now sizes) ⌝ }
+    requires { ⌜ Heads (decoded (now c)) (now heads) ⌝ }
     requires { ⌜ Lent 17664 (now state) ⌝ }
     requires { ⌜ Near (decoded (now c)) x a ⌝ }
     ensures { λ r. ⌜ r ≡ holds (decoded (now (c .entry))) (memoryOf (now (state .entry))) x a ⌝ }
 {
-    let kind = code::type_kind(c, x);
+    let h = heads::head_of(c, heads, x);
+    if h == 0 {
+        return true;
+    }
+    let kind = code::type_kind(c, h);
     if kind == 1 {
-        return fields_hold(c, sizes, state, x, a);
+        return fields_hold(c, sizes, heads, state, h, a);
     }
     if kind == 2 {
-        return elements_hold(c, sizes, state, x, a);
+        return elements_hold(c, sizes, heads, state, h, a);
     }
-    if kind == 3 {
-        return reference_holds(state, code::type_p(c, x), a);
-    }
-    simple_holds(state, x, a)
+    words_hold(c, state, h, a, words_of(c, sizes, x))
 }
 
-fn fields_hold(c: &code::Slots, sizes: &[u16], state: &[u8], x: usize, a: usize) -> bool
+fn fields_hold(
+    c: &code::Slots,
+    sizes: &[u16],
+    heads: &[u16],
+    state: &[u8],
+    x: usize,
+    a: usize,
+) -> bool
     requires { ⌜ Ready (decoded (now c)) (now sizes) ⌝ }
+    requires { ⌜ Heads (decoded (now c)) (now heads) ⌝ }
     requires { ⌜ Lent 17664 (now state) ⌝ }
     requires { ⌜ RecordAt (decoded (now c)) (memoryOf (now state)) x a ⌝ }
     ensures { λ r. ⌜ r ≡ fieldsHold (decoded (now (c .entry))) (memoryOf (now (state .entry))) x a ⌝ }
@@ -158,7 +222,7 @@ fn fields_hold(c: &code::Slots, sizes: &[u16], state: &[u8], x: usize, a: usize)
         if x <= f {
             return false;
         }
-        if value_holds(c, sizes, state, f, at) {
+        if value_holds(c, sizes, heads, state, f, at) {
             at += words_of(c, sizes, f);
             i += 1;
         } else {
@@ -168,17 +232,21 @@ fn fields_hold(c: &code::Slots, sizes: &[u16], state: &[u8], x: usize, a: usize)
     true
 }
 
-// Every word is an integer, so an array of integers needs no pass.
-fn elements_hold(c: &code::Slots, sizes: &[u16], state: &[u8], x: usize, a: usize) -> bool
+fn elements_hold(
+    c: &code::Slots,
+    sizes: &[u16],
+    heads: &[u16],
+    state: &[u8],
+    x: usize,
+    a: usize,
+) -> bool
     requires { ⌜ Ready (decoded (now c)) (now sizes) ⌝ }
+    requires { ⌜ Heads (decoded (now c)) (now heads) ⌝ }
     requires { ⌜ Lent 17664 (now state) ⌝ }
     requires { ⌜ ArrayAt (decoded (now c)) (memoryOf (now state)) x a ⌝ }
     ensures { λ r. ⌜ r ≡ elementsHold (decoded (now (c .entry))) (memoryOf (now (state .entry))) x a ⌝ }
 {
     let q = code::type_q(c, x);
-    if q == 0 {
-        return true;
-    }
     let count = types::elements_of(c, x);
     let words = words_of(c, sizes, q);
     let mut at = a;
@@ -187,7 +255,7 @@ fn elements_hold(c: &code::Slots, sizes: &[u16], state: &[u8], x: usize, a: usiz
         if x <= q {
             return false;
         }
-        if value_holds(c, sizes, state, q, at) {
+        if value_holds(c, sizes, heads, state, q, at) {
             at += words;
             i += 1;
         } else {
@@ -375,22 +443,36 @@ fn location_at(p: usize, k: usize) -> usize
 fn variable_holds(
     c: &code::Slots,
     sizes: &[u16],
+    heads: &[u16],
     state: &[u8],
     p: usize,
     v: usize,
     at: usize,
 ) -> bool
     requires { ⌜ Ready (decoded (now c)) (now sizes) ⌝ }
+    requires { ⌜ Heads (decoded (now c)) (now heads) ⌝ }
     requires { ⌜ Lent 17664 (now state) ⌝ }
     requires { ⌜ (1 ≤ p) × ((p ≤ 64) × (at ≤ 14000000)) ⌝ }
     ensures { λ r. ⌜ r ≡ variableHolds (decoded (now (c .entry))) (memoryOf (now (state .entry))) p v at ⌝ }
 {
-    value_holds(c, sizes, state, code::var_type(c, v), location_at(p, at))
+    let x = code::var_type(c, v);
+    if heads::head_of(c, heads, x) == 0 {
+        return true;
+    }
+    value_holds(c, sizes, heads, state, x, location_at(p, at))
 }
 
 // The variables of block b, at the beginning of the area of process p, have values of their types.
-fn modules_hold(c: &code::Slots, sizes: &[u16], state: &[u8], p: usize, b: usize) -> bool
+fn modules_hold(
+    c: &code::Slots,
+    sizes: &[u16],
+    heads: &[u16],
+    state: &[u8],
+    p: usize,
+    b: usize,
+) -> bool
     requires { ⌜ Ready (decoded (now c)) (now sizes) ⌝ }
+    requires { ⌜ Heads (decoded (now c)) (now heads) ⌝ }
     requires { ⌜ Lent 17664 (now state) ⌝ }
     requires { ⌜ (1 ≤ p) × (p ≤ 64) ⌝ }
     ensures { λ r. ⌜ r ≡ modulesHold (decoded (now (c .entry))) (memoryOf (now (state .entry))) p b ⌝ }
@@ -400,7 +482,7 @@ fn modules_hold(c: &code::Slots, sizes: &[u16], state: &[u8], p: usize, b: usize
     let mut at = 0;
     let mut i = 0;
     while i < count {
-        if variable_holds(c, sizes, state, p, first + i, at) {
+        if variable_holds(c, sizes, heads, state, p, first + i, at) {
             at += var_words(c, sizes, first + i);
             i += 1;
         } else {
@@ -509,6 +591,7 @@ fn lives_at(
 fn frame_variable_holds(
     c: &code::Slots,
     sizes: &[u16],
+    heads: &[u16],
     state: &[u8],
     p: usize,
     d: usize,
@@ -517,6 +600,7 @@ fn frame_variable_holds(
     at: usize,
 ) -> bool
     requires { ⌜ Ready (decoded (now c)) (now sizes) ⌝ }
+    requires { ⌜ Heads (decoded (now c)) (now heads) ⌝ }
     requires { ⌜ Lent 17664 (now state) ⌝ }
     requires { ⌜ (1 ≤ p) × ((p ≤ 64) × ((f < 65536) × (at ≤ 13900000))) ⌝ }
     ensures { λ r. ⌜ r ≡ frameVariable (decoded (now (c .entry))) (memoryOf (now (state .entry))) p d f v at ⌝ }
@@ -534,13 +618,14 @@ fn frame_variable_holds(
             a,
         );
     }
-    variable_holds(c, sizes, state, p, v, f + 4 + at)
+    variable_holds(c, sizes, heads, state, p, v, f + 4 + at)
 }
 
 // The variables of a call of procedure q with its frame at f.
 fn frames_hold(
     c: &code::Slots,
     sizes: &[u16],
+    heads: &[u16],
     state: &[u8],
     p: usize,
     d: usize,
@@ -548,6 +633,7 @@ fn frames_hold(
     q: usize,
 ) -> bool
     requires { ⌜ Ready (decoded (now c)) (now sizes) ⌝ }
+    requires { ⌜ Heads (decoded (now c)) (now heads) ⌝ }
     requires { ⌜ Lent 17664 (now state) ⌝ }
     requires { ⌜ (1 ≤ p) × ((p ≤ 64) × (f < 65536)) ⌝ }
     ensures { λ r. ⌜ r ≡ framesHold (decoded (now (c .entry))) (memoryOf (now (state .entry))) p d f q ⌝ }
@@ -557,7 +643,7 @@ fn frames_hold(
     let mut at = 0;
     let mut i = 0;
     while i < count {
-        if frame_variable_holds(c, sizes, state, p, d, f, first + i, at) {
+        if frame_variable_holds(c, sizes, heads, state, p, d, f, first + i, at) {
             at += var_words(c, sizes, first + i);
             i += 1;
         } else {
@@ -726,6 +812,7 @@ fn frame_ok(
 fn call_ok(
     c: &code::Slots,
     sizes: &[u16],
+    heads: &[u16],
     state: &[u8],
     p: usize,
     d: usize,
@@ -735,6 +822,7 @@ fn call_ok(
     top: usize,
 ) -> bool
     requires { ⌜ Ready (decoded (now c)) (now sizes) ⌝ }
+    requires { ⌜ Heads (decoded (now c)) (now heads) ⌝ }
     requires { ⌜ Lent 17664 (now state) ⌝ }
     requires { ⌜ (1 ≤ p) × ((p ≤ 64) × (f < 65536)) ⌝ }
     ensures { λ r. ⌜ r ≡ callOk (decoded (now (c .entry))) (memoryOf (now (state .entry))) p d f w i top ⌝ }
@@ -742,7 +830,7 @@ fn call_ok(
     let q = area_word(state, p, f + 3);
     if frame_ok(c, sizes, state, f, w, i, top, q) {
         if calls_procedure(c, q, area_word(state, p, f + 1)) {
-            return frames_hold(c, sizes, state, p, d, f, q);
+            return frames_hold(c, sizes, heads, state, p, d, f, q);
         }
         return false;
     }
@@ -785,8 +873,9 @@ fn stands_alone(p: usize, f: usize, w: usize) -> bool
 }
 
 // The calls of process p that have not ended, the innermost first. A frame has at least 4 of the 256 words: there are no more than 64.
-fn chain_ok(c: &code::Slots, sizes: &[u16], state: &[u8], p: usize) -> bool
+fn chain_ok(c: &code::Slots, sizes: &[u16], heads: &[u16], state: &[u8], p: usize) -> bool
     requires { ⌜ Ready (decoded (now c)) (now sizes) ⌝ }
+    requires { ⌜ Heads (decoded (now c)) (now heads) ⌝ }
     requires { ⌜ Lent 17664 (now state) ⌝ }
     requires { ⌜ (1 ≤ p) × (p ≤ 64) ⌝ }
     ensures { λ r. ⌜ r ≡ startedOk (decoded (now (c .entry))) (memoryOf (now (state .entry))) p ⌝ }
@@ -800,7 +889,7 @@ fn chain_ok(c: &code::Slots, sizes: &[u16], state: &[u8], p: usize) -> bool
         return false;
     }
     while 0 < n {
-        if call_ok(c, sizes, state, p, n - 1, f, w, i, top) {
+        if call_ok(c, sizes, heads, state, p, n - 1, f, w, i, top) {
             top = f;
             i = area_word(state, p, f + 1);
             w = area_word(state, p, f + 2);
@@ -834,28 +923,30 @@ fn module_ok(c: &code::Slots, state: &[u8], p: usize) -> bool
 }
 
 // A started process has calls, and stands at a statement.
-fn running_ok(c: &code::Slots, sizes: &[u16], state: &[u8], p: usize) -> bool
+fn running_ok(c: &code::Slots, sizes: &[u16], heads: &[u16], state: &[u8], p: usize) -> bool
     requires { ⌜ Ready (decoded (now c)) (now sizes) ⌝ }
+    requires { ⌜ Heads (decoded (now c)) (now heads) ⌝ }
     requires { ⌜ Lent 17664 (now state) ⌝ }
     requires { ⌜ (1 ≤ p) × (p ≤ 64) ⌝ }
     ensures { λ r. ⌜ r ≡ runningOk (decoded (now (c .entry))) (memoryOf (now (state .entry))) p ⌝ }
 {
     if record_word(state, p, 0) == 2 {
-        return chain_ok(c, sizes, state, p);
+        return chain_ok(c, sizes, heads, state, p);
     }
     true
 }
 
-fn process_ok(c: &code::Slots, sizes: &[u16], state: &[u8], p: usize) -> bool
+fn process_ok(c: &code::Slots, sizes: &[u16], heads: &[u16], state: &[u8], p: usize) -> bool
     requires { ⌜ Ready (decoded (now c)) (now sizes) ⌝ }
+    requires { ⌜ Heads (decoded (now c)) (now heads) ⌝ }
     requires { ⌜ Lent 17664 (now state) ⌝ }
     requires { ⌜ (1 ≤ p) × (p ≤ 64) ⌝ }
     ensures { λ r. ⌜ r ≡ processOk (decoded (now (c .entry))) (memoryOf (now (state .entry))) p ⌝ }
 {
     if module_ok(c, state, p) {
         if record_word(state, p, 6) <= created(state) {
-            if modules_hold(c, sizes, state, p, record_word(state, p, 1)) {
-                return running_ok(c, sizes, state, p);
+            if modules_hold(c, sizes, heads, state, p, record_word(state, p, 1)) {
+                return running_ok(c, sizes, heads, state, p);
             }
             return false;
         }
@@ -876,8 +967,9 @@ fn failure_ok(state: &[u8]) -> bool
 }
 
 // Each created process.
-fn processes_hold(c: &code::Slots, sizes: &[u16], state: &[u8]) -> bool
+fn processes_hold(c: &code::Slots, sizes: &[u16], heads: &[u16], state: &[u8]) -> bool
     requires { ⌜ Ready (decoded (now c)) (now sizes) ⌝ }
+    requires { ⌜ Heads (decoded (now c)) (now heads) ⌝ }
     requires { ⌜ Lent 17664 (now state) ⌝ }
     requires { ⌜ memoryOf (now state) createdAt ≤ 64 ⌝ }
     ensures { λ r. ⌜ r ≡ processesHold (decoded (now (c .entry))) (memoryOf (now (state .entry))) ⌝ }
@@ -885,13 +977,26 @@ fn processes_hold(c: &code::Slots, sizes: &[u16], state: &[u8]) -> bool
     let processes = created(state);
     let mut i = 0;
     while i < processes {
-        if process_ok(c, sizes, state, i + 1) {
+        if process_ok(c, sizes, heads, state, i + 1) {
             i += 1;
         } else {
             return false;
         }
     }
     true
+}
+
+// So, where the heads of the types are not found yet.
+fn all_hold(c: &code::Slots, sizes: &[u16], state: &[u8]) -> bool
+    requires { ⌜ Ready (decoded (now c)) (now sizes) ⌝ }
+    requires { ⌜ Lent 17664 (now state) ⌝ }
+    requires { ⌜ memoryOf (now state) createdAt ≤ 64 ⌝ }
+    ensures { λ r. ⌜ r ≡ processesHold (decoded (now (c .entry))) (memoryOf (now (state .entry))) ⌝ }
+{
+    let mut heads = [0u16; 258];
+    let n = heads::known_types(c);
+    heads::find_heads(c, &mut heads[..], n);
+    processes_hold(c, sizes, &heads[..n], state)
 }
 
 // THE STATE RULE: the lent state is one that a run of the table can be in, as far as its words show.
@@ -904,7 +1009,7 @@ pub fn rule_holds(c: &code::Slots, sizes: &[u16], state: &[u8]) -> bool
     if 1 <= n {
         if n <= 64 {
             if failure_ok(state) {
-                return processes_hold(c, sizes, state);
+                return all_hold(c, sizes, state);
             }
             return false;
         }

@@ -17,5 +17,5 @@ frame-variable-holds-spec =
     (λ c. search (frame-bound, frame-value))
     (λ c. search needs)
     (λ c. search needs)
-    (λ c κs. (search needs, (search needs, (search needs, (search needs, search needs)))))
+    (λ c κs. (search needs, (search needs, (search needs, (search needs, (search needs, search needs))))))
     (λ c. search (frame-bound, frame-value)))
