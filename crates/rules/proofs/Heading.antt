@@ -121,10 +121,10 @@ module _ (T : Table) (τ : ℕ) where
 
 module _ (T : Table) (τ f : ℕ) (e : typeKind T τ ≡ 1) (l : f < τ) where
   module _ (hf : f ≡ fieldType T (typeP T τ)) (one : typeQ T τ ≡ 1) where
-    first-field : fieldType T (typeP T τ + 0) ≡ f
+    pub first-field : fieldType T (typeP T τ + 0) ≡ f
     first-field = rw (add-zero (typeP T τ)) (sym hf)
 
-    only-words : wordsOf T τ ≡ wordsOf T f
+    pub only-words : wordsOf T τ ≡ wordsOf T f
     only-words =
         let u : offsetIn T τ 1 ≡ offsetIn T τ 0 + partWords T τ (fieldType T (typeP T τ + 0)) = offset-more T τ 0 in
         let v : partWords T τ (fieldType T (typeP T τ + 0)) ≡ wordsOf T f = rw (first-field, part-lower T τ f l) in
@@ -167,7 +167,7 @@ module _ (T : Table) (τ η : ℕ) (e : typeKind T τ ≡ 1) (n : hasParts T η 
 -- ---- an array
 
 module _ (T : Table) (τ q : ℕ) (e : typeKind T τ ≡ 2) (l : q < τ) (hq : q ≡ typeQ T τ) where
-  array-size : wordsOf T τ ≡ elements T τ * wordsOf T q
+  pub array-size : wordsOf T τ ≡ elements T τ * wordsOf T q
   array-size = words-array T τ e ∙ rw (← hq, part-lower T τ q l)
 
   element-at : (m : Memory) (a i : ℕ) → elementHolds T m τ a i ≡ holds T m q (a + i * wordsOf T q)

@@ -1,5 +1,6 @@
 // The test of the state rule (01, Verdicts and other refusals): the words of a lent state against an accepted table.
 pub mod heads;
+pub mod jumps;
 
 ghost use mathlib.Core.Path.{_≡_};
 ghost use Prim.Native.Nat.{_+_, _*_, _/_, _%_, _≤_, _<_};
@@ -18,6 +19,7 @@ ghost use Rattle.machine.specs.Step.{inRange};
 ghost use Rattle.machine.specs.Values.{holds, part, partOfBlock};
 ghost use Rattle.machine.specs.Rule.{nextFirst, liesIn, calls, owns, lives, modulesHold, framesHold, frameOk, startedOk, moduleOk, processOk, rule};
 ghost use Rattle.rules.specs.Heads.{Heads, Tested, wordsHold, wordUpTo, wordRefers};
+ghost use Rattle.rules.specs.Jumps.{Jumps, Ends};
 ghost use Rattle.rules.specs.Frames.{variableHolds, livesInModule, ownedIn, frameVariable};
 ghost use Rattle.rules.specs.Chains.{Sum, createdOf, frameFits, calledOk, callOk, baseOk, runningOk, failureHolds, processesHold};
 ghost use Rattle.rules.specs.Walks.{Ready, Near, Words, simpleHolds, referenceHolds, fieldsHold, elementsHold, RecordAt, ArrayAt, fieldBegins, fieldsBegin, elementBegins, variableBegins};
@@ -305,26 +307,48 @@ fn part_words(c: &code::Slots, sizes: &[u16], x: usize, f: usize) -> usize
     0
 }
 
-// A part of type y begins at word k of a variable of type x.
-fn part_begins(c: &code::Slots, sizes: &[u16], x: usize, y: usize, k: usize) -> bool
+// The last type not below y, down the chain of only parts of x, where word k is one of a variable of type x.
+fn chain_end(c: &code::Slots, sizes: &[u16], jumps: &[u16], x: usize, y: usize, k: usize) -> usize
     requires { ⌜ Ready (decoded (now c)) (now sizes) ⌝ }
+    requires { ⌜ Jumps (decoded (now c)) (now jumps) ⌝ }
+    ensures { λ r. ⌜ Ends (decoded (now (c .entry))) y x k r ⌝ }
+{
+    if k < words_of(c, sizes, x) {
+        return jumps::lowest(c, jumps, x, y);
+    }
+    x
+}
+
+// A part of type y begins at word k of a variable of type x.
+fn part_begins(c: &code::Slots, sizes: &[u16], jumps: &[u16], x: usize, y: usize, k: usize) -> bool
+    requires { ⌜ Ready (decoded (now c)) (now sizes) ⌝ }
+    requires { ⌜ Jumps (decoded (now c)) (now jumps) ⌝ }
     ensures { λ r. ⌜ r ≡ part (decoded (now (c .entry))) y x k ⌝ }
 {
-    if begins_whole(x, y, k) {
+    let z = chain_end(c, sizes, jumps, x, y, k);
+    if begins_whole(z, y, k) {
         return true;
     }
-    let kind = code::type_kind(c, x);
+    let kind = code::type_kind(c, z);
     if kind == 1 {
-        return part_of_fields(c, sizes, x, y, k);
+        return part_of_fields(c, sizes, jumps, z, y, k);
     }
     if kind == 2 {
-        return part_of_element(c, sizes, x, y, k);
+        return part_of_element(c, sizes, jumps, z, y, k);
     }
     false
 }
 
-fn part_of_fields(c: &code::Slots, sizes: &[u16], x: usize, y: usize, k: usize) -> bool
+fn part_of_fields(
+    c: &code::Slots,
+    sizes: &[u16],
+    jumps: &[u16],
+    x: usize,
+    y: usize,
+    k: usize,
+) -> bool
     requires { ⌜ Ready (decoded (now c)) (now sizes) ⌝ }
+    requires { ⌜ Jumps (decoded (now c)) (now jumps) ⌝ }
     ensures { λ r. ⌜ r ≡ fieldsBegin (decoded (now (c .entry))) y x k ⌝ }
 {
     let first = code::type_p(c, x);
@@ -333,7 +357,7 @@ fn part_of_fields(c: &code::Slots, sizes: &[u16], x: usize, y: usize, k: usize) 
     let mut i = 0;
     while i < count {
         let f = code::field_type(c, first + i);
-        if part_of_field(c, sizes, x, y, k, f, at) {
+        if part_of_field(c, sizes, jumps, x, y, k, f, at) {
             return true;
         }
         at += part_words(c, sizes, x, f);
@@ -346,6 +370,7 @@ fn part_of_fields(c: &code::Slots, sizes: &[u16], x: usize, y: usize, k: usize) 
 fn part_of_field(
     c: &code::Slots,
     sizes: &[u16],
+    jumps: &[u16],
     x: usize,
     y: usize,
     k: usize,
@@ -353,13 +378,14 @@ fn part_of_field(
     at: usize,
 ) -> bool
     requires { ⌜ Ready (decoded (now c)) (now sizes) ⌝ }
+    requires { ⌜ Jumps (decoded (now c)) (now jumps) ⌝ }
     requires { ⌜ at ≤ 14000000 ⌝ }
     ensures { λ r. ⌜ r ≡ fieldBegins (decoded (now (c .entry))) y x k f at ⌝ }
 {
     if f < x {
         if at <= k {
             if k < at + words_of(c, sizes, f) {
-                return part_begins(c, sizes, f, y, k - at);
+                return part_begins(c, sizes, jumps, f, y, k - at);
             }
             return false;
         }
@@ -368,15 +394,23 @@ fn part_of_field(
     false
 }
 
-fn part_of_element(c: &code::Slots, sizes: &[u16], x: usize, y: usize, k: usize) -> bool
+fn part_of_element(
+    c: &code::Slots,
+    sizes: &[u16],
+    jumps: &[u16],
+    x: usize,
+    y: usize,
+    k: usize,
+) -> bool
     requires { ⌜ Ready (decoded (now c)) (now sizes) ⌝ }
+    requires { ⌜ Jumps (decoded (now c)) (now jumps) ⌝ }
     ensures { λ r. ⌜ r ≡ elementBegins (decoded (now (c .entry))) y x k ⌝ }
 {
     let q = code::type_q(c, x);
     if q < x {
         let words = words_of(c, sizes, q);
         if quotient(k, words) < types::elements_of(c, x) {
-            return part_begins(c, sizes, q, y, remainder(k, words));
+            return part_begins(c, sizes, jumps, q, y, remainder(k, words));
         }
         return false;
     }
@@ -395,8 +429,17 @@ fn var_words(c: &code::Slots, sizes: &[u16], v: usize) -> usize
 }
 
 // A part of type y begins at word k, in the variable v that begins at word `at`, no var parameter.
-fn part_of_variable(c: &code::Slots, sizes: &[u16], y: usize, k: usize, v: usize, at: usize) -> bool
+fn part_of_variable(
+    c: &code::Slots,
+    sizes: &[u16],
+    jumps: &[u16],
+    y: usize,
+    k: usize,
+    v: usize,
+    at: usize,
+) -> bool
     requires { ⌜ Ready (decoded (now c)) (now sizes) ⌝ }
+    requires { ⌜ Jumps (decoded (now c)) (now jumps) ⌝ }
     requires { ⌜ at ≤ 14000000 ⌝ }
     ensures { λ r. ⌜ r ≡ variableBegins (decoded (now (c .entry))) y k v at ⌝ }
 {
@@ -405,7 +448,7 @@ fn part_of_variable(c: &code::Slots, sizes: &[u16], y: usize, k: usize, v: usize
             if code::var_mode(c, v) == 2 {
                 return false;
             }
-            return part_begins(c, sizes, code::var_type(c, v), y, k - at);
+            return part_begins(c, sizes, jumps, code::var_type(c, v), y, k - at);
         }
         return false;
     }
@@ -413,8 +456,16 @@ fn part_of_variable(c: &code::Slots, sizes: &[u16], y: usize, k: usize, v: usize
 }
 
 // A part of type y begins at word k of the variables of block b.
-fn part_of_block(c: &code::Slots, sizes: &[u16], b: usize, y: usize, k: usize) -> bool
+fn part_of_block(
+    c: &code::Slots,
+    sizes: &[u16],
+    jumps: &[u16],
+    b: usize,
+    y: usize,
+    k: usize,
+) -> bool
     requires { ⌜ Ready (decoded (now c)) (now sizes) ⌝ }
+    requires { ⌜ Jumps (decoded (now c)) (now jumps) ⌝ }
     ensures { λ r. ⌜ r ≡ partOfBlock (decoded (now (c .entry))) b y k ⌝ }
 {
     let first = code::first_var(c, b);
@@ -422,7 +473,7 @@ fn part_of_block(c: &code::Slots, sizes: &[u16], b: usize, y: usize, k: usize) -
     let mut at = 0;
     let mut i = 0;
     while i < count {
-        if part_of_variable(c, sizes, y, k, first + i, at) {
+        if part_of_variable(c, sizes, jumps, y, k, first + i, at) {
             return true;
         }
         at += var_words(c, sizes, first + i);
@@ -500,15 +551,23 @@ fn is_created(state: &[u8], p: usize) -> bool
 }
 
 // At location a, in the area of a created process, stands one of its module's variables of type y, or such a part of one.
-fn lives_in_module(c: &code::Slots, sizes: &[u16], state: &[u8], y: usize, a: usize) -> bool
+fn lives_in_module(
+    c: &code::Slots,
+    sizes: &[u16],
+    jumps: &[u16],
+    state: &[u8],
+    y: usize,
+    a: usize,
+) -> bool
     requires { ⌜ Ready (decoded (now c)) (now sizes) ⌝ }
+    requires { ⌜ Jumps (decoded (now c)) (now jumps) ⌝ }
     requires { ⌜ Lent 17664 (now state) ⌝ }
     requires { ⌜ a < 65536 ⌝ }
     ensures { λ r. ⌜ r ≡ livesInModule (decoded (now (c .entry))) (memoryOf (now (state .entry))) y a ⌝ }
 {
     let r = a / 256 + 1;
     if is_created(state, r) {
-        return part_of_block(c, sizes, record_word(state, r, 1), y, a % 256);
+        return part_of_block(c, sizes, jumps, record_word(state, r, 1), y, a % 256);
     }
     false
 }
@@ -517,6 +576,7 @@ fn lives_in_module(c: &code::Slots, sizes: &[u16], state: &[u8], y: usize, a: us
 fn owned(
     c: &code::Slots,
     sizes: &[u16],
+    jumps: &[u16],
     state: &[u8],
     p: usize,
     f: usize,
@@ -524,12 +584,13 @@ fn owned(
     k: usize,
 ) -> bool
     requires { ⌜ Ready (decoded (now c)) (now sizes) ⌝ }
+    requires { ⌜ Jumps (decoded (now c)) (now jumps) ⌝ }
     requires { ⌜ Lent 17664 (now state) ⌝ }
     requires { ⌜ (1 ≤ p) × ((p ≤ 64) × (f < 65536)) ⌝ }
     ensures { λ r. ⌜ r ≡ ownedIn (decoded (now (c .entry))) (memoryOf (now (state .entry))) p f y k ⌝ }
 {
     if f + 4 <= k {
-        return part_of_block(c, sizes, area_word(state, p, f + 3), y, k - (f + 4));
+        return part_of_block(c, sizes, jumps, area_word(state, p, f + 3), y, k - (f + 4));
     }
     false
 }
@@ -538,6 +599,7 @@ fn owned(
 fn owns_word(
     c: &code::Slots,
     sizes: &[u16],
+    jumps: &[u16],
     state: &[u8],
     p: usize,
     d: usize,
@@ -546,6 +608,7 @@ fn owns_word(
     k: usize,
 ) -> bool
     requires { ⌜ Ready (decoded (now c)) (now sizes) ⌝ }
+    requires { ⌜ Jumps (decoded (now c)) (now jumps) ⌝ }
     requires { ⌜ Lent 17664 (now state) ⌝ }
     requires { ⌜ (1 ≤ p) × ((p ≤ 64) × (f < 65536)) ⌝ }
     ensures { λ r. ⌜ r ≡ owns (decoded (now (c .entry))) (memoryOf (now (state .entry))) p d f y k ⌝ }
@@ -553,7 +616,7 @@ fn owns_word(
     let mut n = d;
     let mut g = f;
     while 0 < n {
-        if owned(c, sizes, state, p, g, y, k) {
+        if owned(c, sizes, jumps, state, p, g, y, k) {
             return true;
         }
         g = area_word(state, p, g);
@@ -566,6 +629,7 @@ fn owns_word(
 fn lives_at(
     c: &code::Slots,
     sizes: &[u16],
+    jumps: &[u16],
     state: &[u8],
     p: usize,
     d: usize,
@@ -574,15 +638,16 @@ fn lives_at(
     a: usize,
 ) -> bool
     requires { ⌜ Ready (decoded (now c)) (now sizes) ⌝ }
+    requires { ⌜ Jumps (decoded (now c)) (now jumps) ⌝ }
     requires { ⌜ Lent 17664 (now state) ⌝ }
     requires { ⌜ (1 ≤ p) × ((p ≤ 64) × ((f < 65536) × (a < 65536))) ⌝ }
     ensures { λ r. ⌜ r ≡ lives (decoded (now (c .entry))) (memoryOf (now (state .entry))) p d f y a ⌝ }
 {
-    if lives_in_module(c, sizes, state, y, a) {
+    if lives_in_module(c, sizes, jumps, state, y, a) {
         return true;
     }
     if a / 256 + 1 == p {
-        return owns_word(c, sizes, state, p, d, f, y, a % 256);
+        return owns_word(c, sizes, jumps, state, p, d, f, y, a % 256);
     }
     false
 }
@@ -592,6 +657,7 @@ fn frame_variable_holds(
     c: &code::Slots,
     sizes: &[u16],
     heads: &[u16],
+    jumps: &[u16],
     state: &[u8],
     p: usize,
     d: usize,
@@ -601,6 +667,7 @@ fn frame_variable_holds(
 ) -> bool
     requires { ⌜ Ready (decoded (now c)) (now sizes) ⌝ }
     requires { ⌜ Heads (decoded (now c)) (now heads) ⌝ }
+    requires { ⌜ Jumps (decoded (now c)) (now jumps) ⌝ }
     requires { ⌜ Lent 17664 (now state) ⌝ }
     requires { ⌜ (1 ≤ p) × ((p ≤ 64) × ((f < 65536) × (at ≤ 13900000))) ⌝ }
     ensures { λ r. ⌜ r ≡ frameVariable (decoded (now (c .entry))) (memoryOf (now (state .entry))) p d f v at ⌝ }
@@ -610,6 +677,7 @@ fn frame_variable_holds(
         return lives_at(
             c,
             sizes,
+            jumps,
             state,
             p,
             d,
@@ -626,6 +694,7 @@ fn frames_hold(
     c: &code::Slots,
     sizes: &[u16],
     heads: &[u16],
+    jumps: &[u16],
     state: &[u8],
     p: usize,
     d: usize,
@@ -634,6 +703,7 @@ fn frames_hold(
 ) -> bool
     requires { ⌜ Ready (decoded (now c)) (now sizes) ⌝ }
     requires { ⌜ Heads (decoded (now c)) (now heads) ⌝ }
+    requires { ⌜ Jumps (decoded (now c)) (now jumps) ⌝ }
     requires { ⌜ Lent 17664 (now state) ⌝ }
     requires { ⌜ (1 ≤ p) × ((p ≤ 64) × (f < 65536)) ⌝ }
     ensures { λ r. ⌜ r ≡ framesHold (decoded (now (c .entry))) (memoryOf (now (state .entry))) p d f q ⌝ }
@@ -643,7 +713,7 @@ fn frames_hold(
     let mut at = 0;
     let mut i = 0;
     while i < count {
-        if frame_variable_holds(c, sizes, heads, state, p, d, f, first + i, at) {
+        if frame_variable_holds(c, sizes, heads, jumps, state, p, d, f, first + i, at) {
             at += var_words(c, sizes, first + i);
             i += 1;
         } else {
@@ -813,6 +883,7 @@ fn call_ok(
     c: &code::Slots,
     sizes: &[u16],
     heads: &[u16],
+    jumps: &[u16],
     state: &[u8],
     p: usize,
     d: usize,
@@ -823,6 +894,7 @@ fn call_ok(
 ) -> bool
     requires { ⌜ Ready (decoded (now c)) (now sizes) ⌝ }
     requires { ⌜ Heads (decoded (now c)) (now heads) ⌝ }
+    requires { ⌜ Jumps (decoded (now c)) (now jumps) ⌝ }
     requires { ⌜ Lent 17664 (now state) ⌝ }
     requires { ⌜ (1 ≤ p) × ((p ≤ 64) × (f < 65536)) ⌝ }
     ensures { λ r. ⌜ r ≡ callOk (decoded (now (c .entry))) (memoryOf (now (state .entry))) p d f w i top ⌝ }
@@ -830,7 +902,7 @@ fn call_ok(
     let q = area_word(state, p, f + 3);
     if frame_ok(c, sizes, state, f, w, i, top, q) {
         if calls_procedure(c, q, area_word(state, p, f + 1)) {
-            return frames_hold(c, sizes, heads, state, p, d, f, q);
+            return frames_hold(c, sizes, heads, jumps, state, p, d, f, q);
         }
         return false;
     }
@@ -873,9 +945,17 @@ fn stands_alone(p: usize, f: usize, w: usize) -> bool
 }
 
 // The calls of process p that have not ended, the innermost first. A frame has at least 4 of the 256 words: there are no more than 64.
-fn chain_ok(c: &code::Slots, sizes: &[u16], heads: &[u16], state: &[u8], p: usize) -> bool
+fn chain_ok(
+    c: &code::Slots,
+    sizes: &[u16],
+    heads: &[u16],
+    jumps: &[u16],
+    state: &[u8],
+    p: usize,
+) -> bool
     requires { ⌜ Ready (decoded (now c)) (now sizes) ⌝ }
     requires { ⌜ Heads (decoded (now c)) (now heads) ⌝ }
+    requires { ⌜ Jumps (decoded (now c)) (now jumps) ⌝ }
     requires { ⌜ Lent 17664 (now state) ⌝ }
     requires { ⌜ (1 ≤ p) × (p ≤ 64) ⌝ }
     ensures { λ r. ⌜ r ≡ startedOk (decoded (now (c .entry))) (memoryOf (now (state .entry))) p ⌝ }
@@ -889,7 +969,7 @@ fn chain_ok(c: &code::Slots, sizes: &[u16], heads: &[u16], state: &[u8], p: usiz
         return false;
     }
     while 0 < n {
-        if call_ok(c, sizes, heads, state, p, n - 1, f, w, i, top) {
+        if call_ok(c, sizes, heads, jumps, state, p, n - 1, f, w, i, top) {
             top = f;
             i = area_word(state, p, f + 1);
             w = area_word(state, p, f + 2);
@@ -923,22 +1003,38 @@ fn module_ok(c: &code::Slots, state: &[u8], p: usize) -> bool
 }
 
 // A started process has calls, and stands at a statement.
-fn running_ok(c: &code::Slots, sizes: &[u16], heads: &[u16], state: &[u8], p: usize) -> bool
+fn running_ok(
+    c: &code::Slots,
+    sizes: &[u16],
+    heads: &[u16],
+    jumps: &[u16],
+    state: &[u8],
+    p: usize,
+) -> bool
     requires { ⌜ Ready (decoded (now c)) (now sizes) ⌝ }
     requires { ⌜ Heads (decoded (now c)) (now heads) ⌝ }
+    requires { ⌜ Jumps (decoded (now c)) (now jumps) ⌝ }
     requires { ⌜ Lent 17664 (now state) ⌝ }
     requires { ⌜ (1 ≤ p) × (p ≤ 64) ⌝ }
     ensures { λ r. ⌜ r ≡ runningOk (decoded (now (c .entry))) (memoryOf (now (state .entry))) p ⌝ }
 {
     if record_word(state, p, 0) == 2 {
-        return chain_ok(c, sizes, heads, state, p);
+        return chain_ok(c, sizes, heads, jumps, state, p);
     }
     true
 }
 
-fn process_ok(c: &code::Slots, sizes: &[u16], heads: &[u16], state: &[u8], p: usize) -> bool
+fn process_ok(
+    c: &code::Slots,
+    sizes: &[u16],
+    heads: &[u16],
+    jumps: &[u16],
+    state: &[u8],
+    p: usize,
+) -> bool
     requires { ⌜ Ready (decoded (now c)) (now sizes) ⌝ }
     requires { ⌜ Heads (decoded (now c)) (now heads) ⌝ }
+    requires { ⌜ Jumps (decoded (now c)) (now jumps) ⌝ }
     requires { ⌜ Lent 17664 (now state) ⌝ }
     requires { ⌜ (1 ≤ p) × (p ≤ 64) ⌝ }
     ensures { λ r. ⌜ r ≡ processOk (decoded (now (c .entry))) (memoryOf (now (state .entry))) p ⌝ }
@@ -946,7 +1042,7 @@ fn process_ok(c: &code::Slots, sizes: &[u16], heads: &[u16], state: &[u8], p: us
     if module_ok(c, state, p) {
         if record_word(state, p, 6) <= created(state) {
             if modules_hold(c, sizes, heads, state, p, record_word(state, p, 1)) {
-                return running_ok(c, sizes, heads, state, p);
+                return running_ok(c, sizes, heads, jumps, state, p);
             }
             return false;
         }
@@ -967,9 +1063,16 @@ fn failure_ok(state: &[u8]) -> bool
 }
 
 // Each created process.
-fn processes_hold(c: &code::Slots, sizes: &[u16], heads: &[u16], state: &[u8]) -> bool
+fn processes_hold(
+    c: &code::Slots,
+    sizes: &[u16],
+    heads: &[u16],
+    jumps: &[u16],
+    state: &[u8],
+) -> bool
     requires { ⌜ Ready (decoded (now c)) (now sizes) ⌝ }
     requires { ⌜ Heads (decoded (now c)) (now heads) ⌝ }
+    requires { ⌜ Jumps (decoded (now c)) (now jumps) ⌝ }
     requires { ⌜ Lent 17664 (now state) ⌝ }
     requires { ⌜ memoryOf (now state) createdAt ≤ 64 ⌝ }
     ensures { λ r. ⌜ r ≡ processesHold (decoded (now (c .entry))) (memoryOf (now (state .entry))) ⌝ }
@@ -977,7 +1080,7 @@ fn processes_hold(c: &code::Slots, sizes: &[u16], heads: &[u16], state: &[u8]) -
     let processes = created(state);
     let mut i = 0;
     while i < processes {
-        if process_ok(c, sizes, heads, state, i + 1) {
+        if process_ok(c, sizes, heads, jumps, state, i + 1) {
             i += 1;
         } else {
             return false;
@@ -986,17 +1089,71 @@ fn processes_hold(c: &code::Slots, sizes: &[u16], heads: &[u16], state: &[u8]) -
     true
 }
 
-// So, where the heads of the types are not found yet.
+// The words in use, as the control records have it.
+fn words_in_use(state: &[u8]) -> usize
+    requires { ⌜ Lent 17664 (now state) ⌝ }
+    requires { ⌜ memoryOf (now state) createdAt ≤ 64 ⌝ }
+{
+    let processes = created(state);
+    let mut sum = 0;
+    let mut i = 0;
+    while i < processes {
+        sum += record_word(state, i + 1, 4);
+        i += 1;
+    }
+    sum
+}
+
+// So, in a table of few types: their heads are found, and their chains are short.
+fn few_hold(c: &code::Slots, sizes: &[u16], state: &[u8], n: usize) -> bool
+    requires { ⌜ Ready (decoded (now c)) (now sizes) ⌝ }
+    requires { ⌜ Lent 17664 (now state) ⌝ }
+    requires { ⌜ (memoryOf (now state) createdAt ≤ 64) × ((3 ≤ n) × (n ≤ 16)) ⌝ }
+    ensures { λ r. ⌜ r ≡ processesHold (decoded (now (c .entry))) (memoryOf (now (state .entry))) ⌝ }
+{
+    let mut heads = [0u16; 16];
+    heads::find_heads(c, &mut heads[..], n);
+    let jumps = [0u16; 1];
+    processes_hold(c, sizes, &heads[..n], &jumps[..0], state)
+}
+
+// So, where heads and jumps are found for the types below n.
+fn many_hold(c: &code::Slots, sizes: &[u16], state: &[u8], n: usize) -> bool
+    requires { ⌜ Ready (decoded (now c)) (now sizes) ⌝ }
+    requires { ⌜ Lent 17664 (now state) ⌝ }
+    requires { ⌜ (memoryOf (now state) createdAt ≤ 64) × ((3 ≤ n) × (n ≤ 258)) ⌝ }
+    ensures { λ r. ⌜ r ≡ processesHold (decoded (now (c .entry))) (memoryOf (now (state .entry))) ⌝ }
+{
+    let mut heads = [0u16; 258];
+    heads::find_heads(c, &mut heads[..], n);
+    let mut jumps = [0u16; 258];
+    jumps::find_jumps(c, &mut jumps[..], n);
+    processes_hold(c, sizes, &heads[..n], &jumps[..n], state)
+}
+
+// How many types are worth finding: all, but for less words in use than types only the standard ones.
+fn worth_finding(state: &[u8], n: usize) -> usize
+    requires { ⌜ Lent 17664 (now state) ⌝ }
+    requires { ⌜ (memoryOf (now state) createdAt ≤ 64) × ((3 ≤ n) × (n ≤ 258)) ⌝ }
+    ensures { λ r. ⌜ (3 ≤ r) × (r ≤ 258) ⌝ }
+{
+    if n <= words_in_use(state) {
+        return n;
+    }
+    3
+}
+
 fn all_hold(c: &code::Slots, sizes: &[u16], state: &[u8]) -> bool
     requires { ⌜ Ready (decoded (now c)) (now sizes) ⌝ }
     requires { ⌜ Lent 17664 (now state) ⌝ }
     requires { ⌜ memoryOf (now state) createdAt ≤ 64 ⌝ }
     ensures { λ r. ⌜ r ≡ processesHold (decoded (now (c .entry))) (memoryOf (now (state .entry))) ⌝ }
 {
-    let mut heads = [0u16; 258];
     let n = heads::known_types(c);
-    heads::find_heads(c, &mut heads[..], n);
-    processes_hold(c, sizes, &heads[..n], state)
+    if n <= 16 {
+        return few_hold(c, sizes, state, n);
+    }
+    many_hold(c, sizes, state, worth_finding(state, n))
 }
 
 // THE STATE RULE: the lent state is one that a run of the table can be in, as far as its words show.

@@ -13,7 +13,7 @@ frame-variable-holds-spec =
     (λ c κs. search needs)
     (λ c κs. search needs)
     (λ c κs. search needs)
-    (λ c κs. (search needs, (search needs, (search needs, (search needs, (search needs, search needs))))))
+    (λ c κs. (search needs, (search needs, (search needs, (search needs, (search needs, (search needs, search needs)))))))
     (λ c. search (frame-bound, frame-value))
     (λ c. search needs)
     (λ c. search needs)
