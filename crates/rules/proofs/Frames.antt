@@ -18,8 +18,10 @@ use Rattle.machine.specs.Values.{holds, partOfBlock}
 use Rattle.machine.specs.Step.{inRange}
 use Rattle.machine.specs.Rule.{isCreated, owns, lives, moduleHolds, modulesHold, frameHolds, framesHold}
 use Rattle.rules.specs.Walks.{Ready, Near, Words, Walked}
+use Rattle.rules.specs.Heads.{Head}
 use Rattle.rules.specs.Frames.{variableHolds, moduleRow, livesInModule, ownedIn, frameVariable, frameRow}
 use Rattle.rules.proofs.Values.{all-same}
+use Rattle.rules.proofs.Heading.{v-free}
 use Rattle.rules.proofs.Parts.{first-none, first-more, offset-first}
 
 pub near-any : (T : Table) (l : List ℕ) (x a : ℕ) → Ready T l → a ≤ 15000000 → Near T x a
@@ -28,6 +30,10 @@ near-any T l x a h g = let u = any-small T l (h .sizes) (h .sized) x in record {
 pub variable-is : (T : Table) (m : Memory) (p v a x l : ℕ) (r : Bool) → x ≡ varType T v → l ≡ location p a → r ≡ holds T m x l → r ≡ variableHolds T m p v a
 unfolding variableHolds
 variable-is T m p v a x l r e g h = rw (← e, ← g) h
+
+pub variable-free : (T : Table) (m : Memory) (p v a x h : ℕ) → x ≡ varType T v → Head T x h → h ≡ 0 → true ≡ variableHolds T m p v a
+unfolding variableHolds
+variable-free T m p v a x h e d z = rw (← e) (v-free T m x h (location p a) d z)
 
 -- ---- passes over the variables of a block
 

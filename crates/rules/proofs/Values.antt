@@ -105,27 +105,6 @@ module _ (T : Table) (m : Memory) (τ a : ℕ) where
       ∙ ap (λ (x : TypeEntry). typeHolds T m τ (below nowhere τ (holds T m)) x a) (type-simple T τ x y z)
       ∙ simple-picks
 
-  -- the returns by kind
-  module _ (kind : ℕ) (hk : kind ≡ typeKind T τ) (r : Bool) where
-    pub v-record : kind ≡ 1 → r ≡ fieldsHold T m τ a → r ≡ holds T m τ a
-    v-record e h = h ∙ sym (holds-record (sym hk ∙ e))
-
-    pub v-array : kind ≡ 2 → r ≡ elementsHold T m τ a → r ≡ holds T m τ a
-    v-array e h = h ∙ sym (holds-array (sym hk ∙ e))
-
-    pub v-process : (p : ℕ) → kind ≡ 3 → p ≡ typeP T τ → r ≡ referenceHolds m p a → r ≡ holds T m τ a
-    v-process p e g h = rw (holds-process (sym hk ∙ e), ← g) h
-
-    pub v-simple : (kind ≡ 1 → ⊥) → (kind ≡ 2 → ⊥) → (kind ≡ 3 → ⊥) → r ≡ simpleHolds m τ a → r ≡ holds T m τ a
-    v-simple x y z h = h ∙ sym (holds-simple (λ e. x (hk ∙ e)) (λ e. y (hk ∙ e)) (λ e. z (hk ∙ e)))
-
-  module _ (kind : ℕ) (hk : kind ≡ typeKind T τ) (n : Near T τ a) where
-    pub record-at : kind ≡ 1 → RecordAt T m τ a
-    record-at e = record { kind = sym hk ∙ e; near = n }
-
-    pub array-at : kind ≡ 2 → ArrayAt T m τ a
-    array-at e = record { kind = sym hk ∙ e; near = n }
-
   -- the fields one after the other
   pub fields-none : FieldsTo T m τ a 0 a
   fields-none = record { is = rw (offset-none T τ) (sym (add-zero a)); passed = passed-none (fieldHolds T m τ a) }
@@ -207,8 +186,8 @@ module _ (T : Table) (m : Memory) (τ a : ℕ) where
   unfolding elementsHold
   elements-all i k n h e l g = passed-all (elementHolds T m τ a) i (elements T τ) (h .passed) (rw e at l) (rw e at g)
 
--- an array of integers: a word holds one whatever it is
-all-true : (n : ℕ) (f : ℕ → Bool) → ((i : ℕ) → f i ≡ true) → true ≡ allBelow n f
+-- a word holds an integer whatever it is
+pub all-true : (n : ℕ) (f : ℕ → Bool) → ((i : ℕ) → f i ≡ true) → true ≡ allBelow n f
 unfolding allBelow both
 all-true zero f h = refl
 all-true (suc n) f h = rw (h n) (all-true n f h)
@@ -217,18 +196,9 @@ pub integer-holds : (T : Table) (m : Memory) (a : ℕ) → holds T m 0 a ≡ tru
 unfolding simpleHolds declared
 integer-holds T m a = holds-simple T m 0 a (λ e. absurd (omega arith)) (λ e. absurd (omega arith)) (λ e. absurd (omega arith))
 
-pub elements-integers : (T : Table) (m : Memory) (τ a q : ℕ) → ArrayAt T m τ a → q ≡ typeQ T τ → q ≡ 0 → true ≡ elementsHold T m τ a
-unfolding elementsHold elementHolds partHolds
-elements-integers T m τ a q x e z =
-    let l = no-standard T τ (let k = x .kind in omega arith) in
-    all-true (elements T τ) (elementHolds T m τ a) (λ i.
-    rw (← e, z, lt-ltb 0 τ (omega arith)) (integer-holds T m (a + i * wordsOf T 0)))
-
 -- the next part's location is a number
 pub walk-fits : (T : Table) (τ a w : ℕ) → Near T τ a → w ≡ wordsOf T τ → Fits w64 (a + w)
 walk-fits T τ a w n e = let u = n .near in record { fits = omega arith }
-
-pub ruleset values = (v-record, v-array, v-process, v-simple, record-at, array-at)
 
 pub ruleset fieldwalks = (fields-none, field-near, fields-more, fields-out, fields-fail, fields-all)
 

@@ -1,3 +1,5 @@
 pub mod Walks
+pub mod Heads
+pub mod Jumps
 pub mod Frames
 pub mod Chains

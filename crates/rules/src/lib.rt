@@ -1,8 +1,11 @@
 // The test of the state rule (01, Verdicts and other refusals): the words of a lent state against an accepted table.
+pub mod heads;
+pub mod jumps;
+
 ghost use mathlib.Core.Path.{_≡_};
 ghost use Prim.Native.Nat.{_+_, _*_, _/_, _%_, _≤_, _<_};
-ghost use lib.Dec.{eqb};
-ghost use Rattle.basics.specs.Choice.{both};
+ghost use lib.Dec.{eqb, leb};
+ghost use Rattle.basics.specs.Choice.{both, allBelow};
 ghost use Rattle.code.specs.Code.{decoded};
 ghost use Rattle.table.specs.Reading.{Field};
 ghost use Rattle.sizes.specs.Sizes.{wordsOf, partWords, moduleWords};
@@ -15,6 +18,8 @@ ghost use Rattle.machine.specs.Variables.{varWords, frameWords, isModule, isPro
 ghost use Rattle.machine.specs.Step.{inRange};
 ghost use Rattle.machine.specs.Values.{holds, part, partOfBlock};
 ghost use Rattle.machine.specs.Rule.{nextFirst, liesIn, calls, owns, lives, modulesHold, framesHold, frameOk, startedOk, moduleOk, processOk, rule};
+ghost use Rattle.rules.specs.Heads.{Heads, Tested, wordsHold, wordUpTo, wordRefers};
+ghost use Rattle.rules.specs.Jumps.{Jumps, Ends};
 ghost use Rattle.rules.specs.Frames.{variableHolds, livesInModule, ownedIn, frameVariable};
 ghost use Rattle.rules.specs.Chains.{Sum, createdOf, frameFits, calledOk, callOk, baseOk, runningOk, failureHolds, processesHold};
 ghost use Rattle.rules.specs.Walks.{Ready, Near, Words, simpleHolds, referenceHolds, fieldsHold, elementsHold, RecordAt, ArrayAt, fieldBegins, fieldsBegin, elementBegins, variableBegins};
@@ -94,21 +99,29 @@ fn words_of(c: &code::Slots, sizes: &[u16], x: usize) -> usize
     sizes::size_of(c, sizes, x)
 }
 
-// A value of a standard type stands at location a.
-fn simple_holds(state: &[u8], x: usize, a: usize) -> bool
+// The word at location a is at most `most`.
+fn word_up_to(state: &[u8], a: usize, most: usize) -> bool
     requires { ⌜ Lent 17664 (now state) ⌝ }
-    ensures { λ r. ⌜ r ≡ simpleHolds (memoryOf (now (state .entry))) x a ⌝ }
+    ensures { λ r. ⌜ r ≡ leb (memoryOf (now (state .entry)) a) most ⌝ }
 {
-    if x == 0 {
-        return true;
+    word_or_zero(state, a) <= most
+}
+
+// Each of the n words from location a on is.
+fn words_up_to(state: &[u8], a: usize, n: usize, most: usize) -> bool
+    requires { ⌜ Lent 17664 (now state) ⌝ }
+    requires { ⌜ (a ≤ 20000000) × (n ≤ 200) ⌝ }
+    ensures { λ r. ⌜ r ≡ allBelow n (wordUpTo (memoryOf (now (state .entry))) most a) ⌝ }
+{
+    let mut i = 0;
+    while i < n {
+        if word_up_to(state, a + i, most) {
+            i += 1;
+        } else {
+            return false;
+        }
     }
-    if x == 1 {
-        return word_or_zero(state, a) <= 1;
-    }
-    if x == 2 {
-        return word_or_zero(state, a) <= 127;
-    }
-    false
+    true
 }
 
 // A process variable at location a is empty, or names a created process of its module.
@@ -123,28 +136,81 @@ fn reference_holds(state: &[u8], home: usize, a: usize) -> bool
     refers_to(state, home, r)
 }
 
+// So does each of the n words from location a on.
+fn references_hold(state: &[u8], home: usize, a: usize, n: usize) -> bool
+    requires { ⌜ Lent 17664 (now state) ⌝ }
+    requires { ⌜ (a ≤ 20000000) × (n ≤ 200) ⌝ }
+    ensures { λ r. ⌜ r ≡ allBelow n (wordRefers (memoryOf (now (state .entry))) home a) ⌝ }
+{
+    let mut i = 0;
+    while i < n {
+        if reference_holds(state, home, a + i) {
+            i += 1;
+        } else {
+            return false;
+        }
+    }
+    true
+}
+
+// A value of the simple or process type h, integers apart, stands at each of the n words from location a on.
+fn words_hold(c: &code::Slots, state: &[u8], h: usize, a: usize, n: usize) -> bool
+    requires { ⌜ Lent 17664 (now state) ⌝ }
+    requires { ⌜ Tested (decoded (now c)) h ⌝ }
+    requires { ⌜ (a ≤ 20000000) × (n ≤ 200) ⌝ }
+    ensures { λ r. ⌜ r ≡ wordsHold (decoded (now (c .entry))) (memoryOf (now (state .entry))) h a n ⌝ }
+{
+    if h == 1 {
+        return words_up_to(state, a, n, 1);
+    }
+    if h == 2 {
+        return words_up_to(state, a, n, 127);
+    }
+    if code::type_kind(c, h) == 3 {
+        return references_hold(state, code::type_p(c, h), a, n);
+    }
+    n == 0
+}
+
 // A value of type x stands at location a.
-fn value_holds(c: &code::Slots, sizes: &[u16], state: &[u8], x: usize, a: usize) -> bool
+fn value_holds(
+    c: &code::Slots,
+    sizes: &[u16],
+    heads: &[u16],
+    state: &[u8],
+    x: usize,
+    a: usize,
+) -> bool
     requires { ⌜ Ready (decoded (now c)) (now sizes) ⌝ }
+    requires { ⌜ Heads (decoded (now c)) (now heads) ⌝ }
     requires { ⌜ Lent 17664 (now state) ⌝ }
     requires { ⌜ Near (decoded (now c)) x a ⌝ }
     ensures { λ r. ⌜ r ≡ holds (decoded (now (c .entry))) (memoryOf (now (state .entry))) x a ⌝ }
 {
-    let kind = code::type_kind(c, x);
+    let h = heads::head_of(c, heads, x);
+    if h == 0 {
+        return true;
+    }
+    let kind = code::type_kind(c, h);
     if kind == 1 {
-        return fields_hold(c, sizes, state, x, a);
+        return fields_hold(c, sizes, heads, state, h, a);
     }
     if kind == 2 {
-        return elements_hold(c, sizes, state, x, a);
+        return elements_hold(c, sizes, heads, state, h, a);
     }
-    if kind == 3 {
-        return reference_holds(state, code::type_p(c, x), a);
-    }
-    simple_holds(state, x, a)
+    words_hold(c, state, h, a, words_of(c, sizes, x))
 }
 
-fn fields_hold(c: &code::Slots, sizes: &[u16], state: &[u8], x: usize, a: usize) -> bool
+fn fields_hold(
+    c: &code::Slots,
+    sizes: &[u16],
+    heads: &[u16],
+    state: &[u8],
+    x: usize,
+    a: usize,
+) -> bool
     requires { ⌜ Ready (decoded (now c)) (now sizes) ⌝ }
+    requires { ⌜ Heads (decoded (now c)) (now heads) ⌝ }
     requires { ⌜ Lent 17664 (now state) ⌝ }
     requires { ⌜ RecordAt (decoded (now c)) (memoryOf (now state)) x a ⌝ }
     ensures { λ r. ⌜ r ≡ fieldsHold (decoded (now (c .entry))) (memoryOf (now (state .entry))) x a ⌝ }
@@ -158,7 +224,7 @@ fn fields_hold(c: &code::Slots, sizes: &[u16], state: &[u8], x: usize, a: usize)
         if x <= f {
             return false;
         }
-        if value_holds(c, sizes, state, f, at) {
+        if value_holds(c, sizes, heads, state, f, at) {
             at += words_of(c, sizes, f);
             i += 1;
         } else {
@@ -168,17 +234,21 @@ fn fields_hold(c: &code::Slots, sizes: &[u16], state: &[u8], x: usize, a: usize)
     true
 }
 
-// Every word is an integer, so an array of integers needs no pass.
-fn elements_hold(c: &code::Slots, sizes: &[u16], state: &[u8], x: usize, a: usize) -> bool
+fn elements_hold(
+    c: &code::Slots,
+    sizes: &[u16],
+    heads: &[u16],
+    state: &[u8],
+    x: usize,
+    a: usize,
+) -> bool
     requires { ⌜ Ready (decoded (now c)) (now sizes) ⌝ }
+    requires { ⌜ Heads (decoded (now c)) (now heads) ⌝ }
     requires { ⌜ Lent 17664 (now state) ⌝ }
     requires { ⌜ ArrayAt (decoded (now c)) (memoryOf (now state)) x a ⌝ }
     ensures { λ r. ⌜ r ≡ elementsHold (decoded (now (c .entry))) (memoryOf (now (state .entry))) x a ⌝ }
 {
     let q = code::type_q(c, x);
-    if q == 0 {
-        return true;
-    }
     let count = types::elements_of(c, x);
     let words = words_of(c, sizes, q);
     let mut at = a;
@@ -187,7 +257,7 @@ fn elements_hold(c: &code::Slots, sizes: &[u16], state: &[u8], x: usize, a: usiz
         if x <= q {
             return false;
         }
-        if value_holds(c, sizes, state, q, at) {
+        if value_holds(c, sizes, heads, state, q, at) {
             at += words;
             i += 1;
         } else {
@@ -237,26 +307,48 @@ fn part_words(c: &code::Slots, sizes: &[u16], x: usize, f: usize) -> usize
     0
 }
 
-// A part of type y begins at word k of a variable of type x.
-fn part_begins(c: &code::Slots, sizes: &[u16], x: usize, y: usize, k: usize) -> bool
+// The last type not below y, down the chain of only parts of x, where word k is one of a variable of type x.
+fn chain_end(c: &code::Slots, sizes: &[u16], jumps: &[u16], x: usize, y: usize, k: usize) -> usize
     requires { ⌜ Ready (decoded (now c)) (now sizes) ⌝ }
+    requires { ⌜ Jumps (decoded (now c)) (now jumps) ⌝ }
+    ensures { λ r. ⌜ Ends (decoded (now (c .entry))) y x k r ⌝ }
+{
+    if k < words_of(c, sizes, x) {
+        return jumps::lowest(c, jumps, x, y);
+    }
+    x
+}
+
+// A part of type y begins at word k of a variable of type x.
+fn part_begins(c: &code::Slots, sizes: &[u16], jumps: &[u16], x: usize, y: usize, k: usize) -> bool
+    requires { ⌜ Ready (decoded (now c)) (now sizes) ⌝ }
+    requires { ⌜ Jumps (decoded (now c)) (now jumps) ⌝ }
     ensures { λ r. ⌜ r ≡ part (decoded (now (c .entry))) y x k ⌝ }
 {
-    if begins_whole(x, y, k) {
+    let z = chain_end(c, sizes, jumps, x, y, k);
+    if begins_whole(z, y, k) {
         return true;
     }
-    let kind = code::type_kind(c, x);
+    let kind = code::type_kind(c, z);
     if kind == 1 {
-        return part_of_fields(c, sizes, x, y, k);
+        return part_of_fields(c, sizes, jumps, z, y, k);
     }
     if kind == 2 {
-        return part_of_element(c, sizes, x, y, k);
+        return part_of_element(c, sizes, jumps, z, y, k);
     }
     false
 }
 
-fn part_of_fields(c: &code::Slots, sizes: &[u16], x: usize, y: usize, k: usize) -> bool
+fn part_of_fields(
+    c: &code::Slots,
+    sizes: &[u16],
+    jumps: &[u16],
+    x: usize,
+    y: usize,
+    k: usize,
+) -> bool
     requires { ⌜ Ready (decoded (now c)) (now sizes) ⌝ }
+    requires { ⌜ Jumps (decoded (now c)) (now jumps) ⌝ }
     ensures { λ r. ⌜ r ≡ fieldsBegin (decoded (now (c .entry))) y x k ⌝ }
 {
     let first = code::type_p(c, x);
@@ -265,7 +357,7 @@ fn part_of_fields(c: &code::Slots, sizes: &[u16], x: usize, y: usize, k: usize) 
     let mut i = 0;
     while i < count {
         let f = code::field_type(c, first + i);
-        if part_of_field(c, sizes, x, y, k, f, at) {
+        if part_of_field(c, sizes, jumps, x, y, k, f, at) {
             return true;
         }
         at += part_words(c, sizes, x, f);
@@ -278,6 +370,7 @@ fn part_of_fields(c: &code::Slots, sizes: &[u16], x: usize, y: usize, k: usize) 
 fn part_of_field(
     c: &code::Slots,
     sizes: &[u16],
+    jumps: &[u16],
     x: usize,
     y: usize,
     k: usize,
@@ -285,13 +378,14 @@ fn part_of_field(
     at: usize,
 ) -> bool
     requires { ⌜ Ready (decoded (now c)) (now sizes) ⌝ }
+    requires { ⌜ Jumps (decoded (now c)) (now jumps) ⌝ }
     requires { ⌜ at ≤ 14000000 ⌝ }
     ensures { λ r. ⌜ r ≡ fieldBegins (decoded (now (c .entry))) y x k f at ⌝ }
 {
     if f < x {
         if at <= k {
             if k < at + words_of(c, sizes, f) {
-                return part_begins(c, sizes, f, y, k - at);
+                return part_begins(c, sizes, jumps, f, y, k - at);
             }
             return false;
         }
@@ -300,15 +394,23 @@ fn part_of_field(
     false
 }
 
-fn part_of_element(c: &code::Slots, sizes: &[u16], x: usize, y: usize, k: usize) -> bool
+fn part_of_element(
+    c: &code::Slots,
+    sizes: &[u16],
+    jumps: &[u16],
+    x: usize,
+    y: usize,
+    k: usize,
+) -> bool
     requires { ⌜ Ready (decoded (now c)) (now sizes) ⌝ }
+    requires { ⌜ Jumps (decoded (now c)) (now jumps) ⌝ }
     ensures { λ r. ⌜ r ≡ elementBegins (decoded (now (c .entry))) y x k ⌝ }
 {
     let q = code::type_q(c, x);
     if q < x {
         let words = words_of(c, sizes, q);
         if quotient(k, words) < types::elements_of(c, x) {
-            return part_begins(c, sizes, q, y, remainder(k, words));
+            return part_begins(c, sizes, jumps, q, y, remainder(k, words));
         }
         return false;
     }
@@ -327,8 +429,17 @@ fn var_words(c: &code::Slots, sizes: &[u16], v: usize) -> usize
 }
 
 // A part of type y begins at word k, in the variable v that begins at word `at`, no var parameter.
-fn part_of_variable(c: &code::Slots, sizes: &[u16], y: usize, k: usize, v: usize, at: usize) -> bool
+fn part_of_variable(
+    c: &code::Slots,
+    sizes: &[u16],
+    jumps: &[u16],
+    y: usize,
+    k: usize,
+    v: usize,
+    at: usize,
+) -> bool
     requires { ⌜ Ready (decoded (now c)) (now sizes) ⌝ }
+    requires { ⌜ Jumps (decoded (now c)) (now jumps) ⌝ }
     requires { ⌜ at ≤ 14000000 ⌝ }
     ensures { λ r. ⌜ r ≡ variableBegins (decoded (now (c .entry))) y k v at ⌝ }
 {
@@ -337,7 +448,7 @@ fn part_of_variable(c: &code::Slots, sizes: &[u16], y: usize, k: usize, v: usize
             if code::var_mode(c, v) == 2 {
                 return false;
             }
-            return part_begins(c, sizes, code::var_type(c, v), y, k - at);
+            return part_begins(c, sizes, jumps, code::var_type(c, v), y, k - at);
         }
         return false;
     }
@@ -345,8 +456,16 @@ fn part_of_variable(c: &code::Slots, sizes: &[u16], y: usize, k: usize, v: usize
 }
 
 // A part of type y begins at word k of the variables of block b.
-fn part_of_block(c: &code::Slots, sizes: &[u16], b: usize, y: usize, k: usize) -> bool
+fn part_of_block(
+    c: &code::Slots,
+    sizes: &[u16],
+    jumps: &[u16],
+    b: usize,
+    y: usize,
+    k: usize,
+) -> bool
     requires { ⌜ Ready (decoded (now c)) (now sizes) ⌝ }
+    requires { ⌜ Jumps (decoded (now c)) (now jumps) ⌝ }
     ensures { λ r. ⌜ r ≡ partOfBlock (decoded (now (c .entry))) b y k ⌝ }
 {
     let first = code::first_var(c, b);
@@ -354,7 +473,7 @@ fn part_of_block(c: &code::Slots, sizes: &[u16], b: usize, y: usize, k: usize) -
     let mut at = 0;
     let mut i = 0;
     while i < count {
-        if part_of_variable(c, sizes, y, k, first + i, at) {
+        if part_of_variable(c, sizes, jumps, y, k, first + i, at) {
             return true;
         }
         at += var_words(c, sizes, first + i);
@@ -375,22 +494,36 @@ fn location_at(p: usize, k: usize) -> usize
 fn variable_holds(
     c: &code::Slots,
     sizes: &[u16],
+    heads: &[u16],
     state: &[u8],
     p: usize,
     v: usize,
     at: usize,
 ) -> bool
     requires { ⌜ Ready (decoded (now c)) (now sizes) ⌝ }
+    requires { ⌜ Heads (decoded (now c)) (now heads) ⌝ }
     requires { ⌜ Lent 17664 (now state) ⌝ }
     requires { ⌜ (1 ≤ p) × ((p ≤ 64) × (at ≤ 14000000)) ⌝ }
     ensures { λ r. ⌜ r ≡ variableHolds (decoded (now (c .entry))) (memoryOf (now (state .entry))) p v at ⌝ }
 {
-    value_holds(c, sizes, state, code::var_type(c, v), location_at(p, at))
+    let x = code::var_type(c, v);
+    if heads::head_of(c, heads, x) == 0 {
+        return true;
+    }
+    value_holds(c, sizes, heads, state, x, location_at(p, at))
 }
 
 // The variables of block b, at the beginning of the area of process p, have values of their types.
-fn modules_hold(c: &code::Slots, sizes: &[u16], state: &[u8], p: usize, b: usize) -> bool
+fn modules_hold(
+    c: &code::Slots,
+    sizes: &[u16],
+    heads: &[u16],
+    state: &[u8],
+    p: usize,
+    b: usize,
+) -> bool
     requires { ⌜ Ready (decoded (now c)) (now sizes) ⌝ }
+    requires { ⌜ Heads (decoded (now c)) (now heads) ⌝ }
     requires { ⌜ Lent 17664 (now state) ⌝ }
     requires { ⌜ (1 ≤ p) × (p ≤ 64) ⌝ }
     ensures { λ r. ⌜ r ≡ modulesHold (decoded (now (c .entry))) (memoryOf (now (state .entry))) p b ⌝ }
@@ -400,7 +533,7 @@ fn modules_hold(c: &code::Slots, sizes: &[u16], state: &[u8], p: usize, b: usize
     let mut at = 0;
     let mut i = 0;
     while i < count {
-        if variable_holds(c, sizes, state, p, first + i, at) {
+        if variable_holds(c, sizes, heads, state, p, first + i, at) {
             at += var_words(c, sizes, first + i);
             i += 1;
         } else {
@@ -418,15 +551,23 @@ fn is_created(state: &[u8], p: usize) -> bool
 }
 
 // At location a, in the area of a created process, stands one of its module's variables of type y, or such a part of one.
-fn lives_in_module(c: &code::Slots, sizes: &[u16], state: &[u8], y: usize, a: usize) -> bool
+fn lives_in_module(
+    c: &code::Slots,
+    sizes: &[u16],
+    jumps: &[u16],
+    state: &[u8],
+    y: usize,
+    a: usize,
+) -> bool
     requires { ⌜ Ready (decoded (now c)) (now sizes) ⌝ }
+    requires { ⌜ Jumps (decoded (now c)) (now jumps) ⌝ }
     requires { ⌜ Lent 17664 (now state) ⌝ }
     requires { ⌜ a < 65536 ⌝ }
     ensures { λ r. ⌜ r ≡ livesInModule (decoded (now (c .entry))) (memoryOf (now (state .entry))) y a ⌝ }
 {
     let r = a / 256 + 1;
     if is_created(state, r) {
-        return part_of_block(c, sizes, record_word(state, r, 1), y, a % 256);
+        return part_of_block(c, sizes, jumps, record_word(state, r, 1), y, a % 256);
     }
     false
 }
@@ -435,6 +576,7 @@ fn lives_in_module(c: &code::Slots, sizes: &[u16], state: &[u8], y: usize, a: us
 fn owned(
     c: &code::Slots,
     sizes: &[u16],
+    jumps: &[u16],
     state: &[u8],
     p: usize,
     f: usize,
@@ -442,12 +584,13 @@ fn owned(
     k: usize,
 ) -> bool
     requires { ⌜ Ready (decoded (now c)) (now sizes) ⌝ }
+    requires { ⌜ Jumps (decoded (now c)) (now jumps) ⌝ }
     requires { ⌜ Lent 17664 (now state) ⌝ }
     requires { ⌜ (1 ≤ p) × ((p ≤ 64) × (f < 65536)) ⌝ }
     ensures { λ r. ⌜ r ≡ ownedIn (decoded (now (c .entry))) (memoryOf (now (state .entry))) p f y k ⌝ }
 {
     if f + 4 <= k {
-        return part_of_block(c, sizes, area_word(state, p, f + 3), y, k - (f + 4));
+        return part_of_block(c, sizes, jumps, area_word(state, p, f + 3), y, k - (f + 4));
     }
     false
 }
@@ -456,6 +599,7 @@ fn owned(
 fn owns_word(
     c: &code::Slots,
     sizes: &[u16],
+    jumps: &[u16],
     state: &[u8],
     p: usize,
     d: usize,
@@ -464,6 +608,7 @@ fn owns_word(
     k: usize,
 ) -> bool
     requires { ⌜ Ready (decoded (now c)) (now sizes) ⌝ }
+    requires { ⌜ Jumps (decoded (now c)) (now jumps) ⌝ }
     requires { ⌜ Lent 17664 (now state) ⌝ }
     requires { ⌜ (1 ≤ p) × ((p ≤ 64) × (f < 65536)) ⌝ }
     ensures { λ r. ⌜ r ≡ owns (decoded (now (c .entry))) (memoryOf (now (state .entry))) p d f y k ⌝ }
@@ -471,7 +616,7 @@ fn owns_word(
     let mut n = d;
     let mut g = f;
     while 0 < n {
-        if owned(c, sizes, state, p, g, y, k) {
+        if owned(c, sizes, jumps, state, p, g, y, k) {
             return true;
         }
         g = area_word(state, p, g);
@@ -484,6 +629,7 @@ fn owns_word(
 fn lives_at(
     c: &code::Slots,
     sizes: &[u16],
+    jumps: &[u16],
     state: &[u8],
     p: usize,
     d: usize,
@@ -492,15 +638,16 @@ fn lives_at(
     a: usize,
 ) -> bool
     requires { ⌜ Ready (decoded (now c)) (now sizes) ⌝ }
+    requires { ⌜ Jumps (decoded (now c)) (now jumps) ⌝ }
     requires { ⌜ Lent 17664 (now state) ⌝ }
     requires { ⌜ (1 ≤ p) × ((p ≤ 64) × ((f < 65536) × (a < 65536))) ⌝ }
     ensures { λ r. ⌜ r ≡ lives (decoded (now (c .entry))) (memoryOf (now (state .entry))) p d f y a ⌝ }
 {
-    if lives_in_module(c, sizes, state, y, a) {
+    if lives_in_module(c, sizes, jumps, state, y, a) {
         return true;
     }
     if a / 256 + 1 == p {
-        return owns_word(c, sizes, state, p, d, f, y, a % 256);
+        return owns_word(c, sizes, jumps, state, p, d, f, y, a % 256);
     }
     false
 }
@@ -509,6 +656,8 @@ fn lives_at(
 fn frame_variable_holds(
     c: &code::Slots,
     sizes: &[u16],
+    heads: &[u16],
+    jumps: &[u16],
     state: &[u8],
     p: usize,
     d: usize,
@@ -517,6 +666,8 @@ fn frame_variable_holds(
     at: usize,
 ) -> bool
     requires { ⌜ Ready (decoded (now c)) (now sizes) ⌝ }
+    requires { ⌜ Heads (decoded (now c)) (now heads) ⌝ }
+    requires { ⌜ Jumps (decoded (now c)) (now jumps) ⌝ }
     requires { ⌜ Lent 17664 (now state) ⌝ }
     requires { ⌜ (1 ≤ p) × ((p ≤ 64) × ((f < 65536) × (at ≤ 13900000))) ⌝ }
     ensures { λ r. ⌜ r ≡ frameVariable (decoded (now (c .entry))) (memoryOf (now (state .entry))) p d f v at ⌝ }
@@ -526,6 +677,7 @@ fn frame_variable_holds(
         return lives_at(
             c,
             sizes,
+            jumps,
             state,
             p,
             d,
@@ -534,13 +686,15 @@ fn frame_variable_holds(
             a,
         );
     }
-    variable_holds(c, sizes, state, p, v, f + 4 + at)
+    variable_holds(c, sizes, heads, state, p, v, f + 4 + at)
 }
 
 // The variables of a call of procedure q with its frame at f.
 fn frames_hold(
     c: &code::Slots,
     sizes: &[u16],
+    heads: &[u16],
+    jumps: &[u16],
     state: &[u8],
     p: usize,
     d: usize,
@@ -548,6 +702,8 @@ fn frames_hold(
     q: usize,
 ) -> bool
     requires { ⌜ Ready (decoded (now c)) (now sizes) ⌝ }
+    requires { ⌜ Heads (decoded (now c)) (now heads) ⌝ }
+    requires { ⌜ Jumps (decoded (now c)) (now jumps) ⌝ }
     requires { ⌜ Lent 17664 (now state) ⌝ }
     requires { ⌜ (1 ≤ p) × ((p ≤ 64) × (f < 65536)) ⌝ }
     ensures { λ r. ⌜ r ≡ framesHold (decoded (now (c .entry))) (memoryOf (now (state .entry))) p d f q ⌝ }
@@ -557,7 +713,7 @@ fn frames_hold(
     let mut at = 0;
     let mut i = 0;
     while i < count {
-        if frame_variable_holds(c, sizes, state, p, d, f, first + i, at) {
+        if frame_variable_holds(c, sizes, heads, jumps, state, p, d, f, first + i, at) {
             at += var_words(c, sizes, first + i);
             i += 1;
         } else {
@@ -726,6 +882,8 @@ fn frame_ok(
 fn call_ok(
     c: &code::Slots,
     sizes: &[u16],
+    heads: &[u16],
+    jumps: &[u16],
     state: &[u8],
     p: usize,
     d: usize,
@@ -735,6 +893,8 @@ fn call_ok(
     top: usize,
 ) -> bool
     requires { ⌜ Ready (decoded (now c)) (now sizes) ⌝ }
+    requires { ⌜ Heads (decoded (now c)) (now heads) ⌝ }
+    requires { ⌜ Jumps (decoded (now c)) (now jumps) ⌝ }
     requires { ⌜ Lent 17664 (now state) ⌝ }
     requires { ⌜ (1 ≤ p) × ((p ≤ 64) × (f < 65536)) ⌝ }
     ensures { λ r. ⌜ r ≡ callOk (decoded (now (c .entry))) (memoryOf (now (state .entry))) p d f w i top ⌝ }
@@ -742,7 +902,7 @@ fn call_ok(
     let q = area_word(state, p, f + 3);
     if frame_ok(c, sizes, state, f, w, i, top, q) {
         if calls_procedure(c, q, area_word(state, p, f + 1)) {
-            return frames_hold(c, sizes, state, p, d, f, q);
+            return frames_hold(c, sizes, heads, jumps, state, p, d, f, q);
         }
         return false;
     }
@@ -785,8 +945,17 @@ fn stands_alone(p: usize, f: usize, w: usize) -> bool
 }
 
 // The calls of process p that have not ended, the innermost first. A frame has at least 4 of the 256 words: there are no more than 64.
-fn chain_ok(c: &code::Slots, sizes: &[u16], state: &[u8], p: usize) -> bool
+fn chain_ok(
+    c: &code::Slots,
+    sizes: &[u16],
+    heads: &[u16],
+    jumps: &[u16],
+    state: &[u8],
+    p: usize,
+) -> bool
     requires { ⌜ Ready (decoded (now c)) (now sizes) ⌝ }
+    requires { ⌜ Heads (decoded (now c)) (now heads) ⌝ }
+    requires { ⌜ Jumps (decoded (now c)) (now jumps) ⌝ }
     requires { ⌜ Lent 17664 (now state) ⌝ }
     requires { ⌜ (1 ≤ p) × (p ≤ 64) ⌝ }
     ensures { λ r. ⌜ r ≡ startedOk (decoded (now (c .entry))) (memoryOf (now (state .entry))) p ⌝ }
@@ -800,7 +969,7 @@ fn chain_ok(c: &code::Slots, sizes: &[u16], state: &[u8], p: usize) -> bool
         return false;
     }
     while 0 < n {
-        if call_ok(c, sizes, state, p, n - 1, f, w, i, top) {
+        if call_ok(c, sizes, heads, jumps, state, p, n - 1, f, w, i, top) {
             top = f;
             i = area_word(state, p, f + 1);
             w = area_word(state, p, f + 2);
@@ -834,28 +1003,46 @@ fn module_ok(c: &code::Slots, state: &[u8], p: usize) -> bool
 }
 
 // A started process has calls, and stands at a statement.
-fn running_ok(c: &code::Slots, sizes: &[u16], state: &[u8], p: usize) -> bool
+fn running_ok(
+    c: &code::Slots,
+    sizes: &[u16],
+    heads: &[u16],
+    jumps: &[u16],
+    state: &[u8],
+    p: usize,
+) -> bool
     requires { ⌜ Ready (decoded (now c)) (now sizes) ⌝ }
+    requires { ⌜ Heads (decoded (now c)) (now heads) ⌝ }
+    requires { ⌜ Jumps (decoded (now c)) (now jumps) ⌝ }
     requires { ⌜ Lent 17664 (now state) ⌝ }
     requires { ⌜ (1 ≤ p) × (p ≤ 64) ⌝ }
     ensures { λ r. ⌜ r ≡ runningOk (decoded (now (c .entry))) (memoryOf (now (state .entry))) p ⌝ }
 {
     if record_word(state, p, 0) == 2 {
-        return chain_ok(c, sizes, state, p);
+        return chain_ok(c, sizes, heads, jumps, state, p);
     }
     true
 }
 
-fn process_ok(c: &code::Slots, sizes: &[u16], state: &[u8], p: usize) -> bool
+fn process_ok(
+    c: &code::Slots,
+    sizes: &[u16],
+    heads: &[u16],
+    jumps: &[u16],
+    state: &[u8],
+    p: usize,
+) -> bool
     requires { ⌜ Ready (decoded (now c)) (now sizes) ⌝ }
+    requires { ⌜ Heads (decoded (now c)) (now heads) ⌝ }
+    requires { ⌜ Jumps (decoded (now c)) (now jumps) ⌝ }
     requires { ⌜ Lent 17664 (now state) ⌝ }
     requires { ⌜ (1 ≤ p) × (p ≤ 64) ⌝ }
     ensures { λ r. ⌜ r ≡ processOk (decoded (now (c .entry))) (memoryOf (now (state .entry))) p ⌝ }
 {
     if module_ok(c, state, p) {
         if record_word(state, p, 6) <= created(state) {
-            if modules_hold(c, sizes, state, p, record_word(state, p, 1)) {
-                return running_ok(c, sizes, state, p);
+            if modules_hold(c, sizes, heads, state, p, record_word(state, p, 1)) {
+                return running_ok(c, sizes, heads, jumps, state, p);
             }
             return false;
         }
@@ -876,8 +1063,16 @@ fn failure_ok(state: &[u8]) -> bool
 }
 
 // Each created process.
-fn processes_hold(c: &code::Slots, sizes: &[u16], state: &[u8]) -> bool
+fn processes_hold(
+    c: &code::Slots,
+    sizes: &[u16],
+    heads: &[u16],
+    jumps: &[u16],
+    state: &[u8],
+) -> bool
     requires { ⌜ Ready (decoded (now c)) (now sizes) ⌝ }
+    requires { ⌜ Heads (decoded (now c)) (now heads) ⌝ }
+    requires { ⌜ Jumps (decoded (now c)) (now jumps) ⌝ }
     requires { ⌜ Lent 17664 (now state) ⌝ }
     requires { ⌜ memoryOf (now state) createdAt ≤ 64 ⌝ }
     ensures { λ r. ⌜ r ≡ processesHold (decoded (now (c .entry))) (memoryOf (now (state .entry))) ⌝ }
@@ -885,13 +1080,80 @@ fn processes_hold(c: &code::Slots, sizes: &[u16], state: &[u8]) -> bool
     let processes = created(state);
     let mut i = 0;
     while i < processes {
-        if process_ok(c, sizes, state, i + 1) {
+        if process_ok(c, sizes, heads, jumps, state, i + 1) {
             i += 1;
         } else {
             return false;
         }
     }
     true
+}
+
+// The words in use, as the control records have it.
+fn words_in_use(state: &[u8]) -> usize
+    requires { ⌜ Lent 17664 (now state) ⌝ }
+    requires { ⌜ memoryOf (now state) createdAt ≤ 64 ⌝ }
+{
+    let processes = created(state);
+    let mut sum = 0;
+    let mut i = 0;
+    while i < processes {
+        sum += record_word(state, i + 1, 4);
+        i += 1;
+    }
+    sum
+}
+
+// So, in a table of few types: their heads are found, and their chains are short.
+fn few_hold(c: &code::Slots, sizes: &[u16], state: &[u8], n: usize) -> bool
+    requires { ⌜ Ready (decoded (now c)) (now sizes) ⌝ }
+    requires { ⌜ Lent 17664 (now state) ⌝ }
+    requires { ⌜ (memoryOf (now state) createdAt ≤ 64) × ((3 ≤ n) × (n ≤ 16)) ⌝ }
+    ensures { λ r. ⌜ r ≡ processesHold (decoded (now (c .entry))) (memoryOf (now (state .entry))) ⌝ }
+{
+    let mut heads = [0u16; 16];
+    heads::find_heads(c, &mut heads[..], n);
+    let jumps = [0u16; 1];
+    processes_hold(c, sizes, &heads[..n], &jumps[..0], state)
+}
+
+// So, where heads and jumps are found for the types below n.
+fn many_hold(c: &code::Slots, sizes: &[u16], state: &[u8], n: usize) -> bool
+    requires { ⌜ Ready (decoded (now c)) (now sizes) ⌝ }
+    requires { ⌜ Lent 17664 (now state) ⌝ }
+    requires { ⌜ (memoryOf (now state) createdAt ≤ 64) × ((3 ≤ n) × (n ≤ 258)) ⌝ }
+    ensures { λ r. ⌜ r ≡ processesHold (decoded (now (c .entry))) (memoryOf (now (state .entry))) ⌝ }
+{
+    let mut heads = [0u16; 258];
+    heads::find_heads(c, &mut heads[..], n);
+    let mut jumps = [0u16; 258];
+    jumps::find_jumps(c, &mut jumps[..], n);
+    processes_hold(c, sizes, &heads[..n], &jumps[..n], state)
+}
+
+// How many types are worth finding: all, but for less words in use than types only the standard ones.
+fn worth_finding(state: &[u8], n: usize) -> usize
+    requires { ⌜ Lent 17664 (now state) ⌝ }
+    requires { ⌜ (memoryOf (now state) createdAt ≤ 64) × ((3 ≤ n) × (n ≤ 258)) ⌝ }
+    ensures { λ r. ⌜ (3 ≤ r) × (r ≤ 258) ⌝ }
+{
+    if n <= words_in_use(state) {
+        return n;
+    }
+    3
+}
+
+fn all_hold(c: &code::Slots, sizes: &[u16], state: &[u8]) -> bool
+    requires { ⌜ Ready (decoded (now c)) (now sizes) ⌝ }
+    requires { ⌜ Lent 17664 (now state) ⌝ }
+    requires { ⌜ memoryOf (now state) createdAt ≤ 64 ⌝ }
+    ensures { λ r. ⌜ r ≡ processesHold (decoded (now (c .entry))) (memoryOf (now (state .entry))) ⌝ }
+{
+    let n = heads::known_types(c);
+    if n <= 16 {
+        return few_hold(c, sizes, state, n);
+    }
+    many_hold(c, sizes, state, worth_finding(state, n))
 }
 
 // THE STATE RULE: the lent state is one that a run of the table can be in, as far as its words show.
@@ -904,7 +1166,7 @@ pub fn rule_holds(c: &code::Slots, sizes: &[u16], state: &[u8]) -> bool
     if 1 <= n {
         if n <= 64 {
             if failure_ok(state) {
-                return processes_hold(c, sizes, state);
+                return all_hold(c, sizes, state);
             }
             return false;
         }

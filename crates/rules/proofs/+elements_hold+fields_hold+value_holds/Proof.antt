@@ -3,7 +3,8 @@ use borrow.Author.Needs.{needs}
 use Rattle.code.specs.Code.{decoded}
 use Rattle.machine.specs.Memory.{memoryOf}
 use Rattle.rules.specs.Walks.{FieldsTo, ElementsTo}
-use Rattle.rules.proofs.Values.{values, elements-more, elements-integers, fieldwalks, elementwalks, walk-fits}
+use Rattle.rules.proofs.Values.{elements-more, fieldwalks, elementwalks, walk-fits}
+use Rattle.rules.proofs.Heading.{values, tested, location-near}
 use Prim.Native.Nat.{ℕ, _<_, _≤_, _+_, _-_, _*_}
 use borrow.Fn.Kinds.{In}
 use borrow.Fn.PlainCycle.{Measures, is, falls, and}
@@ -16,8 +17,8 @@ use Rattle.rules.proofs.+elements_hold+fields_hold+value_holds.Lts-fiel
 use Rattle.rules.proofs.value_holds.Reads as value-holds
 use Rattle.rules.proofs.value_holds.Kinds as value-holds-kinds
 use Rattle.rules.proofs.+elements_hold+fields_hold+value_holds.Lts-value_holds as value-holds-lts
-use Rattle.rules.proofs.reference_holds.Reads as reference-holds-reads
-use Rattle.rules.proofs.simple_holds.Reads as simple-holds-reads
+use Rattle.rules.proofs.heads.head_of.Reads as head-of-reads
+use Rattle.rules.proofs.words_hold.Reads as words-hold-reads
 use Rattle.rules.proofs.words_of.Reads as words-of-reads
 use Rattle.code.proofs.field_type.Reads as field-type-reads
 use Rattle.code.proofs.type_kind.Reads as type-kind-reads
@@ -27,54 +28,54 @@ use Rattle.types.proofs.elements_of.Reads as elements-of-reads
 use Rattle.rules.proofs.+elements_hold+fields_hold+value_holds.{statement}
 use Rattle.rules.proofs.+elements_hold+fields_hold+value_holds.Tie.{close}
 
-abbrev μ-elements-hold : Measures 3 elements-hold-kinds.ps ℕ
-μ-elements-hold κs a = 2 * a .1 .1 .1 .0
+abbrev μ-elements-hold : Measures 4 elements-hold-kinds.ps ℕ
+μ-elements-hold κs a = 2 * a .1 .1 .1 .1 .0
 
-abbrev μ-fields-hold : Measures 3 fields-hold-kinds.ps ℕ
-μ-fields-hold κs a = 2 * a .1 .1 .1 .0
+abbrev μ-fields-hold : Measures 4 fields-hold-kinds.ps ℕ
+μ-fields-hold κs a = 2 * a .1 .1 .1 .1 .0
 
-abbrev μ-value-holds : Measures 3 value-holds-kinds.ps ℕ
-μ-value-holds κs a = 2 * a .1 .1 .1 .0 + 1
+abbrev μ-value-holds : Measures 4 value-holds-kinds.ps ℕ
+μ-value-holds κs a = 2 * a .1 .1 .1 .1 .0 + 1
 
-abbrev elements-hold-at : ℕ → In 3 elements-hold-kinds.ps
+abbrev elements-hold-at : ℕ → In 4 elements-hold-kinds.ps
 elements-hold-at t =
-    and 3 elements-hold-kinds.ps (is 3 elements-hold-kinds.ps μ-elements-hold t) elements-hold.Pre
+    and 4 elements-hold-kinds.ps (is 4 elements-hold-kinds.ps μ-elements-hold t) elements-hold.Pre
 
-abbrev elements-hold-below : ℕ → In 3 elements-hold-kinds.ps
+abbrev elements-hold-below : ℕ → In 4 elements-hold-kinds.ps
 elements-hold-below t =
     and
-    3
+    4
     elements-hold-kinds.ps
-    (falls 3 elements-hold-kinds.ps _<_ μ-elements-hold t)
+    (falls 4 elements-hold-kinds.ps _<_ μ-elements-hold t)
     elements-hold.Pre
 
-abbrev fields-hold-at : ℕ → In 3 fields-hold-kinds.ps
+abbrev fields-hold-at : ℕ → In 4 fields-hold-kinds.ps
 fields-hold-at t =
-    and 3 fields-hold-kinds.ps (is 3 fields-hold-kinds.ps μ-fields-hold t) fields-hold.Pre
+    and 4 fields-hold-kinds.ps (is 4 fields-hold-kinds.ps μ-fields-hold t) fields-hold.Pre
 
-abbrev fields-hold-below : ℕ → In 3 fields-hold-kinds.ps
+abbrev fields-hold-below : ℕ → In 4 fields-hold-kinds.ps
 fields-hold-below t =
-    and 3 fields-hold-kinds.ps (falls 3 fields-hold-kinds.ps _<_ μ-fields-hold t) fields-hold.Pre
+    and 4 fields-hold-kinds.ps (falls 4 fields-hold-kinds.ps _<_ μ-fields-hold t) fields-hold.Pre
 
-abbrev value-holds-at : ℕ → In 3 value-holds-kinds.ps
+abbrev value-holds-at : ℕ → In 4 value-holds-kinds.ps
 value-holds-at t =
-    and 3 value-holds-kinds.ps (is 3 value-holds-kinds.ps μ-value-holds t) value-holds.Pre
+    and 4 value-holds-kinds.ps (is 4 value-holds-kinds.ps μ-value-holds t) value-holds.Pre
 
-abbrev value-holds-below : ℕ → In 3 value-holds-kinds.ps
+abbrev value-holds-below : ℕ → In 4 value-holds-kinds.ps
 value-holds-below t =
-    and 3 value-holds-kinds.ps (falls 3 value-holds-kinds.ps _<_ μ-value-holds t) value-holds.Pre
+    and 4 value-holds-kinds.ps (falls 4 value-holds-kinds.ps _<_ μ-value-holds t) value-holds.Pre
 
 abbrev elements-hold-Inv-loop : elements-hold-lts.InvT-loop
-elements-hold-Inv-loop c sizes state x a q count words at₀ i₀ at i = (i ≤ count) × ElementsTo (decoded c) (memoryOf state) x a i at
+elements-hold-Inv-loop c sizes heads state x a q count words at₀ i₀ at i = (i ≤ count) × ElementsTo (decoded c) (memoryOf state) x a i at
 
 abbrev elements-hold-μ-loop : elements-hold-lts.MeasureT-loop
-elements-hold-μ-loop c sizes state x a q count words at₀ i₀ at i = count - i
+elements-hold-μ-loop c sizes heads state x a q count words at₀ i₀ at i = count - i
 
 abbrev fields-hold-Inv-loop : fields-hold-lts.InvT-loop
-fields-hold-Inv-loop c sizes state x a first count at₀ i₀ at i = (i ≤ count) × FieldsTo (decoded c) (memoryOf state) x a i at
+fields-hold-Inv-loop c sizes heads state x a first count at₀ i₀ at i = (i ≤ count) × FieldsTo (decoded c) (memoryOf state) x a i at
 
 abbrev fields-hold-μ-loop : fields-hold-lts.MeasureT-loop
-fields-hold-μ-loop c sizes state x a first count at₀ i₀ at i = count - i
+fields-hold-μ-loop c sizes heads state x a first count at₀ i₀ at i = count - i
 
 pub +elements-hold+fields-hold+value-holds-spec : {M : Type 1} → statement M
 +elements-hold+fields-hold+value-holds-spec =
@@ -85,16 +86,15 @@ pub +elements-hold+fields-hold+value-holds-spec : {M : Type 1} → statement M
     elements-hold-Inv-loop
     elements-hold-μ-loop
     (λ c κs. search needs)
-    (λ c. search elements-integers)
     (λ c κs. search needs)
     (λ c κs. search needs)
     (λ c. (search needs, search elementwalks))
     (λ c. search elementwalks)
-    (λ c κs. (search needs, (search needs, (search needs, search elementwalks))))
+    (λ c κs. (search needs, (search needs, (search needs, (search needs, search elementwalks)))))
     (λ c. search (walk-fits, elementwalks))
     (λ c. search needs)
     (λ c. omega arith)
-    (λ c. let h = c .before .before .before .before .loop .inv .1 in let hq = c .before .before .before .before .before .before .before .before .type-q .ensures .is in let hw = c .before .before .before .before .before .words-of .ensures .is in (omega arith, elements-more _ _ _ _ _ _ _ h hq _ _ (search needs) (c .before .value-holds .ensures) (search needs) (hw)))
+    (λ c. let h = c .before .before .before .before .loop .inv .1 in let hq = c .before .before .before .before .before .before .before .type-q .ensures .is in let hw = c .before .before .before .before .before .words-of .ensures .is in (omega arith, elements-more _ _ _ _ _ _ _ h hq _ _ (search needs) (c .before .value-holds .ensures) (search needs) (hw)))
     (λ c. search elementwalks)
     (λ c. search elementwalks))
     (λ t. fields-hold-lts.spec
@@ -109,7 +109,7 @@ pub +elements-hold+fields-hold+value-holds-spec : {M : Type 1} → statement M
     (λ c. search needs)
     (λ c κs. search needs)
     (λ c. search fieldwalks)
-    (λ c κs. (search needs, (search needs, (search needs, search fieldwalks))))
+    (λ c κs. (search needs, (search needs, (search needs, (search needs, search fieldwalks)))))
     (λ c κs. search needs)
     (λ c. search (walk-fits, fieldwalks))
     (λ c. search needs)
@@ -118,16 +118,16 @@ pub +elements-hold+fields-hold+value-holds-spec : {M : Type 1} → statement M
     (λ c. search fieldwalks)
     (λ c. search fieldwalks))
     λ t. value-holds-lts.spec
-    (type-kind-reads.Asked, type-kind-reads.Learnt, fields-hold-below t, fields-hold.Post, elements-hold-below t, elements-hold.Post, type-p-reads.Asked, type-p-reads.Learnt, reference-holds-reads.Asked, reference-holds-reads.Learnt, simple-holds-reads.Asked, simple-holds-reads.Learnt)
+    (head-of-reads.Asked, head-of-reads.Learnt, type-kind-reads.Asked, type-kind-reads.Learnt, fields-hold-below t, fields-hold.Post, elements-hold-below t, elements-hold.Post, words-of-reads.Asked, words-of-reads.Learnt, words-hold-reads.Asked, words-hold-reads.Learnt)
     (value-holds-at t)
     value-holds.Post
     (λ c κs. search needs)
-    (λ c κs. (search needs, (search needs, (search needs, search values))))
-    (λ c. search values)
-    (λ c κs. (search needs, (search needs, (search needs, search values))))
     (λ c. search values)
     (λ c κs. search needs)
-    (λ c κs. search needs)
+    (λ c κs. (omega arith, (search needs, (search needs, (search needs, search values)))))
+    (λ c. search values)
+    (λ c κs. (omega arith, (search needs, (search needs, (search needs, search values)))))
     (λ c. search values)
     (λ c κs. search needs)
+    (λ c κs. (search needs, (search tested, (search location-near, search needs))))
     (λ c. search values)

@@ -4,6 +4,7 @@ use Rattle.code.specs.Code.{decoded}
 use Rattle.sizes.specs.Sizes.{offsetIn}
 use Rattle.rules.specs.Walks.{Sought, fieldIBegins}
 use Rattle.rules.proofs.Parts.{parts, fieldparts, fieldsearches, elementparts, sought-small}
+use Rattle.rules.proofs.Jumping.{end-part}
 use Prim.Native.Nat.{ℕ, _<_, _≤_, _+_, _-_, _*_}
 use borrow.Fn.Kinds.{In}
 use borrow.Fn.PlainCycle.{Measures, is, falls, and}
@@ -19,6 +20,7 @@ use Rattle.rules.proofs.+part_begins+part_of_element+part_of_field+part
 use Rattle.rules.proofs.part_of_fields.Reads as part-of-fields
 use Rattle.rules.proofs.part_of_fields.Kinds as part-of-fields-kinds
 use Rattle.rules.proofs.+part_begins+part_of_element+part_of_field+part_of_fields.Lts-part_of_fields as part-of-fields-lts
+use Rattle.rules.proofs.chain_end.Reads as chain-end-reads
 use Rattle.rules.proofs.begins_whole.Reads as begins-whole-reads
 use Rattle.rules.proofs.part_words.Reads as part-words-reads
 use Rattle.rules.proofs.quotient.Reads as quotient-reads
@@ -36,75 +38,75 @@ use Rattle.rules.proofs.+part_begins+part_of_element+part_of_field+part
   close,
 }
 
-abbrev μ-part-begins : Measures 2 part-begins-kinds.ps ℕ
-μ-part-begins κs a = 3 * a .1 .1 .0 + 2
+abbrev μ-part-begins : Measures 3 part-begins-kinds.ps ℕ
+μ-part-begins κs a = 3 * a .1 .1 .1 .0 + 2
 
-abbrev μ-part-of-element : Measures 2 part-of-element-kinds.ps ℕ
-μ-part-of-element κs a = 3 * a .1 .1 .0
+abbrev μ-part-of-element : Measures 3 part-of-element-kinds.ps ℕ
+μ-part-of-element κs a = 3 * a .1 .1 .1 .0
 
-abbrev μ-part-of-field : Measures 2 part-of-field-kinds.ps ℕ
-μ-part-of-field κs a = 3 * a .1 .1 .0
+abbrev μ-part-of-field : Measures 3 part-of-field-kinds.ps ℕ
+μ-part-of-field κs a = 3 * a .1 .1 .1 .0
 
-abbrev μ-part-of-fields : Measures 2 part-of-fields-kinds.ps ℕ
-μ-part-of-fields κs a = 3 * a .1 .1 .0 + 1
+abbrev μ-part-of-fields : Measures 3 part-of-fields-kinds.ps ℕ
+μ-part-of-fields κs a = 3 * a .1 .1 .1 .0 + 1
 
-abbrev part-begins-at : ℕ → In 2 part-begins-kinds.ps
+abbrev part-begins-at : ℕ → In 3 part-begins-kinds.ps
 part-begins-at t =
-    and 2 part-begins-kinds.ps (is 2 part-begins-kinds.ps μ-part-begins t) part-begins.Pre
+    and 3 part-begins-kinds.ps (is 3 part-begins-kinds.ps μ-part-begins t) part-begins.Pre
 
-abbrev part-begins-below : ℕ → In 2 part-begins-kinds.ps
+abbrev part-begins-below : ℕ → In 3 part-begins-kinds.ps
 part-begins-below t =
-    and 2 part-begins-kinds.ps (falls 2 part-begins-kinds.ps _<_ μ-part-begins t) part-begins.Pre
+    and 3 part-begins-kinds.ps (falls 3 part-begins-kinds.ps _<_ μ-part-begins t) part-begins.Pre
 
-abbrev part-of-element-at : ℕ → In 2 part-of-element-kinds.ps
+abbrev part-of-element-at : ℕ → In 3 part-of-element-kinds.ps
 part-of-element-at t =
     and
-    2
+    3
     part-of-element-kinds.ps
-    (is 2 part-of-element-kinds.ps μ-part-of-element t)
+    (is 3 part-of-element-kinds.ps μ-part-of-element t)
     part-of-element.Pre
 
-abbrev part-of-element-below : ℕ → In 2 part-of-element-kinds.ps
+abbrev part-of-element-below : ℕ → In 3 part-of-element-kinds.ps
 part-of-element-below t =
     and
-    2
+    3
     part-of-element-kinds.ps
-    (falls 2 part-of-element-kinds.ps _<_ μ-part-of-element t)
+    (falls 3 part-of-element-kinds.ps _<_ μ-part-of-element t)
     part-of-element.Pre
 
-abbrev part-of-field-at : ℕ → In 2 part-of-field-kinds.ps
+abbrev part-of-field-at : ℕ → In 3 part-of-field-kinds.ps
 part-of-field-at t =
-    and 2 part-of-field-kinds.ps (is 2 part-of-field-kinds.ps μ-part-of-field t) part-of-field.Pre
+    and 3 part-of-field-kinds.ps (is 3 part-of-field-kinds.ps μ-part-of-field t) part-of-field.Pre
 
-abbrev part-of-field-below : ℕ → In 2 part-of-field-kinds.ps
+abbrev part-of-field-below : ℕ → In 3 part-of-field-kinds.ps
 part-of-field-below t =
     and
-    2
+    3
     part-of-field-kinds.ps
-    (falls 2 part-of-field-kinds.ps _<_ μ-part-of-field t)
+    (falls 3 part-of-field-kinds.ps _<_ μ-part-of-field t)
     part-of-field.Pre
 
-abbrev part-of-fields-at : ℕ → In 2 part-of-fields-kinds.ps
+abbrev part-of-fields-at : ℕ → In 3 part-of-fields-kinds.ps
 part-of-fields-at t =
     and
-    2
+    3
     part-of-fields-kinds.ps
-    (is 2 part-of-fields-kinds.ps μ-part-of-fields t)
+    (is 3 part-of-fields-kinds.ps μ-part-of-fields t)
     part-of-fields.Pre
 
-abbrev part-of-fields-below : ℕ → In 2 part-of-fields-kinds.ps
+abbrev part-of-fields-below : ℕ → In 3 part-of-fields-kinds.ps
 part-of-fields-below t =
     and
-    2
+    3
     part-of-fields-kinds.ps
-    (falls 2 part-of-fields-kinds.ps _<_ μ-part-of-fields t)
+    (falls 3 part-of-fields-kinds.ps _<_ μ-part-of-fields t)
     part-of-fields.Pre
 
 abbrev part-of-fields-Inv-loop : part-of-fields-lts.InvT-loop
-part-of-fields-Inv-loop c sizes x y k first count at₀ i₀ at i = (i ≤ count) × Sought (offsetIn (decoded c) x) (fieldIBegins (decoded c) y x k) i at
+part-of-fields-Inv-loop c sizes jumps x y k first count at₀ i₀ at i = (i ≤ count) × Sought (offsetIn (decoded c) x) (fieldIBegins (decoded c) y x k) i at
 
 abbrev part-of-fields-μ-loop : part-of-fields-lts.MeasureT-loop
-part-of-fields-μ-loop c sizes x y k first count at₀ i₀ at i = count - i
+part-of-fields-μ-loop c sizes jumps x y k first count at₀ i₀ at i = count - i
 
 pub +part-begins+part-of-element+part-of-field+part-of-fields-spec : {M : Type 1} → statement M
 +part-begins+part-of-element+part-of-field+part-of-fields-spec =
@@ -114,17 +116,18 @@ pub +part-begins+part-of-element+part-of-field+part-of-fields-spec : {M : Type 1
     μ-part-of-field
     μ-part-of-fields
     (λ t. part-begins-lts.spec
-    (begins-whole-reads.Asked, begins-whole-reads.Learnt, type-kind-reads.Asked, type-kind-reads.Learnt, part-of-fields-below t, part-of-fields.Post, part-of-element-below t, part-of-element.Post)
+    (chain-end-reads.Asked, chain-end-reads.Learnt, begins-whole-reads.Asked, begins-whole-reads.Learnt, type-kind-reads.Asked, type-kind-reads.Learnt, part-of-fields-below t, part-of-fields.Post, part-of-element-below t, part-of-element.Post)
     (part-begins-at t)
     part-begins.Post
     (λ c κs. search needs)
-    (λ c. search parts)
     (λ c κs. search needs)
-    (λ c κs. (search needs, search needs))
-    (λ c. search parts)
-    (λ c κs. (search needs, search needs))
-    (λ c. search parts)
-    (λ c. search parts))
+    (λ c. search (end-part, parts))
+    (λ c κs. search needs)
+    (λ c κs. (omega arith, (search needs, search needs)))
+    (λ c. search (end-part, parts))
+    (λ c κs. (omega arith, (search needs, search needs)))
+    (λ c. search (end-part, parts))
+    (λ c. search (end-part, parts)))
     (λ t. part-of-element-lts.spec
     (type-q-reads.Asked, type-q-reads.Learnt, words-of-reads.Asked, words-of-reads.Learnt, quotient-reads.Asked, quotient-reads.Learnt, elements-of-reads.Asked, elements-of-reads.Learnt, remainder-reads.Asked, remainder-reads.Learnt, part-begins-below t, part-begins.Post)
     (part-of-element-at t)
@@ -134,7 +137,7 @@ pub +part-begins+part-of-element+part-of-field+part-of-fields-spec : {M : Type 1
     (λ c κs. search needs)
     (λ c κs. search needs)
     (λ c κs. search needs)
-    (λ c κs. (search needs, search needs))
+    (λ c κs. (search needs, (search needs, search needs)))
     (λ c. search elementparts)
     (λ c. search elementparts)
     (λ c. search elementparts))
@@ -144,7 +147,7 @@ pub +part-begins+part-of-element+part-of-field+part-of-fields-spec : {M : Type 1
     part-of-field.Post
     (λ c κs. search needs)
     (λ c. search needs)
-    (λ c κs. (search needs, search needs))
+    (λ c κs. (search needs, (search needs, search needs)))
     (λ c. search fieldparts)
     (λ c. search fieldparts)
     (λ c. search fieldparts)
@@ -160,7 +163,7 @@ pub +part-begins+part-of-element+part-of-field+part-of-fields-spec : {M : Type 1
     (λ c. (search needs, search fieldsearches))
     (λ c. search needs)
     (λ c κs. search needs)
-    (λ c κs. (search needs, (search needs, search (sought-small, needs))))
+    (λ c κs. (search needs, (search needs, (search needs, search (sought-small, needs)))))
     (λ c. search fieldsearches)
     (λ c κs. search needs)
     (λ c. omega arith)

@@ -11,10 +11,10 @@ use Rattle.rules.proofs.frames_hold.Statement.{statement}
 use Rattle.rules.proofs.frames_hold.Tie as tie
 
 abbrev Inv-loop : tie.InvT-loop
-Inv-loop c sizes state p d f q first count at₀ i₀ at i = (i ≤ count) × Walked (firstWords (decoded c) q) (frameRow (decoded c) (memoryOf state) p d f q) i at
+Inv-loop c sizes heads jumps state p d f q first count at₀ i₀ at i = (i ≤ count) × Walked (firstWords (decoded c) q) (frameRow (decoded c) (memoryOf state) p d f q) i at
 
 abbrev μ-loop : tie.MeasureT-loop
-μ-loop c sizes state p d f q first count at₀ i₀ at i = count - i
+μ-loop c sizes heads jumps state p d f q first count at₀ i₀ at i = count - i
 
 pub frames-hold-spec : {M : Type 1} → statement M
 frames-hold-spec =
@@ -26,7 +26,7 @@ frames-hold-spec =
     (λ c κs. search needs)
     (λ c. (search needs, search framewalks))
     (λ c. search needs)
-    (λ c κs. (search needs, (search needs, (search needs, (search needs, (search needs, search (frames-small, needs)))))))
+    (λ c κs. (search needs, (search needs, (search needs, (search needs, (search needs, (search needs, (search needs, search (frames-small, needs)))))))))
     (λ c. search needs)
     (λ c κs. search needs)
     (λ c. omega arith)

@@ -10,6 +10,6 @@ lives-at-spec =
     (λ c κs. search needs)
     (λ c. search (lives-module, lives-frame, lives-none))
     (λ c. search needs)
-    (λ c κs. (search needs, (search needs, (search needs, (search needs, search needs)))))
+    (λ c κs. (search needs, (search needs, (search needs, (search needs, (search needs, search needs))))))
     (λ c. search (lives-module, lives-frame, lives-none))
     (λ c. search (lives-module, lives-frame, lives-none)))

@@ -11,10 +11,10 @@ use Rattle.rules.proofs.modules_hold.Statement.{statement}
 use Rattle.rules.proofs.modules_hold.Tie as tie
 
 abbrev Inv-loop : tie.InvT-loop
-Inv-loop c sizes state p b first count at₀ i₀ at i = (i ≤ count) × Walked (firstWords (decoded c) b) (moduleRow (decoded c) (memoryOf state) p b) i at
+Inv-loop c sizes heads state p b first count at₀ i₀ at i = (i ≤ count) × Walked (firstWords (decoded c) b) (moduleRow (decoded c) (memoryOf state) p b) i at
 
 abbrev μ-loop : tie.MeasureT-loop
-μ-loop c sizes state p b first count at₀ i₀ at i = count - i
+μ-loop c sizes heads state p b first count at₀ i₀ at i = count - i
 
 pub modules-hold-spec : {M : Type 1} → statement M
 modules-hold-spec =
@@ -26,7 +26,7 @@ modules-hold-spec =
     (λ c κs. search needs)
     (λ c. (search needs, search modulewalks))
     (λ c. search needs)
-    (λ c κs. (search needs, (search needs, (search needs, (search needs, search (modules-small, needs))))))
+    (λ c κs. (search needs, (search needs, (search needs, (search needs, (search needs, search (modules-small, needs)))))))
     (λ c. search needs)
     (λ c κs. search needs)
     (λ c. omega arith)

@@ -10,10 +10,10 @@ use Rattle.rules.proofs.owns_word.Statement.{statement}
 use Rattle.rules.proofs.owns_word.Tie as tie
 
 abbrev Inv-loop : tie.InvT-loop
-Inv-loop c sizes state p d f y k n₀ g₀ n g = (g < 65536) × (owns (decoded c) (memoryOf state) p n g y k ≡ owns (decoded c) (memoryOf state) p d f y k)
+Inv-loop c sizes jumps state p d f y k n₀ g₀ n g = (g < 65536) × (owns (decoded c) (memoryOf state) p n g y k ≡ owns (decoded c) (memoryOf state) p d f y k)
 
 abbrev μ-loop : tie.MeasureT-loop
-μ-loop c sizes state p d f y k n₀ g₀ n g = n
+μ-loop c sizes jumps state p d f y k n₀ g₀ n g = n
 
 pub owns-word-spec : {M : Type 1} → statement M
 owns-word-spec =
@@ -22,7 +22,7 @@ owns-word-spec =
     Inv-loop
     μ-loop
     (λ c. (search needs, refl))
-    (λ c κs. (search needs, (search needs, (search needs, (search needs, search needs)))))
+    (λ c κs. (search needs, (search needs, (search needs, (search needs, (search needs, search needs))))))
     (λ c. search owns-found)
     (λ c κs. search needs)
     (λ c. search needs)

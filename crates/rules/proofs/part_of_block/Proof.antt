@@ -9,10 +9,10 @@ use Rattle.rules.proofs.part_of_block.Statement.{statement}
 use Rattle.rules.proofs.part_of_block.Tie as tie
 
 abbrev Inv-loop : tie.InvT-loop
-Inv-loop c sizes b y k first count at₀ i₀ at i = (i ≤ count) × Sought (firstWords (decoded c) b) (variableIBegins (decoded c) b y k) i at
+Inv-loop c sizes jumps b y k first count at₀ i₀ at i = (i ≤ count) × Sought (firstWords (decoded c) b) (variableIBegins (decoded c) b y k) i at
 
 abbrev μ-loop : tie.MeasureT-loop
-μ-loop c sizes b y k first count at₀ i₀ at i = count - i
+μ-loop c sizes jumps b y k first count at₀ i₀ at i = count - i
 
 pub part-of-block-spec : {M : Type 1} → statement M
 part-of-block-spec =
@@ -24,7 +24,7 @@ part-of-block-spec =
     (λ c κs. search needs)
     (λ c. (search needs, search variablesearches))
     (λ c. search needs)
-    (λ c κs. (search needs, search (sought-small, needs)))
+    (λ c κs. (search needs, (search needs, search (sought-small, needs))))
     (λ c. search variablesearches)
     (λ c. search needs)
     (λ c κs. search needs)

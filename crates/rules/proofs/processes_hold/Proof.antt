@@ -11,10 +11,10 @@ use Rattle.rules.proofs.processes_hold.Statement.{statement}
 use Rattle.rules.proofs.processes_hold.Tie as tie
 
 abbrev Inv-loop : tie.InvT-loop
-Inv-loop c sizes state n i₀ i = (i ≤ n) × Passed (processRow (decoded c) (memoryOf state)) i
+Inv-loop c sizes heads jumps state n i₀ i = (i ≤ n) × Passed (processRow (decoded c) (memoryOf state)) i
 
 abbrev μ-loop : tie.MeasureT-loop
-μ-loop c sizes state n i₀ i = n - i
+μ-loop c sizes heads jumps state n i₀ i = n - i
 
 pub processes-hold-spec : {M : Type 1} → statement M
 processes-hold-spec =
@@ -25,7 +25,7 @@ processes-hold-spec =
     (λ c κs. search needs)
     (λ c. (search needs, search passed-none))
     (λ c. search needs)
-    (λ c κs. (search needs, (search needs, search needs)))
+    (λ c κs. (search needs, (search needs, (search needs, (search needs, search needs)))))
     (λ c. search needs)
     (λ c. omega arith)
     (λ c. (omega arith, search (passed-more, process-row)))

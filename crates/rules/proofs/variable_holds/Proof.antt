@@ -1,4 +1,4 @@
-use Rattle.rules.proofs.Frames.{near-any, variable-is}
+use Rattle.rules.proofs.Frames.{near-any, variable-is, variable-free}
 use borrow.Author.Needs.{needs}
 use Rattle.rules.proofs.variable_holds.Statement.{statement}
 use Rattle.rules.proofs.variable_holds.Tie as tie
@@ -8,5 +8,7 @@ variable-holds-spec =
     tie.close (tie.spec
     (λ c κs. search needs)
     (λ c κs. search needs)
-    (λ c κs. (search needs, (search needs, search near-any)))
+    (λ c. search variable-free)
+    (λ c κs. search needs)
+    (λ c κs. (search needs, (search needs, (search needs, search near-any))))
     (λ c. search variable-is))
