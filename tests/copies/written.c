@@ -1,5 +1,5 @@
 /* One assignment a program: every pair of places of a few shapes, reached in every way. The words of the variables are set to different numbers
- * first; afterwards each of them is looked at. What is expected is found with memmove on a copy of those numbers. */
+ * first; afterwards they are looked at, of long variables a part. What is expected is found with memmove on a copy of those numbers. */
 #include "both.h"
 #include "builder.h"
 
@@ -200,7 +200,7 @@ enum home {
     LOCALS,     /* locals of a procedure: they are copied from the program's variables first, and back at last */
     VALUES,     /* value parameters of a procedure, and back at last */
     FAR_LOCALS, /* locals of a process's procedure, in the caller's area, copied from the process's variables and back */
-    ACROSS,     /* one is the program's and one a process's, both with the same place in their area */
+    ACROSS,     /* one is the program's and one a process's */
     HOMES
 };
 static const char *const home_names[] = {"program", "module", "body", "locals", "values", "far_locals", "across"};
@@ -232,11 +232,11 @@ struct program {
     struct place to, from;
     enum home home;
     enum access access;
-    bool is_shifted;                              /* an index is a variable and a number added */
+    bool is_shifted;           /* an index is a variable and a number added */
     int roots[SIDES][ROOTS], index[SIDES], server[SIDES], relay[SIDES], module; /* variables */
-    int owner, side;                              /* the block whose variables the assignment sees */
-    int worker, locals[ROOTS];                    /* the procedure that makes it, and its variables */
-    int helper;                                   /* the procedure that is called for it */
+    int owner, side;           /* the block whose variables the assignment sees */
+    int worker, locals[ROOTS]; /* the procedure that makes it, and its variables */
+    int helper;                /* the procedure that is called for it */
 };
 
 static bool has_roots(const struct program *g, int side)
