@@ -270,6 +270,16 @@ static void put_index(int block)
     put_assign(&b, whole(&b, v), binary(&b, '-', integer(&b, 3), value(&b, v)));
 }
 
+/* A word of some variable, to a device word, so that the pages show it too. */
+static void put_any_write(int block)
+{
+    struct candidate c;
+    if (!find_place(block, INTEGER, true, OWN, &c))
+        return;
+    int address = integer(&b, -2 * (1 + below(100)));
+    put_write(&b, address, value_at(&b, node_of(block, &c)));
+}
+
 /* A procedure that the block may call: a later one of its module, or one of a module that a reference of its module leads to. */
 static bool find_procedure(int block, int *procedure, int *reference)
 {
@@ -329,6 +339,8 @@ static void put_statements(int block, int count, int calls)
         calls -= put_any_call(block);
     if (!is_full())
         put_index(block);
+    if (!is_full() && below(2))
+        put_any_write(block);
     for (int i = 0; i < count / 2 && !is_full(); i++)
         put_copy(block);
 }
