@@ -11,7 +11,7 @@ use Rattle.machine.specs.Memory.{Memory, memoryOf, update, store, clear, wordsA
 use Rattle.machine.specs.Lent.{Lent, Changed}
 use Rattle.machine.specs.Places.{SameOrApart, same, before, after}
 use Rattle.machine.proofs.Memories.{length-words, store-below, store-above}
-use Rattle.machine.proofs.Copies.{store-none, store-more, clear-none, clear-more, words-more}
+use Rattle.machine.proofs.Copies.{store-words, store-none, store-more, clear-none, clear-more, words-more}
 use Rattle.frames.specs.Frames.{Direct}
 
 -- a changed memory is still lent
@@ -84,6 +84,10 @@ module _ (s₀ : List ℕ) (from to n : ℕ) where
 
   pub moves-all : (s : List ℕ) (k : ℕ) → Moving (memoryOf s₀) from to n s k → n ≤ k → Changed 17664 s (store (memoryOf s₀) to (wordsAt (memoryOf s₀) from n))
   moves-all s k l h = let e : k ≡ n = omega (arith, l .upto) in rw e at (l .is)
+
+-- words that are copied to where they stand
+pub moves-itself : (s : List ℕ) (from to n : ℕ) → Lent 17664 s → from ≡ to → Changed 17664 s (store (memoryOf s) to (wordsAt (memoryOf s) from n))
+moves-itself s from to n l e = record { long = l .long; is = sym (rw e (store-words (memoryOf s) to n)) }
 
 -- the loop that clears
 pub record Clearing (m : Memory) (a n : ℕ) (s : List ℕ) (k : ℕ) : Type 0 where

@@ -28,9 +28,8 @@ pub fn copy_words(state: &mut [u8], at: usize, n: usize, words: &[u16])
     }
 }
 
-// The n words from `from` on, to `to`, one after the other: the two are the same words or share none, so that no word is read after
-// another was stored in its place (02, d).
-pub fn move_words(state: &mut [u8], from: usize, to: usize, n: usize)
+// The n words from `from` on, to `to`, one after the other: no word is read after another was stored in its place (02, d).
+fn copy_across(state: &mut [u8], from: usize, to: usize, n: usize)
     requires { ⌜ Lent 17664 (now state) ⌝ }
     requires { ⌜ Direct from to n ⌝ }
     ensures { λ _. ⌜ Changed 17664 (now (state .exit)) (store (memoryOf (now (state .entry))) to (wordsAt (memoryOf (now (state .entry))) from n)) ⌝ }
@@ -41,6 +40,18 @@ pub fn move_words(state: &mut [u8], from: usize, to: usize, n: usize)
         machine::set_word(state, 17664, to + k, w);
         k += 1;
     }
+}
+
+// The n words from `from` on, to `to`, directly: the two are the same words, and there is nothing to do, or share none.
+pub fn move_words(state: &mut [u8], from: usize, to: usize, n: usize)
+    requires { ⌜ Lent 17664 (now state) ⌝ }
+    requires { ⌜ Direct from to n ⌝ }
+    ensures { λ _. ⌜ Changed 17664 (now (state .exit)) (store (memoryOf (now (state .entry))) to (wordsAt (memoryOf (now (state .entry))) from n)) ⌝ }
+{
+    if from == to {
+        return;
+    }
+    copy_across(state, from, to, n);
 }
 
 // Makes the n words from `at` on 0.

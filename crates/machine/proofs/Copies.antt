@@ -9,7 +9,7 @@ use lib.ListN.{length, length-append, List·getD-append}
 use lib.Seq.{getD-append-seam}
 use Rattle.basics.specs.Choice.{cases}
 use Rattle.machine.specs.Memory.{Memory, update, store, clear, wordsAt}
-use Rattle.machine.proofs.Memories.{update-same, update-other, store-below, store-above, store-at, clear-below, clear-above, clear-at}
+use Rattle.machine.proofs.Memories.{update-same, update-other, store-below, store-above, store-at, clear-below, clear-above, clear-at, length-words, words-at}
 
 -- three ways to lie: below a, at a + k with k below n, or from a + n on
 by-place : {A : Type 0} (a n j : ℕ) → (j < a → A) → ((k : ℕ) → k < n → j ≡ a + k → A) → (a + n ≤ j → A) → A
@@ -100,3 +100,14 @@ words-more m a (suc n) =
     let e : a + 1 + n ≡ a + suc n = omega arith in
     let d : suc n + 1 ≡ suc (n + 1) = omega arith in
     rw (d, ← e) (ap (λ (l : List ℕ). m a ∷ l) (words-more m (a + 1) n))
+
+-- words that are stored where they stand
+pub store-words : (m : Memory) (a n : ℕ) → store m a (wordsAt m a n) ≡ m
+store-words m a n = fun-ext at
+  where
+    at : (j : ℕ) → store m a (wordsAt m a n) j ≡ m j
+    at j =
+        by-place a n j
+        (λ h. store-below m a (wordsAt m a n) j h)
+        (λ k h e. rw e (store-at m a (wordsAt m a n) k (omega (arith, length-words m a n)) ∙ words-at m a n k h))
+        (λ h. store-above m a (wordsAt m a n) j (omega (arith, length-words m a n)))
