@@ -14,6 +14,21 @@ pub need-true : {A : Type 0} (b : Bool) (o : Outcome A) → b ≡ true → need 
 unfolding need
 need-true b o e = rw e
 
+-- an outcome that is not stuck has its test, and is what follows it
+pub need-holds : {A : Type 0} (b : Bool) (o : Outcome A) → (need b o ≡ stuck → ⊥) → b ≡ true
+unfolding need
+need-holds true o h = refl
+need-holds false o h = absurd (h refl)
+
+pub need-is : {A : Type 0} (b : Bool) (o : Outcome A) → (need b o ≡ stuck → ⊥) → need b o ≡ o
+need-is b o h = need-true b o (need-holds b o h)
+
+pub need-stuck : {A : Type 0} (b : Bool) (o : Outcome A) → o ≡ stuck → need b o ≡ stuck
+unfolding need
+need-stuck true o e = e
+need-stuck false o e = refl
+
+-- what holds of the parts holds of the whole
 module _ {B : Type 0} (P : Outcome B → Type 0) (lost : P stuck) where
   pub g-then : {A : Type 0} (o : Outcome A) (k : A → Outcome B) → ((f : ℕ) → o ≡ fail f → P (fail f)) → ((y : A) → o ≡ ok y → P (k y)) → P (andThen o k)
   unfolding andThen
