@@ -1,14 +1,13 @@
 -- The entry of a type by its number and its kind, and back. Assumes nothing.
 use Prim.Native.Nat.{ℕ, zero, suc, _≤_, _<_}
-use mathlib.Core.Path.{_≡_, refl, _∙_}
-use mathlib.Core.Bool.{Bool, true, false}
+use mathlib.Core.Path.{_≡_, refl, ap, _∙_}
 use native.Mathlib.Omega.{arith}
 use lib.Dec.{eqb, ltb}
 use borrow.Author.Tests.{eqb-true, ltb-false, ne-eqb}
 use Rattle.basics.specs.Choice.{pick, cases}
 use Rattle.table.specs.Table.{Table}
 use Rattle.table.specs.Entries.{declared, typeKind, typeP, typeQ, typeLow, typeHigh}
-use Rattle.machine.specs.Entries.{integer, boolean, character, recordType, arrayType, processType, noType, typeAt}
+use Rattle.machine.specs.Entries.{TypeEntry, integer, boolean, character, recordType, arrayType, processType, noType, typeAt}
 
 module _ (T : Table) where
   pub at-integer : typeAt T 0 ≡ integer
@@ -46,44 +45,40 @@ module _ (T : Table) (τ : ℕ) where
 
 -- the number of a standard entry
 module _ (T : Table) where
-  pub type-integer : (τ : ℕ) → typeAt T τ ≡ integer → τ ≡ 0
-  unfolding typeAt
-  type-integer τ e = eqb-true τ 0 (go (eqb τ 0) (eqb τ 1) (eqb τ 2) (eqb (typeKind T τ) 1) (eqb (typeKind T τ) 2) (eqb (typeKind T τ) 3) e)
+  -- 0 to 2 for the standard entries, 3 for others
+  number : TypeEntry → ℕ
+  number integer = 0
+  number boolean = 1
+  number character = 2
+  number (recordType first count) = 3
+  number (arrayType ι σ low high) = 3
+  number (processType μ) = 3
+  number noType = 3
+
+  numbered : (τ : ℕ) → number (typeAt T τ) < 3 → τ ≡ number (typeAt T τ)
+  unfolding typeAt number
+  numbered τ h =
+      cases (eqb τ 0) (λ a. rw a (eqb-true τ 0 a)) (λ a.
+      cases (eqb τ 1) (λ b. rw (a, b) (eqb-true τ 1 b)) (λ b.
+      cases (eqb τ 2) (λ c. rw (a, b, c) (eqb-true τ 2 c)) (λ c.
+      cases (eqb (typeKind T τ) 1) (λ d. none (rw (a, b, c, d) at h)) (λ d.
+      cases (eqb (typeKind T τ) 2) (λ e. none (rw (a, b, c, d, e) at h)) (λ e.
+      cases (eqb (typeKind T τ) 3) (λ f. none (rw (a, b, c, d, e, f) at h)) (λ f. none (rw (a, b, c, d, e, f) at h)))))))
     where
-      go : (a b c d f g : Bool) → pick a integer (pick b boolean (pick c character (pick d (recordType (typeP T τ) (typeQ T τ)) (pick f (arrayType (typeP T τ) (typeQ T τ) (typeLow T τ) (typeHigh T τ)) (pick g (processType (typeP T τ)) noType))))) ≡ integer → a ≡ true
-      go true b c d f g h = refl
-      go false true c d f g h = cc
-      go false false true d f g h = cc
-      go false false false true f g h = cc
-      go false false false false true g h = cc
-      go false false false false false true h = cc
-      go false false false false false false h = cc
+      none : {A : Type 0} → 3 < 3 → A
+      none l = absurd (omega arith)
+
+  pub type-integer : (τ : ℕ) → typeAt T τ ≡ integer → τ ≡ 0
+  unfolding number
+  type-integer τ e = numbered τ (rw e (omega arith)) ∙ ap number e
 
   pub type-boolean : (τ : ℕ) → typeAt T τ ≡ boolean → τ ≡ 1
-  unfolding typeAt
-  type-boolean τ e = eqb-true τ 1 (go (eqb τ 0) (eqb τ 1) (eqb τ 2) (eqb (typeKind T τ) 1) (eqb (typeKind T τ) 2) (eqb (typeKind T τ) 3) e)
-    where
-      go : (a b c d f g : Bool) → pick a integer (pick b boolean (pick c character (pick d (recordType (typeP T τ) (typeQ T τ)) (pick f (arrayType (typeP T τ) (typeQ T τ) (typeLow T τ) (typeHigh T τ)) (pick g (processType (typeP T τ)) noType))))) ≡ boolean → b ≡ true
-      go true b c d f g h = cc
-      go false true c d f g h = refl
-      go false false true d f g h = cc
-      go false false false true f g h = cc
-      go false false false false true g h = cc
-      go false false false false false true h = cc
-      go false false false false false false h = cc
+  unfolding number
+  type-boolean τ e = numbered τ (rw e (omega arith)) ∙ ap number e
 
   pub type-character : (τ : ℕ) → typeAt T τ ≡ character → τ ≡ 2
-  unfolding typeAt
-  type-character τ e = eqb-true τ 2 (go (eqb τ 0) (eqb τ 1) (eqb τ 2) (eqb (typeKind T τ) 1) (eqb (typeKind T τ) 2) (eqb (typeKind T τ) 3) e)
-    where
-      go : (a b c d f g : Bool) → pick a integer (pick b boolean (pick c character (pick d (recordType (typeP T τ) (typeQ T τ)) (pick f (arrayType (typeP T τ) (typeQ T τ) (typeLow T τ) (typeHigh T τ)) (pick g (processType (typeP T τ)) noType))))) ≡ character → c ≡ true
-      go true b c d f g h = cc
-      go false true c d f g h = cc
-      go false false true d f g h = refl
-      go false false false true f g h = cc
-      go false false false false true g h = cc
-      go false false false false false true h = cc
-      go false false false false false false h = cc
+  unfolding number
+  type-character τ e = numbered τ (rw e (omega arith)) ∙ ap number e
 
   -- a standard type is no structured one
   pub standard-record : (τ first count : ℕ) → τ < 3 → typeAt T τ ≡ recordType first count → ⊥

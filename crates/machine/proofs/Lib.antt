@@ -8,6 +8,7 @@ pub mod Damaged
 pub mod Tests
 pub mod Memories
 pub mod Entries
+pub mod Outcomes
 pub mod Ends
 pub mod Failures
 pub mod Courses

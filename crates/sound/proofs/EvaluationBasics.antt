@@ -10,23 +10,11 @@ use Rattle.table.specs.Table.{Table}
 use Rattle.machine.specs.Memory.{Memory}
 use Rattle.machine.specs.Layout.{location}
 use Rattle.machine.specs.Outcomes.{Outcome, fail, andThen, need, failWhere, Operand, placed, valued, onPlace, onValue, onWord, wordOf}
+use Rattle.machine.proofs.Outcomes.{need-true}
 use Rattle.sound.specs.Claims.{IsValue}
 use Rattle.sound.specs.Evaluated.{SmallWords, Live, GoodPlace, at-place, no-place, GoodValue, a-value, no-value}
 
 -- ---- outcomes
-
-module _ {A : Type 0} where
-  pub need-true : (b : Bool) (o : Outcome A) → b ≡ true → need b o ≡ o
-  unfolding need
-  need-true b o e = rw e
-
-  pub fail-true : (b : Bool) (n : ℕ) (o : Outcome A) → b ≡ true → failWhere b n o ≡ fail n
-  unfolding failWhere
-  fail-true b n o e = rw e
-
-  pub fail-false : (b : Bool) (n : ℕ) (o : Outcome A) → b ≡ false → failWhere b n o ≡ o
-  unfolding failWhere
-  fail-false b n o e = rw e
 
 -- what holds of an outcome, where each listed failure has it
 module _ {A : Type 0} (R : Outcome A → Type 0) (fails : (n : ℕ) → 16 ≤ n → n ≤ 24 → R (fail n)) where

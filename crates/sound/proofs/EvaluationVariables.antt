@@ -20,13 +20,14 @@ use Rattle.machine.specs.Operands.{placeAt, moduleVariable, frameVariable, whol
 use Rattle.machine.specs.Rule.{isCreated, owns, lives}
 use Rattle.machine.proofs.Tests.{range-i}
 use Rattle.machine.proofs.Memories.{within-from, within-to}
+use Rattle.machine.proofs.Outcomes.{need-true}
 use Rattle.verdict.specs.Accepted.{Accepted}
 use Rattle.sound.specs.Claims.{PlaceLaws}
 use Rattle.sound.specs.Ruled.{Framed, Chained, bottom, called, Ruled, Standing}
 use Rattle.sound.specs.Evaluated.{Live, GoodPlace, at-place, no-place}
 use Rattle.sound.proofs.Ruled.{block-there, block-kind, block-owner, block-bottom, block-called, stands}
 use Rattle.sound.proofs.StoresBlocks.{module-plain, module-fits}
-use Rattle.sound.proofs.EvaluationBasics.{need-true, on-need, location-area, location-word}
+use Rattle.sound.proofs.EvaluationBasics.{on-need, location-area, location-word}
 use Rattle.sound.proofs.ValueKnown.{known-type}
 use Rattle.sound.proofs.EvaluationPlaces.{whole-part, lives-housed}
 use Rattle.sound.proofs.ValueBlocks.{variable-in, words-value, words-var, variable-type}

@@ -23,11 +23,11 @@ use Rattle.machine.specs.Calls.{standing, frame, topAfter, pushed, popped, retu
 use Rattle.machine.specs.Processes.{refers, created, started}
 use Rattle.machine.specs.Statements.{Effect, effect, perform}
 use Rattle.machine.specs.Step.{done, settled, inRange, answers, performs, proceeds, exists, turn, step}
-use Rattle.sound.proofs.RowsOutcomes.{g-test, g-need, g-pick}
 use Rattle.sizes.proofs.Counting.{words-simple}
 use Rattle.sound.specs.Evaluated.{Live, Pushable, Performed}
 use Rattle.machine.specs.Values.{partOfBlock}
 use Rattle.machine.specs.Rule.{isCreated, owns, lives}
+use Rattle.machine.proofs.Outcomes.{g-test, g-need, g-pick}
 use Rattle.verdict.specs.Accepted.{Accepted}
 use Rattle.sound.specs.Claims.{PlaceLaws}
 use Rattle.sound.specs.Ruled.{Framed, Chained, called, Ruled}

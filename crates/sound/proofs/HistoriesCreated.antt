@@ -22,12 +22,12 @@ use Rattle.machine.specs.Processes.{onProcess, onReference, started}
 use Rattle.machine.specs.Statements.{Effect, effect, goTo, goOn, wait, moved, doLocalCall, free, doProcessCall, doStart, perform}
 use Rattle.machine.specs.Step.{done, settled, inRange, answers, performs, proceeds, exists, turn, step}
 use Rattle.machine.proofs.Tests.{range-low, range-high}
+use Rattle.machine.proofs.Outcomes.{g-then, g-test, g-need, g-where, g-pick, g-place, g-module}
 use Rattle.sound.specs.Conditions.{ownBlock}
 use Rattle.sound.specs.Carried.{Inside, nextArm, lastEnd, Carries, skips, assigns, callsLocal, callsProcess, starts, enters, passes, leaves, again, writes, returnsLocal, returnsProcess}
 use Rattle.sound.specs.Rows.{next}
 use Rattle.sound.specs.Histories.{Seen, finally, Threaded, Every}
 use Rattle.sound.specs.Created.{isCreate, createsOne, creations, NewProcess, ProcessesKept, Creating, same, creates, CreatedKept}
-use Rattle.sound.proofs.RowsOutcomes.{g-test, g-then, g-need, g-where, g-pick, g-place, g-module}
 use Rattle.sound.proofs.RowsListed.{statement-listed}
 use Rattle.sound.proofs.RowsStatements.{Leaves, gives, Reports, went, waited, ended, failed, strays, reports}
 use Rattle.sound.proofs.HistoriesOperands.{place-fits, place-area, value-long}

@@ -26,7 +26,7 @@ use Rattle.machine.specs.Context.{Context}
 use Rattle.machine.specs.Variables.{belongs, offsetOf, fits}
 use Rattle.machine.specs.Operands.{simple, truth, given, deviceWord, unaryValue, ordered, integral, logical, binaryValue, placeAt, fieldPlace, elementPlace, moduleVariable, frameVariable, wholePlace, nodeOperand, operand}
 use Rattle.machine.proofs.Memories.{length-words}
-use Rattle.sound.proofs.RowsOutcomes.{g-test, g-need, g-where, g-pick, g-place, g-value, g-word, g-record, g-array}
+use Rattle.machine.proofs.Outcomes.{g-test, g-need, g-where, g-pick, g-place, g-value, g-word, g-record, g-array}
 use Rattle.sound.proofs.RowsNodes.{operand-is}
 
 pick-both : (a b : Bool) → pick a b false ≡ true → (a ≡ true) × (b ≡ true)

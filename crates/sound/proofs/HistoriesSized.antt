@@ -26,9 +26,9 @@ use Rattle.machine.specs.Step.{done, settled, inRange, answers, performs, proce
 use Rattle.machine.specs.Run.{begin}
 use Rattle.machine.proofs.Memories.{location-plus}
 use Rattle.machine.proofs.Tests.{range-high}
+use Rattle.machine.proofs.Outcomes.{g-then, g-test, g-need, g-where, g-pick, g-place, g-module}
 use Rattle.sound.specs.Carried.{Carries, skips, assigns, callsLocal, callsProcess, creates, starts, enters, passes, leaves, again, writes, returnsLocal, returnsProcess}
 use Rattle.sound.specs.Reached.{Sized, Kept}
-use Rattle.sound.proofs.RowsOutcomes.{g-test, g-then, g-need, g-where, g-pick, g-place, g-module}
 use Rattle.sound.proofs.RowsStatements.{gives, keeps, Reports, went, waited, ended, failed, strays, reports}
 use Rattle.sound.proofs.HistoriesOperands.{matching-words, device-word, place-fits, value-long}
 use Rattle.sound.proofs.HistoriesRecords.{refers-most}

@@ -2,7 +2,7 @@
 -- Assumes nothing.
 use Prim.Native.Nat.{ℕ, zero, suc, _+_, _-_, _≤_, _<_}
 use mathlib.Core.Path.{_≡_, refl, sym, ap, _∙_}
-use mathlib.Core.Bool.{Bool, true, false}
+use mathlib.Core.Bool.{true}
 use mathlib.Core.Logic.{_⊎_, inl, inr}
 use mathlib.Core.List.{List, [], _∷_}
 use native.Mathlib.Omega.{arith}
@@ -16,7 +16,7 @@ use Rattle.table.specs.Table.{Table}
 use Rattle.table.specs.Entries.{blockCount, blockKind, owner}
 use Rattle.machine.specs.Memory.{Memory, update, store}
 use Rattle.machine.specs.Layout.{location, recordAt, statusAt, moduleAt, statementAt, frameAt, topAt, worksAt, holderAt, depthAt, createdAt, failureAt, callerFrame, calledBlock}
-use Rattle.machine.specs.Outcomes.{Outcome, stuck, andThen, need, failWhere, placed, onPlace}
+use Rattle.machine.specs.Outcomes.{stuck, andThen, failWhere, placed, onPlace}
 use Rattle.machine.specs.Entries.{processType, typeAt, waits, Statement, skip, assign, localCall, processCall, create, start, opener, arm, endArms, write, blockEnd, noStatement}
 use Rattle.machine.specs.Variables.{frameWords}
 use Rattle.machine.specs.Context.{Context, contextOf}
@@ -25,6 +25,7 @@ use Rattle.machine.specs.Processes.{onModule, onProcess, refers, onReference, c
 use Rattle.machine.specs.Statements.{doLocalCall, doProcessCall, doStart, perform}
 use Rattle.machine.specs.Step.{Step, done, settled, inRange, performs, proceeds, exists, turn, step}
 use Rattle.machine.proofs.Memories.{update-other}
+use Rattle.machine.proofs.Outcomes.{need-holds, need-stuck}
 use Rattle.verdict.specs.Accepted.{Accepted}
 use Rattle.sound.specs.Ruled.{Ruled}
 use Rattle.sound.specs.InUse.{Created, innermost, caller}
@@ -47,29 +48,19 @@ use Rattle.sound.proofs.OpenCallsRecords.{Alike, alike, alike-record, a
 
 -- ---- what a statement that is not stuck has tested
 
-needed : {A : Type 0} (b : Bool) (o : Outcome A) → (need b o ≡ stuck → ⊥) → b ≡ true
-unfolding need
-needed true o h = refl
-needed false o h = absurd (h refl)
-
-need-stuck : {A : Type 0} (b : Bool) (o : Outcome A) → o ≡ stuck → need b o ≡ stuck
-unfolding need
-need-stuck true o e = e
-need-stuck false o e = refl
-
 module _ (T : Table) (m page : Memory) (x : Context) where
   local-there : (q c d : ℕ) → (doLocalCall T m page x q c d ≡ stuck → ⊥) → q < blockCount T
   unfolding doLocalCall
-  local-there q c d h = procedure-there T q (needed _ _ h)
+  local-there q c d h = procedure-there T q (need-holds _ _ h)
 
   called-there : (a q c d i τ μ : ℕ) → Selects T m page x a i τ → typeAt T τ ≡ processType μ → (doProcessCall T m page x a q c d ≡ stuck → ⊥) → q < blockCount T
   unfolding doProcessCall onProcess onPlace andThen placed onModule
-  called-there a q c d i τ μ e t h = procedure-there T q (both-l _ _ (needed _ _ (rw (e, t) at h)))
+  called-there a q c d i τ μ e t h = procedure-there T q (both-l _ _ (need-holds _ _ (rw (e, t) at h)))
 
   start-refers : (a c d i τ μ : ℕ) → Selects T m page x a i τ → typeAt T τ ≡ processType μ → (m i ≡ 0 → ⊥) → (doStart T m page x a c d ≡ stuck → ⊥)
       → refers m μ (m i) ≡ true
   unfolding doStart onProcess onPlace onReference andThen placed onModule failWhere
-  start-refers a c d i τ μ e t n h = needed _ _ (rw (e, t, ne-eqb (m i) 0 n) at h)
+  start-refers a c d i τ μ e t n h = need-holds _ _ (rw (e, t, ne-eqb (m i) 0 n) at h)
 
 module _ (T : Table) (m page : Memory) (p : ℕ) where
   either-true : (r : (m (holderAt (m (worksAt p))) ≡ 0) ⊎ (m (holderAt (m (worksAt p))) ≡ p)) → either (eqb (m (holderAt (m (worksAt p)))) 0) (eqb (m (holderAt (m (worksAt p)))) p) ≡ true

@@ -16,9 +16,10 @@ use Rattle.machine.specs.Entries.{Statement, opener, processCall}
 use Rattle.machine.specs.Context.{contextOf}
 use Rattle.machine.specs.Statements.{Effect, effect, perform}
 use Rattle.machine.specs.Step.{Step, done, settled, inRange, answers, performs, proceeds, exists, turn, step}
+use Rattle.machine.proofs.Outcomes.{g-need}
 use Rattle.sound.specs.InUse.{Created}
 use Rattle.sound.specs.Rows.{next, Ready, Waiting, unstarted, held, waiting, Ended, before, now, Absent, Failing, CarriedOut, Row, row0, row1, row2, row3, row16, Blocked, atGuards, Changes, failureMark, nothing, givesUp, endedBefore, endsNow, absent, carried, Answers, RowsHold, SameFailure}
-use Rattle.sound.proofs.RowsOutcomes.{g-need, Near, same, n-need, n-pick-true, n-pick-false, near-is}
+use Rattle.sound.proofs.RowsOutcomes.{Near, same, n-need, n-pick-true, n-pick-false, near-is}
 use Rattle.sound.proofs.RowsStatements.{Leaves, gives, keeps, Reports, went, waited, ended, failed, strays, reports, statement-near, carries-near, Gives, waits-near, ends-near}
 use Rattle.sound.proofs.Ruled.{created-in, in-created}
 

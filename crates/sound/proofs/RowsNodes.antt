@@ -25,8 +25,9 @@ use Rattle.machine.specs.Entries.{Node, constant, whole, field, element, retrie
 use Rattle.machine.specs.Context.{Context}
 use Rattle.machine.specs.Variables.{belongs, offsetOf}
 use Rattle.machine.specs.Operands.{simple, truth, given, unaryValue, ordered, integral, logical, binaryValue, outside, placeAt, fieldPlace, elementPlace, moduleVariable, frameVariable, wholePlace, nodeOperand, operandAt, operand}
+use Rattle.machine.proofs.Outcomes.{g-need, g-where, g-pick, g-place, g-value, g-word, g-record, g-array}
 use Rattle.sound.specs.Conditions.{OutOfRange, Exact, sum, difference, product, quotient, remainder, Divides, byDivide, byModulus, Yields, NodeFails, result, inverted, divisor, index, device, transferred, inRecord, inArray, inIndex, inVariable, inUnary, inTransfer, inLeft, inRight}
-use Rattle.sound.proofs.RowsOutcomes.{g-need, g-where, g-pick, g-place, g-value, g-word, g-record, g-array, Near, same, lost, n-need, n-where, n-place-fails, n-place, n-value-fails, n-value, n-word-fails, n-word, n-array}
+use Rattle.sound.proofs.RowsOutcomes.{Near, same, lost, n-need, n-where, n-place-fails, n-place, n-value-fails, n-value, n-word-fails, n-word, n-array}
 
 -- a failure of this outcome meets F
 pub data Met {A : Type 0} (F : ℕ → Type 0) : Outcome A → Type 0 where

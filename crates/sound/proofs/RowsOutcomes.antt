@@ -1,4 +1,4 @@
--- How outcomes are joined, in two ways: what holds of every outcome of the parts holds of the whole; and an outcome that is R or stuck. Assumes nothing.
+-- How outcomes are joined, where each is R or stuck. Assumes nothing.
 use Prim.Native.Nat.{ℕ}
 use mathlib.Core.Path.{_≡_, refl, sym}
 use mathlib.Core.Bool.{Bool, true, false}
@@ -7,85 +7,8 @@ use lib.Dec.{eqb}
 use Rattle.basics.specs.Choice.{pick}
 use Rattle.basics.proofs.Bools.{no-true}
 use Rattle.machine.specs.Outcomes.{Outcome, ok, fail, stuck, andThen, need, failWhere, Operand, place, value, placed, valued, onPlace, onValue, wordOf, onWord}
-use Rattle.machine.specs.Entries.{TypeEntry, integer, boolean, character, recordType, arrayType, processType, noType}
-use Rattle.machine.specs.Operands.{onRecord, onArray}
-use Rattle.machine.specs.Processes.{onModule}
-
--- ---- what holds of the parts
-
-module _ {B : Type 0} (P : Outcome B → Type 0) (lost : P stuck) where
-  pub g-then : {A : Type 0} (o : Outcome A) (k : A → Outcome B) → ((f : ℕ) → o ≡ fail f → P (fail f)) → ((y : A) → o ≡ ok y → P (k y)) → P (andThen o k)
-  unfolding andThen
-  g-then (ok y) k f g = g y refl
-  g-then (fail n) k f g = f n refl
-  g-then stuck k f g = lost
-
-  pub g-test : (b : Bool) (o : Outcome B) → (b ≡ true → P o) → P (need b o)
-  unfolding need
-  g-test true o h = h refl
-  g-test false o h = lost
-
-  pub g-need : (b : Bool) (o : Outcome B) → P o → P (need b o)
-  g-need b o h = g-test b o (λ e. h)
-
-  pub g-where : (b : Bool) (n : ℕ) (o : Outcome B) → (b ≡ true → P (fail n)) → (b ≡ false → P o) → P (failWhere b n o)
-  unfolding failWhere
-  g-where true n o f g = f refl
-  g-where false n o f g = g refl
-
-  pub g-pick : (b : Bool) (o u : Outcome B) → (b ≡ true → P o) → (b ≡ false → P u) → P (pick b o u)
-  g-pick true o u f g = f refl
-  g-pick false o u f g = g refl
-
-  pub g-place : (o : Outcome Operand) (k : ℕ → ℕ → Outcome B) → ((f : ℕ) → o ≡ fail f → P (fail f)) → ((a τ : ℕ) → o ≡ ok (place a τ) → P (k a τ)) → P (onPlace o k)
-  unfolding onPlace andThen placed
-  g-place (ok (place a τ)) k f g = g a τ refl
-  g-place (ok (value τ ws)) k f g = lost
-  g-place (fail n) k f g = f n refl
-  g-place stuck k f g = lost
-
-  pub g-value : (o : Outcome Operand) (k : ℕ → List ℕ → Outcome B) → ((f : ℕ) → o ≡ fail f → P (fail f)) → ((τ : ℕ) (ws : List ℕ) → o ≡ ok (value τ ws) → P (k τ ws)) → P (onValue o k)
-  unfolding onValue andThen valued
-  g-value (ok (place a τ)) k f g = lost
-  g-value (ok (value τ ws)) k f g = g τ ws refl
-  g-value (fail n) k f g = f n refl
-  g-value stuck k f g = lost
-
-  pub g-word : (o : Outcome Operand) (τ : ℕ) (k : ℕ → Outcome B) → ((f : ℕ) → o ≡ fail f → P (fail f)) → ((σ : ℕ) (ws : List ℕ) → o ≡ ok (value σ ws) → P (k (wordOf ws))) → P (onWord o τ k)
-  unfolding onWord
-  g-word o τ k f g = g-value o _ f (λ σ ws e. g-need (eqb σ τ) _ (g σ ws e))
-
-  pub g-record : (E : TypeEntry) (k : ℕ → ℕ → Outcome B) → ((a b : ℕ) → P (k a b)) → P (onRecord E k)
-  unfolding onRecord
-  g-record integer k g = lost
-  g-record boolean k g = lost
-  g-record character k g = lost
-  g-record (recordType a b) k g = g a b
-  g-record (arrayType ι σ low high) k g = lost
-  g-record (processType μ) k g = lost
-  g-record noType k g = lost
-
-  pub g-array : (E : TypeEntry) (k : ℕ → ℕ → ℕ → ℕ → Outcome B) → ((ι σ low high : ℕ) → E ≡ arrayType ι σ low high → P (k ι σ low high)) → P (onArray E k)
-  unfolding onArray
-  g-array integer k g = lost
-  g-array boolean k g = lost
-  g-array character k g = lost
-  g-array (recordType a b) k g = lost
-  g-array (arrayType ι σ low high) k g = g ι σ low high refl
-  g-array (processType μ) k g = lost
-  g-array noType k g = lost
-
-  pub g-module : (E : TypeEntry) (k : ℕ → Outcome B) → ((μ : ℕ) → E ≡ processType μ → P (k μ)) → P (onModule E k)
-  unfolding onModule
-  g-module integer k g = lost
-  g-module boolean k g = lost
-  g-module character k g = lost
-  g-module (recordType a b) k g = lost
-  g-module (arrayType ι σ low high) k g = lost
-  g-module (processType μ) k g = g μ refl
-  g-module noType k g = lost
-
--- ---- an outcome that is R or stuck
+use Rattle.machine.specs.Entries.{TypeEntry, arrayType}
+use Rattle.machine.specs.Operands.{onArray}
 
 pub data Near {A : Type 0} (R : Outcome A) : Outcome A → Type 0 where
   same : {o : Outcome A} → o ≡ R → Near R o

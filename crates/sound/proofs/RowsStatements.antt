@@ -20,9 +20,10 @@ use Rattle.machine.specs.Operands.{operand}
 use Rattle.machine.specs.Calls.{valueArgument, varArgument, argument, argumentWords, arguments, topAfter, pushed, call, returns, return}
 use Rattle.machine.specs.Processes.{onModule, onProcess, onReference}
 use Rattle.machine.specs.Statements.{Effect, effect, onArms, onOpener, Choice, enters, skips, endOf, goTo, goOn, wait, moved, doAssign, doLocalCall, free, doProcessCall, doCreate, doStart, choose, chosen, doOpener, doEnd, doWrite, doBlockEnd, perform}
+use Rattle.machine.proofs.Outcomes.{g-test, g-need, g-where, g-place, g-value, g-word, g-module}
 use Rattle.sound.specs.Conditions.{Selects, Yields, NodeFails, ArgumentsFail, thisArgument, laterArgument, GuardsFail, thisGuard, laterGuard, GuardsFalse, none, more, AreaFull, Serves, StatementFails, target, source, localArgument, localArea, callee, calleeEmpty, callArgument, callArea, createe, limit, startee, starteeEmpty, startedTwice, startArgument, guard, address, datum, location, StatementWaits, blocked, busy, StatementEnds, ownBlock}
 use Rattle.sound.specs.Carried.{Inside, nextArm, lastEnd, LeadsTo, theEnd, pastArm, Passes, noMore, byValue, byVariable, Passed, FirstTrue, thisArm, laterArm, Carries, assigns, callsLocal, callsProcess, creates, starts, passes, leaves, again, writes, returnsLocal, returnsProcess}
-use Rattle.sound.proofs.RowsOutcomes.{g-test, g-need, g-where, g-place, g-value, g-word, g-module, Near, same, lost, n-fails, n-then, n-need, n-pass, n-where, n-place-fails, n-place, n-value-fails, n-value, n-word-fails, n-word, n-pick-true, n-pick-false}
+use Rattle.sound.proofs.RowsOutcomes.{Near, same, lost, n-fails, n-then, n-need, n-pass, n-where, n-place-fails, n-place, n-value-fails, n-value, n-word-fails, n-word, n-pick-true, n-pick-false}
 use Rattle.sound.proofs.RowsNodes.{node-fails, fails-near}
 
 -- ---- arms

@@ -17,9 +17,9 @@ use Rattle.numbers.proofs.BlockPromise.{vars-there}
 use Rattle.machine.specs.Variables.{varWords, firstWords, frameWords, offsetOf}
 use Rattle.machine.specs.Values.{part, partOfVariable, partOfBlock}
 use Rattle.machine.proofs.Tests.{some-i, some-case}
-use Rattle.machine.proofs.Memories.{within-yes}
+use Rattle.machine.proofs.Memories.{within-yes, within-from}
 use Rattle.verdict.specs.Accepted.{Accepted}
-use Rattle.sound.proofs.ValueParts.{within-true, part-in}
+use Rattle.sound.proofs.ValueParts.{part-in}
 
 -- ---- where variables begin
 
@@ -71,11 +71,11 @@ unfolding partOfBlock partOfVariable
 in-block T b τ k e =
     some-case (vars T b) _ e (λ i l h.
     let v = variable T b i in
-    let w = within-true (offsetOf T b v) (varWords T v) k (both-l _ _ h) in
+    let w = within-from (offsetOf T b v) (varWords T v) k (both-l _ _ h) in
     let p = both-r _ _ h in
     cases (eqb (varMode T v) 2)
     (λ q. no-true (rw q at p))
-    (λ q. record { i = i; there = l; mode = eqb-false (varMode T v) 2 q; from = w .0; part = rw q at p }))
+    (λ q. record { i = i; there = l; mode = eqb-false (varMode T v) 2 q; from = w; part = rw q at p }))
 
 pub block-i : (T : Table) (b τ k : ℕ) (p : InBlock T b τ k) → k < offsetOf T b (variable T b (p .i)) + varWords T (variable T b (p .i)) → partOfBlock T b τ k ≡ true
 unfolding partOfBlock partOfVariable

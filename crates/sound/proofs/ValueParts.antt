@@ -5,7 +5,7 @@ use mathlib.Core.Bool.{true}
 use native.Mathlib.Omega.{arith}
 use native.Mathlib.Nat.{add-assoc, add-zero, div-add-mod', mod-eq-of-lt, div-eq-of-lt, mul-add-div-right, mul-add-mod-self-right}
 use lib.Dec.{eqb, ltb}
-use borrow.Author.Tests.{eqb-true, eq-eqb, leb-true, ltb-true, ltb-false, lt-ltb}
+use borrow.Author.Tests.{eqb-true, eq-eqb, ltb-true, ltb-false, lt-ltb}
 use Rattle.basics.specs.Choice.{cases, both, either}
 use Rattle.basics.specs.Course.{upto, course}
 use Rattle.basics.proofs.Bools.{no-true, both-l, both-r, both-i, either-l, either-r, either-case}
@@ -15,19 +15,15 @@ use Rattle.table.specs.Entries.{typeCount, typeKind, typeQ, fieldType}
 use Rattle.types.specs.Match.{elements}
 use Rattle.sizes.specs.Sizes.{wordsOf, offsetIn}
 use Rattle.sizes.proofs.Counting.{field-in, element-in}
-use Rattle.machine.specs.Memory.{Memory, within}
+use Rattle.machine.specs.Memory.{Memory}
 use Rattle.machine.specs.Entries.{recordType, arrayType, typeAt}
 use Rattle.machine.specs.Values.{partIn, partAt, nowhere, part, holds}
 use Rattle.machine.proofs.Tests.{some-i, some-case}
-use Rattle.machine.proofs.Memories.{within-yes}
+use Rattle.machine.proofs.Memories.{within-yes, within-from}
 use Rattle.machine.proofs.Entries.{at-integer, at-boolean, at-character, at-record, at-array, at-process}
 use Rattle.verdict.specs.Accepted.{Accepted}
 use Rattle.sound.proofs.ValueTypes.{fieldAt, Form, is-integer, is-boolean, is-character, is-record, is-array, is-process, is-none, form, lower-field, lower-element, some-words, record-kind, array-kind}
 use Rattle.sound.proofs.Values.{field-holds, element-holds}
-
-pub within-true : (a n j : ℕ) → within a n j ≡ true → (a ≤ j) × (j < a + n)
-unfolding within
-within-true a n j e = (leb-true a j (both-l _ _ e), ltb-true j (a + n) (both-r _ _ e))
 
 -- a part of type τ begins at word k of a variable of type σ
 pub data Part (T : Table) (τ : ℕ) : ℕ → ℕ → Type 0 where
@@ -98,7 +94,7 @@ module _ (T : Table) (τ : ℕ) where
   tells-step σ ih (is-record q) k e =
       part-cases T τ σ k e (itself σ k) (λ x.
       some-case (typeQ T σ) _ (rw (at-record T σ q) at x) (λ i l y.
-      let w = within-true (offsetIn T σ i) (wordsOf T (fieldAt T σ i)) k (both-l _ _ y) in
+      let w = within-from (offsetIn T σ i) (wordsOf T (fieldAt T σ i)) k (both-l _ _ y) in
       let p = lower-part T τ σ k (fieldAt T σ i) (k - offsetIn T σ i) (both-r _ _ y) in
       part-of σ (offsetIn T σ i + (k - offsetIn T σ i)) k (omega arith)
       (in-field σ i (k - offsetIn T σ i) q l (ih (fieldAt T σ i) (p .0) (k - offsetIn T σ i) (p .1)))))

@@ -1,17 +1,16 @@
--- The editions of tables, by the width w of their fields: how many rows a section has, and what the arrays of an edition have room for
--- (01: one byte; 02, j: a word). Assumes nothing.
+-- What the arrays of an edition have room for, by the width w of its fields (01: one byte; 02, j: a word). Assumes nothing.
 use Prim.Native.Nat.{ℕ, _+_, _*_}
 use lib.Dec.{eqb}
 use Rattle.basics.specs.Choice.{pick}
 
--- every section of an accepted table has fewer rows
+-- rows of a section: fewer than this
 abbrev pub rowsBelow : ℕ → ℕ
 rowsBelow w = pick (eqb w 1) 256 4096
 
--- numbers of types, the three standard ones among them
+-- types: as many at most, the three standard ones among them
 abbrev pub typesBelow : ℕ → ℕ
 typesBelow w = 2 + rowsBelow w
 
--- words of the slots: 32 for each
+-- words of the slots: 32 for each of these
 abbrev pub slotWords : ℕ → ℕ
 slotWords w = typesBelow w * 32
