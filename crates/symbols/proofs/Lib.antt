@@ -1,0 +1,9 @@
+pub mod Classes
+pub mod Going
+pub mod Lengths
+pub mod Specials
+pub mod Keys
+pub mod Seven
+pub mod Scanning
+pub mod Comments
+pub mod Telling

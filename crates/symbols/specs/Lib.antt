@@ -1,0 +1,7 @@
+pub mod Characters
+pub mod Runs
+pub mod Constants
+pub mod Vocabulary
+pub mod Symbols
+pub mod Answer
+pub mod Cursors
