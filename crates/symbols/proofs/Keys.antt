@@ -122,15 +122,15 @@ pack-same : (s t : List ℕ) → fine s ≡ true → fine t ≡ true → same s 
 unfolding same packed both fine
 pack-same [] [] f g = refl
 pack-same [] (y ∷ t) f g =
-    let e = fine-mod y (both-l _ _ g) in let h = fine-byte y (both-l _ _ g) in
+    let e = fine-mod y (both-l (fineByte y) (fine t) g) in let h = fine-byte y (both-l (fineByte y) (fine t) g) in
     sym (ne-eqb 0 (packed t * 128 + y % 128) (λ z. omega arith))
 pack-same (x ∷ s) [] f g =
-    let e = fine-mod x (both-l _ _ f) in let h = fine-byte x (both-l _ _ f) in
+    let e = fine-mod x (both-l (fineByte x) (fine s) f) in let h = fine-byte x (both-l (fineByte x) (fine s) f) in
     sym (ne-eqb (packed s * 128 + x % 128) 0 (λ z. omega arith))
 pack-same (x ∷ s) (y ∷ t) f g =
-    let i = pack-same s t (both-r _ _ f) (both-r _ _ g) in
-    let ex = fine-mod x (both-l _ _ f) in let hx = fine-byte x (both-l _ _ f) in
-    let ey = fine-mod y (both-l _ _ g) in let hy = fine-byte y (both-l _ _ g) in
+    let i = pack-same s t (both-r (fineByte x) (fine s) f) (both-r (fineByte y) (fine t) g) in
+    let ex = fine-mod x (both-l (fineByte x) (fine s) f) in let hx = fine-byte x (both-l (fineByte x) (fine s) f) in
+    let ey = fine-mod y (both-l (fineByte y) (fine t) g) in let hy = fine-byte y (both-l (fineByte y) (fine t) g) in
     cases (eqb x y)
     (λ q. let u = eqb-true x y q in
         cases (eqb (packed s) (packed t))
@@ -221,10 +221,13 @@ module _ (text : List ℕ) (from to : ℕ) (g : from ≤ length text) (e : to �
       let b : to - from ≤ run inName (drop from text) = omega (arith, name-run (drop from text)) in
       q ∙ rw (p, among-packed (map small (take (to - from) (drop from text))) wordSymbols (name-fine (to - from) (drop from text) b) refl)
 
-  pub word-within : (to - from ≤ 9) → (from ≤ to) × ((to ≤ from + 9) × (to ≤ length text))
-  word-within h = (omega arith, (omega arith, omega (arith, name-within, length-drop from text)))
+  pub word-nine : to - from ≤ 9 → to ≤ from + 9
+  word-nine h = omega arith
 
-pub ruleset words = (word-long, word-key, word-within, needs)
+  pub word-inside : to ≤ length text
+  word-inside = omega (arith, name-within, length-drop from text)
+
+pub ruleset words = (word-long, word-key, word-nine, word-inside, needs)
 
 -- ---- where a name ends
 

@@ -7,3 +7,4 @@ pub mod Seven
 pub mod Scanning
 pub mod Comments
 pub mod Telling
+pub mod Answering

@@ -86,16 +86,16 @@ unfolding symbolsFrom
 comment-next line place [] n = absurd (n comment-nil)
 comment-next line place (x ∷ l) n = rw (ne-eqb (commentLength (x ∷ l)) 0 n) (rest (line + newLines (commentLength (x ∷ l)) (x ∷ l)) place (commentLength (x ∷ l)) x l n)
 
-pub symbol-of : (line place : ℕ) (l : List ℕ) → Symbol
+unfoldable pub symbol-of : (line place : ℕ) (l : List ℕ) → Symbol
 symbol-of line place l = record { kind = symbolKind l; line = line; place = place; size = symbolLength l }
 
-symbol-next : (line place : ℕ) (l : List ℕ) → commentLength l ≡ 0 → (symbolLength l ≡ 0 → ⊥) → symbolsFrom line place 0 l ≡ more (symbol-of line place l) (symbolsFrom line (place + symbolLength l) 0 (drop (symbolLength l) l))
+pub symbol-next : (line place : ℕ) (l : List ℕ) → commentLength l ≡ 0 → (symbolLength l ≡ 0 → ⊥) → symbolsFrom line place 0 l ≡ more (symbol-of line place l) (symbolsFrom line (place + symbolLength l) 0 (drop (symbolLength l) l))
 unfolding symbolsFrom symbol-of
 symbol-next line place [] c n = absurd (n symbol-nil)
 symbol-next line place (x ∷ l) c n =
     rw (eq-eqb (commentLength (x ∷ l)) 0 c, ne-eqb (symbolLength (x ∷ l)) 0 n, rest line place (symbolLength (x ∷ l)) x l n)
 
-no-symbol : (line place : ℕ) (text : List ℕ) → place < length text → commentLength (drop place text) ≡ 0 → symbolLength (drop place text) ≡ 0 → symbolsFrom line place 0 (drop place text) ≡ fault
+pub no-symbol : (line place : ℕ) (text : List ℕ) → place < length text → commentLength (drop place text) ≡ 0 → symbolLength (drop place text) ≡ 0 → symbolsFrom line place 0 (drop place text) ≡ fault
 unfolding symbolsFrom
 no-symbol line place text h c e = rw (drop-cons text place 0 h) (rw (eq-eqb (commentLength (getD text place 0 ∷ drop (suc place) text)) 0 (rw (drop-cons text place 0 h) at c), eq-eqb (symbolLength (getD text place 0 ∷ drop (suc place) text)) 0 (rw (drop-cons text place 0 h) at e)))
 

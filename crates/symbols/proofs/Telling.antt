@@ -74,11 +74,8 @@ module _ (text : List ℕ) (at : ℕ) (h : at < length text) where
 
   module _ (r : Bool) (l : r ≡ letter (getD text at 0)) (end : ℕ) (f : end ≡ at + symbolLength (drop at text)) where
     module _ (e : r ≡ true) where
-      name-is : end ≡ at + nameLength (drop at text)
+      pub name-is : end ≡ at + nameLength (drop at text)
       name-is = omega (arith, symbol-name (drop at text) (rw (drop-cons text at 0 h) (name-some (getD text at 0) (drop (suc at) text) (rw l at e))))
-
-      pub kind-asks : (at ≤ length text) × (end ≡ at + nameLength (drop at text))
-      kind-asks = (omega arith, name-is)
 
       module _ (w : Bool) (g : w ≡ isWord (take (end - at) (drop at text))) where
         word-is : w ≡ isWord (take (nameLength (drop at text)) (drop at text))
@@ -118,4 +115,4 @@ module _ (text : List ℕ) (at : ℕ) (h : at < length text) where
         pub kind-special : d ≡ false → (getD text at 0 ≡ 35 → ⊥) → 1 ≡ symbolKind (drop at text)
         kind-special q k = rw (kind-at, ← l, e, ne-eqb (getD text at 0) 39 b, ← g, q, ne-eqb (getD text at 0) 35 k)
 
-pub ruleset kinds = (kind-asks, kind-word, kind-name, kind-character, kind-string, kind-digit, kind-octal, kind-special, needs)
+pub ruleset kinds = (name-is, kind-word, kind-name, kind-character, kind-string, kind-digit, kind-octal, kind-special, needs)

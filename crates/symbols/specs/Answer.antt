@@ -17,6 +17,13 @@ symbolBytes s =
     s .size % 256 ∷ s .size / 256 ∷
     []
 
+-- there is room for them, and each number is a word
+pub record Room (out : List ℕ) (at line place size : ℕ) : Type 0 where
+  pub room : at + 7 ≤ length out
+  pub line-word : line < 65536
+  pub place-word : place < 65536
+  pub size-word : size < 65536
+
 unfoldable pub allBytes : List Symbol → List ℕ
 allBytes [] = []
 allBytes (s ∷ l) = symbolBytes s ++ allBytes l

@@ -18,7 +18,8 @@ ghost use Prim.Native.Nat.{_+_, _*_, _/_, _%_, _<_, _≤_};
 ghost use lib.ListN.{length, drop};
 ghost use lib.Seq.{sets};
 ghost use Rattle.symbols.specs.Symbols.{symbolLength, symbolKind, symbolsOf};
-ghost use Rattle.symbols.specs.Answer.{symbolBytes, answerTo, bytesOf, laid, Found, symbolsAnswer, symbolsOut};
+ghost use Rattle.symbols.specs.Cursors.{Begins};
+ghost use Rattle.symbols.specs.Answer.{symbolBytes, Room, answerTo, bytesOf, laid, Found, symbolsAnswer, symbolsOut};
 
 // Where the symbol that begins here ends: here, where none begins.
 fn symbol_end(text: &[u8], at: usize) -> usize
@@ -42,7 +43,7 @@ fn symbol_end(text: &[u8], at: usize) -> usize
 
 // 1 special, 2 word, 3 name, 4 numeral, 5 character, 6 string.
 fn symbol_kind(text: &[u8], at: usize, end: usize) -> u8
-    requires { ⌜ (at < length (now text)) × ((at < end) × (end ≡ at + symbolLength (drop at (now text)))) ⌝ }
+    requires { ⌜ Begins (now text) at end ⌝ }
     ensures { λ r. ⌜ r ≡ symbolKind (drop at (now (text .entry))) ⌝ }
 {
     let b = text[at];
@@ -82,7 +83,7 @@ fn high_byte(w: usize) -> u8
 
 // The seven bytes of a symbol.
 fn put_symbol(out: &mut [u8], at: usize, kind: u8, line: usize, place: usize, size: usize)
-    requires { ⌜ (at + 7 ≤ length (now out)) × ((line < 65536) × ((place < 65536) × (size < 65536))) ⌝ }
+    requires { ⌜ Room (now out) at line place size ⌝ }
     ensures { λ r. ⌜ now (out .exit) ≡ sets (now (out .entry)) at (symbolBytes (record { kind = kind; line = line; place = place; size = size })) ⌝ }
 {
     out[at] = kind;
