@@ -61,7 +61,7 @@ fn past_comment(text: &[u8], at: usize, line: usize) -> Cursor
 }
 
 // Past all comments.
-pub fn passed(text: &[u8], place: usize, line: usize) -> Cursor
+fn past_comments(text: &[u8], place: usize, line: usize) -> Cursor
     requires { ⌜ Stands (now text) place line ⌝ }
     ensures { λ r. ⌜ PassesTo (now (text .entry)) place line (r .place) (r .line) ⌝ }
 {
@@ -76,4 +76,22 @@ pub fn passed(text: &[u8], place: usize, line: usize) -> Cursor
         n = c.line;
     }
     Cursor { place: at, line: n }
+}
+
+// Moves a cursor past all comments.
+fn pass(text: &[u8], c: &mut Cursor)
+    requires { ⌜ Stands (now text) (now c .place) (now c .line) ⌝ }
+    ensures { λ _. ⌜ PassesTo (now (text .entry)) (now (c .entry) .place) (now (c .entry) .line) (now (c .exit) .place) (now (c .exit) .line) ⌝ }
+{
+    *c = past_comments(text, c.place, c.line);
+}
+
+// A cursor that is made here, lent and handed back: its callers are spared a reference.
+pub fn passed(text: &[u8], place: usize, line: usize) -> Cursor
+    requires { ⌜ Stands (now text) place line ⌝ }
+    ensures { λ r. ⌜ PassesTo (now (text .entry)) place line (r .place) (r .line) ⌝ }
+{
+    let mut c = Cursor { place, line };
+    pass(text, &mut c);
+    c
 }
