@@ -26,34 +26,18 @@ pub keys-are : keys ≡ map packed wordSymbols
 unfolding packed wordSymbols
 keys-are = refl
 
--- ---- the search among the numbers
+-- ---- the number is one of these, or none
 
-pub record Seeking (k i : ℕ) : Type 0 where
-  pub upto : i ≤ 25
-  pub is : oneOf k (drop i keys) ≡ oneOf k keys
+pub key-is : (k x : ℕ) → k ≡ x → oneOf x keys ≡ true → true ≡ oneOf k (map packed wordSymbols)
+key-is k x e q = rw (← keys-are, e) (sym q)
 
-one-at : (l : List ℕ) (k i : ℕ) → i < length l → oneOf k (drop i l) ≡ either (eqb k (getD l i 0)) (oneOf k (drop (i + 1) l))
-unfolding oneOf
-one-at l k i h = rw (add-one i, drop-cons l i 0 h)
+pub key-none : (k : ℕ) → (k ≡ 1652577 → ⊥) → (k ≡ 32685996385 → ⊥) → (k ≡ 29749801698 → ⊥) → (k ≡ 31381501923 → ⊥) → (k ≡ 3501677181283 → ⊥) → (k ≡ 27340111075 → ⊥) → (k ≡ 14308 → ⊥) → (k ≡ 213710437 → ⊥) → (k ≡ 1652581 → ⊥) → (k ≡ 13161 → ⊥) → (k ≡ 1652717 → ⊥) → (k ≡ 1914862 → ⊥) → (k ≡ 13167 → ⊥) → (k ≡ 14703 → ⊥) → (k ≡ 7342511327257819504 → ⊥) → (k ≡ 509754040121712 → ⊥) → (k ≡ 3466809897714 → ⊥) → (k ≡ 236615155 → ⊥) → (k ≡ 27321202803 → ⊥) → (k ≡ 31379192435 → ⊥) → (k ≡ 213662964 → ⊥) → (k ≡ 1782006 → ⊥) → (k ≡ 1880310 → ⊥) → (k ≡ 232354935 → ⊥) → (k ≡ 27340207223 → ⊥) → false ≡ oneOf k (map packed wordSymbols)
+unfolding oneOf either
+key-none k n0 n1 n2 n3 n4 n5 n6 n7 n8 n9 n10 n11 n12 n13 n14 n15 n16 n17 n18 n19 n20 n21 n22 n23 n24 =
+    rw (← keys-are)
+    (rw (ne-eqb k 1652577 n0, ne-eqb k 32685996385 n1, ne-eqb k 29749801698 n2, ne-eqb k 31381501923 n3, ne-eqb k 3501677181283 n4, ne-eqb k 27340111075 n5, ne-eqb k 14308 n6, ne-eqb k 213710437 n7, ne-eqb k 1652581 n8, ne-eqb k 13161 n9, ne-eqb k 1652717 n10, ne-eqb k 1914862 n11, ne-eqb k 13167 n12, ne-eqb k 14703 n13, ne-eqb k 7342511327257819504 n14, ne-eqb k 509754040121712 n15, ne-eqb k 3466809897714 n16, ne-eqb k 236615155 n17, ne-eqb k 27321202803 n18, ne-eqb k 31379192435 n19, ne-eqb k 213662964 n20, ne-eqb k 1782006 n21, ne-eqb k 1880310 n22, ne-eqb k 232354935 n23, ne-eqb k 27340207223 n24))
 
-module _ (k : ℕ) where
-  pub seek-none : Seeking k 0
-  seek-none = record { upto = omega arith; is = refl }
-
-  module _ (i : ℕ) (s : Seeking k i) where
-    pub seek-more : i < 25 → (k ≡ getD keys i 0 → ⊥) → Seeking k (i + 1)
-    unfolding either
-    seek-more h n = record { upto = omega arith; is = sym (one-at keys k i h ∙ rw (ne-eqb k (getD keys i 0) n)) ∙ s .is }
-
-    pub seek-found : i < 25 → k ≡ getD keys i 0 → true ≡ oneOf k (map packed wordSymbols)
-    unfolding either
-    seek-found h e = rw (← keys-are) (sym (sym (s .is) ∙ one-at keys k i h ∙ rw (eq-eqb k (getD keys i 0) e)))
-
-    pub seek-end : 25 ≤ i → false ≡ oneOf k (map packed wordSymbols)
-    unfolding oneOf
-    seek-end h = let e : i ≡ 25 = omega (arith, s .upto) in rw (← keys-are) (rw e at s .is)
-
-pub ruleset seeks = (seek-none, seek-more, seek-found, seek-end, needs)
+pub ruleset keyed = (key-is, key-none)
 
 -- ---- the number of a name, from its end
 

@@ -58,24 +58,38 @@ fn key(text: &[u8], from: usize, to: usize) -> u64
     k
 }
 
-// The word symbols, in the order of 3.2.
-const KEYS: [u64; 25] = [
-    1652577, 32685996385, 29749801698, 31381501923, 3501677181283, 27340111075, 14308, 213710437, 1652581, 13161,
-    1652717, 1914862, 13167, 14703, 7342511327257819504, 509754040121712, 3466809897714, 236615155, 27321202803,
-    31379192435, 213662964, 1782006, 1880310, 232354935, 27340207223,
-];
-
+// The word symbols of 3.2, and mod, as numbers.
 fn is_key(k: u64) -> bool
     ensures { λ r. ⌜ r ≡ oneOf k (map packed wordSymbols) ⌝ }
 {
-    let mut i = 0;
-    while i < 25 {
-        if k == KEYS[i] {
-            return true;
-        }
-        i += 1;
+    match k {
+        1652577 => true, // and
+        32685996385 => true, // array
+        29749801698 => true, // begin
+        31381501923 => true, // const
+        3501677181283 => true, // create
+        27340111075 => true, // cycle
+        14308 => true, // do
+        213710437 => true, // else
+        1652581 => true, // end
+        13161 => true, // if
+        1652717 => true, // mod
+        1914862 => true, // not
+        13167 => true, // of
+        14703 => true, // or
+        7342511327257819504 => true, // procedure
+        509754040121712 => true, // process
+        3466809897714 => true, // record
+        236615155 => true, // skip
+        27321202803 => true, // space
+        31379192435 => true, // start
+        213662964 => true, // type
+        1782006 => true, // val
+        1880310 => true, // var
+        232354935 => true, // when
+        27340207223 => true, // while
+        _ => false,
     }
-    false
 }
 
 // Whether a name is a word symbol.
