@@ -50,11 +50,12 @@ fn past_comment(text: &[u8], at: usize, line: usize) -> Cursor
     if b == b'"' {
         let c = past_characters(text, at + 1, line);
         let end = c.place;
-        if end < text.len() {
-            let closing = text[end];
-            if closing == b'"' {
-                return Cursor { place: end + 1, line: c.line };
-            }
+        if text.len() <= end {
+            return Cursor { place: at, line };
+        }
+        let closing = text[end];
+        if closing == b'"' {
+            return Cursor { place: end + 1, line: c.line };
         }
     }
     Cursor { place: at, line }

@@ -38,19 +38,19 @@ add-past-characters c = search needs
 past-characters-requires : tie.Need-past-characters-requires
 past-characters-requires c κs = search needs
 
--- src/cursor.rt:54:27
-shared-slice-read-closing : tie.Need-shared-slice-read-closing
-shared-slice-read-closing c = search needs
-
--- src/cursor.rt:56:40
-add-t19 : tie.Need-add-t19
-add-t19 c = search needs
-
--- src/cursor.rt:56:17
+-- src/cursor.rt:54:13
 returns-3 : tie.Need-returns-3
 returns-3 c = search comments
 
--- src/cursor.rt:39:1
+-- src/cursor.rt:56:23
+shared-slice-read-closing : tie.Need-shared-slice-read-closing
+shared-slice-read-closing c = search needs
+
+-- src/cursor.rt:58:36
+add-t18 : tie.Need-add-t18
+add-t18 c = search needs
+
+-- src/cursor.rt:58:13
 returns-4 : tie.Need-returns-4
 returns-4 c = search comments
 
@@ -74,9 +74,9 @@ past-comment-spec =
     returns-2
     add-past-characters
     past-characters-requires
-    shared-slice-read-closing
-    add-t19
     returns-3
+    shared-slice-read-closing
+    add-t18
     returns-4
     returns-5
     returns-6)
