@@ -133,8 +133,8 @@ few-bytes line at (suc k) (x ∷ l) = let i = few-bytes line (at + 1) k l in ome
 few-bytes line at zero (x ∷ l) =
     cases (eqb (commentLength (x ∷ l)) 0)
     (λ a. cases (eqb (symbolLength (x ∷ l)) 0)
-        (λ b. rw (a, b) (omega arith))
-        (λ b. rw (a, b) (few-more (length l) _ (symbolsFrom line (at + 1) (symbolLength (x ∷ l) - 1) l) (few-bytes line (at + 1) (symbolLength (x ∷ l) - 1) l))))
+    (λ b. rw (a, b) (omega arith))
+    (λ b. rw (a, b) (few-more (length l) _ (symbolsFrom line (at + 1) (symbolLength (x ∷ l) - 1) l) (few-bytes line (at + 1) (symbolLength (x ∷ l) - 1) l))))
     (λ a. rw a (grow _ (length l) (few-bytes (line + newLines (commentLength (x ∷ l)) (x ∷ l)) (at + 1) (commentLength (x ∷ l) - 1) l)))
 
 pub record Laid (text out₀ out : List ℕ) (to at line : ℕ) : Type 0 where

@@ -117,9 +117,9 @@ pack-same (x ∷ s) (y ∷ t) f g =
     let ey = fine-mod y (both-l (fineByte y) (fine t) g) in let hy = fine-byte y (both-l (fineByte y) (fine t) g) in
     cases (eqb x y)
     (λ q. let u = eqb-true x y q in
-        cases (eqb (packed s) (packed t))
-        (λ z. let v = eqb-true (packed s) (packed t) z in rw (q, i, z, eq-eqb (packed s * 128 + x % 128) (packed t * 128 + y % 128) (omega arith)))
-        (λ z. rw (q, i, z, ne-eqb (packed s * 128 + x % 128) (packed t * 128 + y % 128) (λ o. eqb-false (packed s) (packed t) z (omega arith)))))
+    cases (eqb (packed s) (packed t))
+    (λ z. let v = eqb-true (packed s) (packed t) z in rw (q, i, z, eq-eqb (packed s * 128 + x % 128) (packed t * 128 + y % 128) (omega arith)))
+    (λ z. rw (q, i, z, ne-eqb (packed s * 128 + x % 128) (packed t * 128 + y % 128) (λ o. eqb-false (packed s) (packed t) z (omega arith)))))
     (λ q. rw (q, ne-eqb (packed s * 128 + x % 128) (packed t * 128 + y % 128) (λ o. eqb-false x y q (omega arith))))
 
 among-packed : (s : List ℕ) (ss : List (List ℕ)) → fine s ≡ true → allFine ss ≡ true → among s ss ≡ oneOf (packed s) (map packed ss)
@@ -139,13 +139,13 @@ unfolding inName letter digit small fineByte
 name-byte x e =
     cases (between 48 57 x)
     (λ d. let h = between-true 48 57 x d in
-        cases (between 65 90 x)
-        (λ u. let g = between-true 65 90 x u in absurd (omega arith))
-        (λ u. rw u (both-i _ _ (le-leb 1 x (omega arith)) (le-leb x 127 (omega arith)))))
+    cases (between 65 90 x)
+    (λ u. let g = between-true 65 90 x u in absurd (omega arith))
+    (λ u. rw u (both-i _ _ (le-leb 1 x (omega arith)) (le-leb x 127 (omega arith)))))
     (λ d. let l = either-l _ _ e d in
-        cases (between 65 90 x)
-        (λ u. let g = between-true 65 90 x u in rw u (both-i _ _ (le-leb 1 (x + 32) (omega arith)) (le-leb (x + 32) 127 (omega arith))))
-        (λ u. let g = between-true 97 122 x (either-l _ _ l u) in rw u (both-i _ _ (le-leb 1 x (omega arith)) (le-leb x 127 (omega arith)))))
+    cases (between 65 90 x)
+    (λ u. let g = between-true 65 90 x u in rw u (both-i _ _ (le-leb 1 (x + 32) (omega arith)) (le-leb (x + 32) 127 (omega arith))))
+    (λ u. let g = between-true 97 122 x (either-l _ _ l u) in rw u (both-i _ _ (le-leb 1 x (omega arith)) (le-leb x 127 (omega arith)))))
 
 name-fine : (n : ℕ) (l : List ℕ) → n ≤ run inName l → fine (map small (take n l)) ≡ true
 unfolding run fine

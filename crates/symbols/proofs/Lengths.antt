@@ -214,15 +214,17 @@ constant-length [] = omega arith
 constant-length (x ∷ l) =
     cases (eqb x 39)
     (λ a. cases (eqb (charactersLength 0 l) 0)
-        (λ b. rw (a, b) (omega arith))
-        (λ b. cases (eqb (getD l (charactersLength 0 l) 0) 39)
-            (λ c. rw (a, b, c)
-                (cases (ltb (charactersLength 0 l) (length l))
-                (λ h. let g = ltb-true (charactersLength 0 l) (length l) h in omega arith)
-                (λ h. let o = getD-past l (charactersLength 0 l) (ltb-false (charactersLength 0 l) (length l) h) in let q = eqb-true (getD l (charactersLength 0 l) 0) 39 c in absurd (omega arith))))
-            (λ c. rw (a, b, c) (omega arith))))
+    (λ b. rw (a, b) (omega arith))
+    (λ b. cases (eqb (getD l (charactersLength 0 l) 0) 39)
+    (λ c. rw (a, b, c)
+    (cases (ltb (charactersLength 0 l) (length l))
+    (λ h. let g = ltb-true (charactersLength 0 l) (length l) h in omega arith)
+    (λ h. let o = getD-past l (charactersLength 0 l) (ltb-false (charactersLength 0 l) (length l) h) in let q = eqb-true (getD l (charactersLength 0 l) 0) 39 c in absurd (omega arith))))
+    (λ c. rw (a, b, c) (omega arith))))
     (λ a. rw a (omega arith))
 
 pub ruleset numerals = (numeral-past, octal-none, octal-some, decimal-at, needs)
+
 pub ruleset escapes = (character-past, escape-none, escape-some, standing-one, standing-none, needs)
+
 pub ruleset constants = (constant-no, constant-empty, constant-closed, constant-open, constant-past, needs)

@@ -39,8 +39,8 @@ comment-length (x ∷ l) =
     cases (eqb x 10) (λ e. rw (a, e) (omega arith)) (λ b.
     cases (eqb x 34)
     (λ e. cases (eqb (getD l (run inComment l) 0) 34)
-        (λ q. rw (a, b, e, q) (let z = quote-within l q in omega arith))
-        (λ q. rw (a, b, e, q) (omega arith)))
+    (λ q. rw (a, b, e, q) (let z = quote-within l q in omega arith))
+    (λ q. rw (a, b, e, q) (omega arith)))
     (λ e. rw (a, b, e) (omega arith))))
 
 pub lines-few : (k : ℕ) (l : List ℕ) → newLines k l ≤ k

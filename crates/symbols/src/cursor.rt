@@ -42,10 +42,16 @@ fn past_comment(text: &[u8], at: usize, line: usize) -> Cursor
 {
     let b = text[at];
     if b == b' ' {
-        return Cursor { place: at + 1, line };
+        return Cursor {
+            place: at + 1,
+            line,
+        };
     }
     if b == b'\n' {
-        return Cursor { place: at + 1, line: line + 1 };
+        return Cursor {
+            place: at + 1,
+            line: line + 1,
+        };
     }
     if b == b'"' {
         let c = past_characters(text, at + 1, line);
@@ -55,7 +61,10 @@ fn past_comment(text: &[u8], at: usize, line: usize) -> Cursor
         }
         let closing = text[end];
         if closing == b'"' {
-            return Cursor { place: end + 1, line: c.line };
+            return Cursor {
+                place: end + 1,
+                line: c.line,
+            };
         }
     }
     Cursor { place: at, line }

@@ -3,6 +3,7 @@ mod characters;
 mod constants;
 mod cursor;
 mod vocabulary;
+
 use characters::is_digit;
 use characters::is_letter;
 use constants::character_end;
