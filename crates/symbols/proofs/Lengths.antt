@@ -110,7 +110,7 @@ characters-skip zero l h = omega arith
 characters-skip (suc k) [] h = absurd (not-suc-le-zero h)
 characters-skip (suc k) (x ∷ l) h = let i = characters-skip k l (omega arith) in omega arith
 
-characters-next : (l : List ℕ) → (characterLength l ≡ 0 → ⊥) → charactersLength 0 l ≡ characterLength l + charactersLength 0 (drop (characterLength l) l)
+pub characters-next : (l : List ℕ) → (characterLength l ≡ 0 → ⊥) → charactersLength 0 l ≡ characterLength l + charactersLength 0 (drop (characterLength l) l)
 unfolding charactersLength
 characters-next [] n = absurd (n character-nil)
 characters-next (x ∷ l) n =
@@ -120,7 +120,7 @@ characters-next (x ∷ l) n =
     let d : drop (characterLength (x ∷ l)) (x ∷ l) ≡ drop (characterLength (x ∷ l) - 1) l = ap (λ (k : ℕ). drop k (x ∷ l)) c in
     rw (ne-eqb (characterLength (x ∷ l)) 0 n, d) (omega arith)
 
-characters-stop : (l : List ℕ) → characterLength l ≡ 0 → charactersLength 0 l ≡ 0
+pub characters-stop : (l : List ℕ) → characterLength l ≡ 0 → charactersLength 0 l ≡ 0
 unfolding charactersLength
 characters-stop [] e = refl
 characters-stop (x ∷ l) e = rw (eq-eqb (characterLength (x ∷ l)) 0 e)

@@ -8,3 +8,4 @@ pub mod Scanning
 pub mod Comments
 pub mod Telling
 pub mod Answering
+pub mod Longest

@@ -17,11 +17,11 @@ use Rattle.symbols.specs.Constants.{numeralLength, characterLength, char
 use Rattle.symbols.specs.Vocabulary.{nameLength, specialSymbols, begins, longest, specialLength, isWord}
 use Rattle.symbols.specs.Symbols.{orElse, symbolLength, nameKind, constantKind, symbolKind}
 
-or-first : (a b : ℕ) → (a ≡ 0 → ⊥) → orElse a b ≡ a
+pub or-first : (a b : ℕ) → (a ≡ 0 → ⊥) → orElse a b ≡ a
 unfolding orElse
 or-first a b n = rw (ne-eqb a 0 n)
 
-or-second : (a b : ℕ) → a ≡ 0 → orElse a b ≡ b
+pub or-second : (a b : ℕ) → a ≡ 0 → orElse a b ≡ b
 unfolding orElse
 or-second a b e = rw (eq-eqb a 0 e)
 
@@ -56,11 +56,11 @@ unfolding nameLength
 name-some x l e z = let q : suc (run _ l) ≡ 0 = rw e at z in omega arith
 
 -- after an apostrophe only a constant begins
-constant-symbol : (l : List ℕ) → symbolLength (39 ∷ l) ≡ constantLength (39 ∷ l)
+pub constant-symbol : (l : List ℕ) → symbolLength (39 ∷ l) ≡ constantLength (39 ∷ l)
 unfolding symbolLength orElse nameLength numeralLength run letter digit between both either specialLength specialSymbols longest begins
 constant-symbol l = cases (eqb (constantLength (39 ∷ l)) 0) (λ e. rw e (sym (eqb-true _ _ e))) (λ e. rw e)
 
-constant-size : (l : List ℕ) → (constantLength (39 ∷ l) ≡ 0 → ⊥) → constantLength (39 ∷ l) ≡ charactersLength 0 l + 2
+pub constant-size : (l : List ℕ) → (constantLength (39 ∷ l) ≡ 0 → ⊥) → constantLength (39 ∷ l) ≡ charactersLength 0 l + 2
 unfolding constantLength
 constant-size l n =
     cases (eqb (charactersLength 0 l) 0)

@@ -5,3 +5,4 @@ pub mod Vocabulary
 pub mod Symbols
 pub mod Answer
 pub mod Cursors
+pub mod Grammar

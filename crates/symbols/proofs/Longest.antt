@@ -1,0 +1,337 @@
+-- Where a symbol is found it is one of its kind, and none that begins there is longer. Assumes nothing.
+use Prim.Native.Nat.{ℕ, zero, suc, _+_, _-_, _<_, _≤_, max}
+use mathlib.Core.Path.{_≡_, refl, sym, ap, _∙_, subst}
+use mathlib.Core.Bool.{Bool, true, false}
+use mathlib.Core.List.{List, [], _∷_, _++_, append-assoc}
+use native.Mathlib.Nat.{not-suc-le-zero}
+use native.Mathlib.Omega.{arith}
+use lib.ListN.{length, getD, take, drop, length-append}
+use lib.Seq.{drop-at, getD-at}
+use lib.Dec.{eqb, leb}
+use borrow.Author.Tests.{eq-eqb, ne-eqb, eqb-true, eqb-false, leb-true, leb-false}
+use Rattle.basics.specs.Choice.{pick, cases, both, either, between}
+use Rattle.basics.proofs.Bools.{both-l, both-r, both-i, both-false-l, both-false-r, between-true, no-true}
+use Rattle.symbols.specs.Characters.{letter, digit, octalDigit, inName, standing, graphic}
+use Rattle.symbols.specs.Runs.{run}
+use Rattle.symbols.specs.Constants.{signed, numeralLength, characterLength, charactersLength, constantLength}
+use Rattle.symbols.specs.Vocabulary.{nameLength, specialSymbols, begins, longest, specialLength, same, among, isWord}
+use Rattle.symbols.specs.Symbols.{orElse, symbolLength, nameKind, constantKind, symbolKind}
+use Rattle.symbols.proofs.Lengths.{characters-next}
+use Rattle.symbols.proofs.Telling.{or-first, or-second, symbol-name, constant-symbol}
+use Rattle.symbols.specs.Grammar.{all, Name, name, Numeral, decimal, octal, Character, plain, coded, Characters, none, more, IsSymbol, special, word, plainName, numeral, character, string}
+
+-- ---- runs of a class
+
+pub all-front : (f : ℕ → Bool) (l : List ℕ) → all f (take (run f l) l) ≡ true
+unfolding all run
+all-front f [] = refl
+all-front f (x ∷ l) = cases (f x) (λ e. rw e (both-i _ _ e (all-front f l))) (λ e. rw e)
+
+-- a run goes on after bytes of the class
+pub run-on : (f : ℕ → Bool) (s t : List ℕ) → all f s ≡ true → run f (s ++ t) ≡ length s + run f t
+unfolding all run
+run-on f [] t e = omega arith
+run-on f (x ∷ s) t e = let i = run-on f s t (both-r _ _ e) in rw (both-l _ _ e) (omega arith)
+
+-- ---- names
+
+name-longest : (s t : List ℕ) → Name s → length s ≤ nameLength (s ++ t)
+unfolding nameLength
+name-longest s t (name x r e q) = let i = run-on inName r t q in rw e (omega arith)
+
+name-found : (l : List ℕ) → (nameLength l ≡ 0 → ⊥) → Name (take (nameLength l) l)
+unfolding nameLength
+name-found [] n = absurd (n refl)
+name-found (x ∷ l) n = cases (letter x) (λ e. rw e (name x (take (run inName l) l) e (all-front inName l))) (λ e. absurd (n (rw e)))
+
+-- ---- numerals
+
+digit-sign : (x : ℕ) → digit x ≡ true → eqb x 35 ≡ false
+unfolding digit
+digit-sign x e = let b = between-true 48 57 x e in ne-eqb x 35 (λ q. omega arith)
+
+signed-some : (n : ℕ) → signed (suc n) ≡ suc (suc n)
+unfolding signed
+signed-some n = refl
+
+signed-zero : signed 0 ≡ 0
+unfolding signed
+signed-zero = refl
+
+-- a numeral's length, by what follows it
+decimal-is : (x : ℕ) (r t : List ℕ) → all digit (x ∷ r) ≡ true → numeralLength ((x ∷ r) ++ t) ≡ length (x ∷ r) + run digit t
+unfolding numeralLength all
+decimal-is x r t e = rw (digit-sign x (both-l (digit x) (all digit r) e)) (run-on digit (x ∷ r) t e)
+
+octal-view : (l : List ℕ) → numeralLength (35 ∷ l) ≡ signed (run octalDigit l)
+unfolding numeralLength
+octal-view l = refl
+
+octal-is : (x : ℕ) (r t : List ℕ) → all octalDigit (x ∷ r) ≡ true → numeralLength ((35 ∷ x ∷ r) ++ t) ≡ length (35 ∷ x ∷ r) + run octalDigit t
+octal-is x r t e =
+    let i = run-on octalDigit (x ∷ r) t e in
+    let j : run octalDigit (x ∷ (r ++ t)) ≡ suc (length r + run octalDigit t) = omega arith in
+    let k : suc (suc (length r + run octalDigit t)) ≡ length (35 ∷ x ∷ r) + run octalDigit t = omega arith in
+    octal-view (x ∷ (r ++ t)) ∙ ap signed j ∙ signed-some (length r + run octalDigit t) ∙ k
+
+numeral-longest : (s t : List ℕ) → Numeral s → length s ≤ numeralLength (s ++ t)
+numeral-longest s t (decimal x r e) = let i = decimal-is x r t e in omega arith
+numeral-longest s t (octal x r e) = let i = octal-is x r t e in omega arith
+
+-- where nothing after it belongs to a numeral, another text after it that is no better leaves it so
+numeral-stays : (s t u : List ℕ) → Numeral s → (run digit t ≡ 0 → run digit u ≡ 0) → (run octalDigit t ≡ 0 → run octalDigit u ≡ 0) → numeralLength (s ++ t) ≡ length s → numeralLength (s ++ u) ≡ length s
+numeral-stays s t u (decimal x r e) f g q = let i = decimal-is x r t e in let k = f (omega arith) in let j = decimal-is x r u e in omega arith
+numeral-stays s t u (octal x r e) f g q = let i = octal-is x r t e in let k = g (omega arith) in let j = octal-is x r u e in omega arith
+
+run-nil : (f : ℕ → Bool) → run f [] ≡ 0
+unfolding run
+run-nil f = refl
+
+run-one : (f : ℕ → Bool) (x n : ℕ) (l : List ℕ) → run f (x ∷ l) ≡ suc n → (f x ≡ true) × (run f l ≡ n)
+unfolding run
+run-one f x n l e = cases (f x) (λ q. (q, let z : suc (run f l) ≡ suc n = rw q at e in omega arith)) (λ q. let z : 0 ≡ suc n = rw q at e in absurd (omega arith))
+
+decimal-found : (x : ℕ) (l : List ℕ) → (run digit (x ∷ l) ≡ 0 → ⊥) → Numeral (take (run digit (x ∷ l)) (x ∷ l))
+decimal-found x l n = go (run digit (x ∷ l)) refl
+  where
+    go : (k : ℕ) → run digit (x ∷ l) ≡ k → Numeral (take (run digit (x ∷ l)) (x ∷ l))
+    go zero e = absurd (n e)
+    go (suc k) e = rw e (decimal x (take k l) (rw e at (all-front digit (x ∷ l))))
+
+octal-found : (x : ℕ) (l : List ℕ) → x ≡ 35 → (run octalDigit l ≡ 0 → ⊥) → Numeral (take (signed (run octalDigit l)) (x ∷ l))
+octal-found x l e n = go l n
+  where
+    go : (l : List ℕ) → (run octalDigit l ≡ 0 → ⊥) → Numeral (take (signed (run octalDigit l)) (x ∷ l))
+    go [] n = absurd (n (run-nil octalDigit))
+    go (y ∷ l) n = at-some y l (run octalDigit (y ∷ l)) refl n
+      where
+        at-some : (y : ℕ) (l : List ℕ) (k : ℕ) → run octalDigit (y ∷ l) ≡ k → (run octalDigit (y ∷ l) ≡ 0 → ⊥) → Numeral (take (signed (run octalDigit (y ∷ l))) (x ∷ y ∷ l))
+        at-some y l zero q n = absurd (n q)
+        at-some y l (suc k) q n = rw (q, signed-some k, e) (octal y (take k l) (rw q at (all-front octalDigit (y ∷ l))))
+
+numeral-found : (l : List ℕ) → (numeralLength l ≡ 0 → ⊥) → Numeral (take (numeralLength l) l)
+unfolding numeralLength
+numeral-found [] n = absurd (n refl)
+numeral-found (x ∷ l) n =
+    cases (eqb x 35)
+    (λ e. rw e (octal-found x l (eqb-true x 35 e) (λ z. n (rw (e, z) signed-zero))))
+    (λ e. rw e (decimal-found x l (λ z. n (rw e z))))
+
+-- ---- special symbols
+
+same-is : (s u : List ℕ) → same s u ≡ true → s ≡ u
+unfolding same
+same-is [] [] e = refl
+same-is [] (y ∷ u) e = no-true e
+same-is (x ∷ s) [] e = no-true e
+same-is (x ∷ s) (y ∷ u) e = let a = eqb-true x y (both-l _ _ e) in let b = same-is s u (both-r _ _ e) in cc
+
+same-self : (s : List ℕ) → same s s ≡ true
+unfolding same
+same-self [] = refl
+same-self (x ∷ s) = both-i _ _ (eq-eqb x x refl) (same-self s)
+
+begins-self : (s t : List ℕ) → begins s (s ++ t) ≡ true
+unfolding begins
+begins-self [] t = refl
+begins-self (x ∷ s) t = both-i _ _ (eq-eqb x x refl) (begins-self s t)
+
+begins-take : (s l : List ℕ) → begins s l ≡ true → take (length s) l ≡ s
+unfolding begins
+begins-take [] l e = refl
+begins-take (x ∷ s) [] e = no-true e
+begins-take (x ∷ s) (y ∷ l) e = let a = eqb-true x y (both-l _ _ e) in let b = begins-take s l (both-r _ _ e) in cc
+
+longest-of : (ss : List (List ℕ)) (s t : List ℕ) → among s ss ≡ true → length s ≤ longest ss (s ++ t)
+unfolding longest among either
+longest-of [] s t e = no-true e
+longest-of (u ∷ ss) s t e =
+    cases (same s u)
+    (λ q. let z : u ≡ s = sym (same-is s u q) in rw (z, begins-self s t) (omega arith))
+    (λ q. let i = longest-of ss s t (rw q at e) in omega arith)
+
+either-any : (a b : Bool) → b ≡ true → either a b ≡ true
+unfolding either
+either-any true b e = refl
+either-any false b e = e
+
+longest-found : (ss : List (List ℕ)) (l : List ℕ) → (longest ss l ≡ 0 → ⊥) → among (take (longest ss l) l) ss ≡ true
+unfolding longest among either
+longest-found [] l n = absurd (n refl)
+longest-found (u ∷ ss) l n =
+    cases (begins u l)
+    (λ b. cases (leb (longest ss l) (length u))
+        (λ h. let g = leb-true (longest ss l) (length u) h in let m : max (length u) (longest ss l) ≡ length u = omega arith in rw (b, m, begins-take u l b, same-self u))
+        (λ h. let g = leb-false (longest ss l) (length u) h in let m : max (length u) (longest ss l) ≡ longest ss l = omega arith in rw (b, m) (either-any (same (take (longest ss l) l) u) (among (take (longest ss l) l) ss) (longest-found ss l (λ z. omega arith)))))
+    (λ b. let m : max 0 (longest ss l) ≡ longest ss l = omega arith in rw (b, m) (either-any (same (take (longest ss l) l) u) (among (take (longest ss l) l) ss) (longest-found ss l (λ z. n (rw b (omega arith))))))
+
+-- ---- symbols of different sorts begin differently
+
+no-name : (x : ℕ) (l : List ℕ) → letter x ≡ false → nameLength (x ∷ l) ≡ 0
+unfolding nameLength
+no-name x l e = rw e
+
+no-numeral : (x : ℕ) (l : List ℕ) → digit x ≡ false → eqb x 35 ≡ false → numeralLength (x ∷ l) ≡ 0
+unfolding numeralLength run
+no-numeral x l e q = rw (q, e)
+
+no-constant : (x : ℕ) (l : List ℕ) → eqb x 39 ≡ false → constantLength (x ∷ l) ≡ 0
+unfolding constantLength
+no-constant x l e = rw e
+
+digit-letter : (x : ℕ) → digit x ≡ true → letter x ≡ false
+unfolding digit letter either
+digit-letter x e =
+    let b = between-true 48 57 x e in
+    cases (between 97 122 x)
+    (λ q. let c = between-true 97 122 x q in absurd (omega arith))
+    (λ q. cases (between 65 90 x) (λ r. let c = between-true 65 90 x r in absurd (omega arith)) (λ r. rw (q, r)))
+
+-- neither letter, digit, number sign nor apostrophe
+apart : List ℕ → Bool
+apart [] = false
+apart (x ∷ s) = pick (letter x) false (pick (digit x) false (pick (eqb x 35) false (pick (eqb x 39) false true)))
+
+allApart : List (List ℕ) → Bool
+allApart [] = true
+allApart (s ∷ ss) = both (apart s) (allApart ss)
+
+among-apart : (ss : List (List ℕ)) (s : List ℕ) → allApart ss ≡ true → among s ss ≡ true → apart s ≡ true
+unfolding among either allApart
+among-apart [] s a e = no-true e
+among-apart (u ∷ ss) s a e =
+    cases (same s u)
+    (λ q. rw (same-is s u q) (both-l (apart u) (allApart ss) a))
+    (λ q. among-apart ss s (both-r (apart u) (allApart ss) a) (rw q at e))
+
+signs-apart : allApart specialSymbols ≡ true
+unfolding specialSymbols allApart apart letter digit between both either
+signs-apart = refl
+
+special-apart : (s : List ℕ) → among s specialSymbols ≡ true → apart s ≡ true
+special-apart s e = among-apart specialSymbols s signs-apart e
+
+pub special-only : (x : ℕ) (l : List ℕ) → letter x ≡ false → digit x ≡ false → eqb x 35 ≡ false → eqb x 39 ≡ false → symbolLength (x ∷ l) ≡ specialLength (x ∷ l)
+unfolding symbolLength
+special-only x l a b c d = or-second (nameLength (x ∷ l)) _ (no-name x l a) ∙ or-second (numeralLength (x ∷ l)) _ (no-numeral x l b c) ∙ or-second (constantLength (x ∷ l)) _ (no-constant x l d)
+
+apart-special : (x : ℕ) (s t : List ℕ) → apart (x ∷ s) ≡ true → symbolLength (x ∷ (s ++ t)) ≡ specialLength (x ∷ (s ++ t))
+unfolding apart
+apart-special x s t e =
+    cases (letter x) (λ q. no-true (rw q at e)) (λ a.
+    cases (digit x) (λ q. no-true (rw (a, q) at e)) (λ b.
+    cases (eqb x 35) (λ q. no-true (rw (a, b, q) at e)) (λ c.
+    cases (eqb x 39) (λ q. no-true (rw (a, b, c, q) at e)) (λ d. special-only x (s ++ t) a b c d))))
+
+numeral-only : (x : ℕ) (l : List ℕ) → letter x ≡ false → (numeralLength (x ∷ l) ≡ 0 → ⊥) → symbolLength (x ∷ l) ≡ numeralLength (x ∷ l)
+unfolding symbolLength
+numeral-only x l a n = or-second (nameLength (x ∷ l)) _ (no-name x l a) ∙ or-first (numeralLength (x ∷ l)) _ n
+
+-- ---- character symbols
+
+numeral-some : (s : List ℕ) → Numeral s → (n : ℕ) × (length s ≡ suc n)
+numeral-some s (decimal x r e) = (length r, refl)
+numeral-some s (octal x r e) = (suc (length r), refl)
+
+-- a run that does not begin does not begin before an apostrophe, nor in a part
+quiet : (f : ℕ → Bool) → f 39 ≡ false → (t u : List ℕ) → run f t ≡ 0 → run f (t ++ 39 ∷ u) ≡ 0
+unfolding run
+quiet f q [] u e = rw q
+quiet f q (y ∷ t) u e = cases (f y) (λ z. let o : suc (run f t) ≡ 0 = rw z at e in absurd (omega arith)) (λ z. rw z)
+
+quiet-part : (f : ℕ → Bool) (m : ℕ) (t : List ℕ) → run f t ≡ 0 → run f (take m t) ≡ 0
+unfolding run
+quiet-part f zero t e = refl
+quiet-part f (suc m) [] e = refl
+quiet-part f (suc m) (y ∷ t) e = cases (f y) (λ z. let o : suc (run f t) ≡ 0 = rw z at e in absurd (omega arith)) (λ z. rw z)
+
+at-not-standing : standing 64 ≡ false
+unfolding standing
+at-not-standing = refl
+
+apostrophe-digit : digit 39 ≡ false
+unfolding digit between both
+apostrophe-digit = refl
+
+apostrophe-octal : octalDigit 39 ≡ false
+unfolding octalDigit between both
+apostrophe-octal = refl
+
+sign-letter : letter 35 ≡ false
+unfolding letter between both either
+sign-letter = refl
+
+apostrophe-none : (u : List ℕ) → charactersLength 0 (39 ∷ u) ≡ 0
+unfolding charactersLength characterLength standing
+apostrophe-none u = refl
+
+standing-at : (x : ℕ) → standing x ≡ true → eqb x 64 ≡ false
+standing-at x e = cases (eqb x 64) (λ q. let z : x ≡ 64 = eqb-true x 64 q in no-true (sym at-not-standing ∙ rw z at e)) (λ q. q)
+
+character-is : (s t u : List ℕ) → Character s t → (characterLength (s ++ (t ++ 39 ∷ u)) ≡ length s) × ((length s ≡ 0) → ⊥)
+unfolding characterLength
+character-is s t u (plain x w e) = (rw (standing-at x e, e), λ z. omega arith)
+character-is s t u (coded r w n q) =
+    let k = numeral-some r n in
+    let i = numeral-stays r t (t ++ 39 ∷ u) n (quiet digit apostrophe-digit t u) (quiet octalDigit apostrophe-octal t u) q in
+    (rw (i, k .1, signed-some (k .0)), λ z. omega arith)
+
+characters-is : (n : ℕ) (s u : List ℕ) → Characters n s → charactersLength 0 (s ++ 39 ∷ u) ≡ length s
+characters-is n s u none = apostrophe-none u
+characters-is n s u (more m r t c cs) =
+    let i = characters-is m t u cs in
+    let k = character-is r t u c in
+    let j = characters-next (r ++ (t ++ 39 ∷ u)) (λ z. k .1 (sym (k .0) ∙ z)) in
+    let d : drop (characterLength (r ++ (t ++ 39 ∷ u))) (r ++ (t ++ 39 ∷ u)) ≡ t ++ 39 ∷ u = ap (λ (m : ℕ). drop m (r ++ (t ++ 39 ∷ u))) (k .0) ∙ drop-at r (t ++ 39 ∷ u) (length r) refl in
+    let j′ : charactersLength 0 (r ++ (t ++ 39 ∷ u)) ≡ characterLength (r ++ (t ++ 39 ∷ u)) + charactersLength 0 (t ++ 39 ∷ u) = rw d at j in
+    rw (append-assoc r t (39 ∷ u)) (omega (arith, length-append r t, k .0))
+
+characters-some : (n : ℕ) (s : List ℕ) → Characters (suc n) s → length s ≡ 0 → ⊥
+characters-some n s (more m r t c cs) z = character-is r t [] c .1 (omega (arith, length-append r t))
+
+-- a constant's length, by its character symbols
+constant-is : (n : ℕ) (s u : List ℕ) → Characters (suc n) s → constantLength (39 ∷ (s ++ 39 ∷ u)) ≡ length s + 2
+unfolding constantLength
+constant-is n s u c =
+    let i = characters-is (suc n) s u c in
+    let g : getD (s ++ 39 ∷ u) (charactersLength 0 (s ++ 39 ∷ u)) 0 ≡ 39 = ap (λ (m : ℕ). getD (s ++ 39 ∷ u) m 0) i ∙ getD-at s 39 u 0 (length s) refl in
+    rw (ne-eqb (charactersLength 0 (s ++ 39 ∷ u)) 0 (λ z. characters-some n s c (sym i ∙ z)), eq-eqb (getD (s ++ 39 ∷ u) (charactersLength 0 (s ++ 39 ∷ u)) 0) 39 g) (omega arith)
+
+constant-longest : (n : ℕ) (s t : List ℕ) → Characters (suc n) s → length (39 ∷ (s ++ 39 ∷ [])) ≤ symbolLength ((39 ∷ (s ++ 39 ∷ [])) ++ t)
+constant-longest n s t c =
+    let e : (s ++ 39 ∷ []) ++ t ≡ s ++ 39 ∷ t = append-assoc s (39 ∷ []) t in
+    let a = constant-symbol (s ++ 39 ∷ t) in
+    let b = constant-is n s t c in
+    rw e (omega (arith, length-append s (39 ∷ [])))
+
+-- ---- THE THEOREM: no symbol that begins at a place is longer than the one found there
+
+name-any : (s t : List ℕ) → Name s → length s ≤ symbolLength (s ++ t)
+name-any s t (name x r e q) =
+    let i = name-longest (x ∷ r) t (name x r e q) in
+    let j = symbol-name ((x ∷ r) ++ t) (λ z. omega arith) in
+    omega arith
+
+numeral-any : (s t : List ℕ) → Numeral s → length s ≤ symbolLength (s ++ t)
+unfolding all
+numeral-any s t (decimal x r e) =
+    let i = numeral-longest (x ∷ r) t (decimal x r e) in
+    let j = numeral-only x (r ++ t) (digit-letter x (both-l (digit x) (all digit r) e)) (λ z. omega arith) in
+    omega arith
+numeral-any s t (octal x r e) =
+    let i = numeral-longest (35 ∷ x ∷ r) t (octal x r e) in
+    let j = numeral-only 35 (x ∷ (r ++ t)) sign-letter (λ z. omega arith) in
+    omega arith
+
+special-any : (s t : List ℕ) → among s specialSymbols ≡ true → apart s ≡ true → length s ≤ symbolLength (s ++ t)
+unfolding specialLength
+special-any [] t e a = omega arith
+special-any (x ∷ s) t e a = let i = longest-of specialSymbols (x ∷ s) t e in rw (apart-special x s t a) i
+
+pub no-longer : (k : ℕ) (s t : List ℕ) → IsSymbol k s → length s ≤ symbolLength (s ++ t)
+no-longer k s t (special r e) = special-any s t e (special-apart s e)
+no-longer k s t (word r n e) = name-any s t n
+no-longer k s t (plainName r n e) = name-any s t n
+no-longer k s t (numeral r n) = numeral-any s t n
+no-longer k s t (character r c) = constant-longest 0 r t c
+no-longer k s t (string n r c) = constant-longest (suc n) r t c
