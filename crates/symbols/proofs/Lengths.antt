@@ -125,7 +125,7 @@ unfolding charactersLength
 characters-stop [] e = refl
 characters-stop (x ∷ l) e = rw (eq-eqb (characterLength (x ∷ l)) 0 e)
 
-characters-length : (k : ℕ) (l : List ℕ) → charactersLength k l ≤ length l
+pub characters-length : (k : ℕ) (l : List ℕ) → charactersLength k l ≤ length l
 unfolding charactersLength
 characters-length k [] = omega arith
 characters-length (suc k) (x ∷ l) = let i = characters-length k l in omega arith

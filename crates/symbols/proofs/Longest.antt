@@ -2,11 +2,11 @@
 use Prim.Native.Nat.{ℕ, zero, suc, _+_, _-_, _<_, _≤_, max}
 use mathlib.Core.Path.{_≡_, refl, sym, ap, _∙_, subst}
 use mathlib.Core.Bool.{Bool, true, false}
-use mathlib.Core.List.{List, [], _∷_, _++_, append-assoc}
+use mathlib.Core.List.{List, [], _∷_, _++_, append-assoc, append-nil}
 use native.Mathlib.Nat.{not-suc-le-zero}
 use native.Mathlib.Omega.{arith}
-use lib.ListN.{length, getD, take, drop, length-append}
-use lib.Seq.{drop-at, getD-at}
+use lib.ListN.{length, getD, take, drop, length-append, length-drop, take-append-drop}
+use lib.Seq.{drop-at, getD-at, length-take-le, take-add, take-suc}
 use lib.Dec.{eqb, leb}
 use borrow.Author.Tests.{eq-eqb, ne-eqb, eqb-true, eqb-false, leb-true, leb-false}
 use Rattle.basics.specs.Choice.{pick, cases, both, either, between}
@@ -16,8 +16,9 @@ use Rattle.symbols.specs.Runs.{run}
 use Rattle.symbols.specs.Constants.{signed, numeralLength, characterLength, charactersLength, constantLength}
 use Rattle.symbols.specs.Vocabulary.{nameLength, specialSymbols, begins, longest, specialLength, same, among, isWord}
 use Rattle.symbols.specs.Symbols.{orElse, symbolLength, nameKind, constantKind, symbolKind}
-use Rattle.symbols.proofs.Lengths.{characters-next}
-use Rattle.symbols.proofs.Telling.{or-first, or-second, symbol-name, constant-symbol}
+use Rattle.symbols.proofs.Lengths.{getD-past, characters-next, characters-stop, numeral-length as numeral-within, character-length, characters-length}
+use Rattle.symbols.proofs.Telling.{or-first, or-second, symbol-name, name-some, constant-symbol, constant-size}
+use Rattle.symbols.proofs.Scanning.{symbol-nil}
 use Rattle.symbols.specs.Grammar.{all, Name, name, Numeral, decimal, octal, Character, plain, coded, Characters, none, more, IsSymbol, special, word, plainName, numeral, character, string}
 
 -- ---- runs of a class
@@ -335,3 +336,111 @@ no-longer k s t (plainName r n e) = name-any s t n
 no-longer k s t (numeral r n) = numeral-any s t n
 no-longer k s t (character r c) = constant-longest 0 r t c
 no-longer k s t (string n r c) = constant-longest (suc n) r t c
+
+-- ---- what is found
+
+signed-size : (n : ℕ) → (signed n ≡ 0 → ⊥) → (n ≡ 0 → ⊥) × (signed n ≡ suc n)
+unfolding signed
+signed-size zero n = absurd (n refl)
+signed-size (suc k) n = (λ z. omega arith, refl)
+
+part-numeral : (l : List ℕ) (m : ℕ) → (numeralLength l ≡ 0 → ⊥) → Character (64 ∷ take (numeralLength l) l) (take m (drop (numeralLength l) l))
+part-numeral l m n =
+    let s : List ℕ = take (numeralLength l) l in
+    let u : List ℕ = drop (numeralLength l) l in
+    let k : length s ≡ numeralLength l = length-take-le (numeralLength l) l (numeral-within l) in
+    let w : numeralLength (s ++ u) ≡ length s = rw (take-append-drop (numeralLength l) l) (sym k) in
+    coded s (take m u) (numeral-found l n) (numeral-stays s u (take m u) (numeral-found l n) (quiet-part digit m u) (quiet-part octalDigit m u) w)
+
+character-found : (l : List ℕ) (m : ℕ) → (characterLength l ≡ 0 → ⊥) → Character (take (characterLength l) l) (take m (drop (characterLength l) l))
+unfolding characterLength
+character-found [] m n = absurd (n refl)
+character-found (x ∷ l) m n =
+    cases (eqb x 64)
+    (λ e. let k = signed-size (numeralLength l) (λ z. n (rw e z)) in rw (e, k .1, eqb-true x 64 e) (part-numeral l m (k .0)))
+    (λ e. cases (standing x) (λ q. rw (e, q) (plain x _ q)) (λ q. absurd (n (rw (e, q)))))
+
+characters-found : (f : ℕ) (l : List ℕ) → length l ≤ f → (n : ℕ) × Characters n (take (charactersLength 0 l) l)
+characters-found zero l h = (0, let b = character-length l in rw (characters-stop l (omega arith)) none)
+characters-found (suc f) l h =
+    cases (eqb (characterLength l) 0)
+    (λ e. (0, rw (characters-stop l (eqb-true (characterLength l) 0 e)) none))
+    (λ e.
+        let z : characterLength l ≡ 0 → ⊥ = eqb-false (characterLength l) 0 e in
+        let i = characters-found f (drop (characterLength l) l) (omega (arith, length-drop (characterLength l) l)) in
+        (suc (i .0), rw (characters-next l z, take-add (characterLength l) (charactersLength 0 (drop (characterLength l) l)) l) (more (i .0) _ _ (character-found l (charactersLength 0 (drop (characterLength l) l)) z) (i .1))))
+
+one-found : (l : List ℕ) → (characterLength l ≡ 0 → ⊥) → charactersLength 0 l ≡ characterLength l → Characters 1 (take (charactersLength 0 l) l)
+one-found l n e = rw e (subst (λ (u : List ℕ). Characters 1 u) (append-nil (take (characterLength l) l)) (more 0 _ [] (character-found l 0 n) none))
+
+none-empty : (n : ℕ) (u : List ℕ) → Characters n u → n ≡ 0 → length u ≡ 0
+none-empty n u none z = refl
+none-empty n u (more m s t c cs) z = absurd (omega arith)
+
+more-found : (l : List ℕ) → (characterLength l ≡ 0 → ⊥) → (charactersLength 0 l ≡ characterLength l → ⊥) → (n : ℕ) × Characters (suc (suc n)) (take (charactersLength 0 l) l)
+more-found l z d = go (characters-found (length l) (drop (characterLength l) l) (omega (arith, length-drop (characterLength l) l)) .0) (characters-found (length l) (drop (characterLength l) l) (omega (arith, length-drop (characterLength l) l)) .1)
+  where
+    go : (n : ℕ) → Characters n (take (charactersLength 0 (drop (characterLength l) l)) (drop (characterLength l) l)) → (n : ℕ) × Characters (suc (suc n)) (take (charactersLength 0 l) l)
+    go zero c =
+        let i = characters-next l z in
+        let k = length-take-le (charactersLength 0 (drop (characterLength l) l)) (drop (characterLength l) l) (characters-length 0 (drop (characterLength l) l)) in
+        let j = none-empty 0 _ c refl in
+        absurd (d (omega arith))
+    go (suc n) c = (n, rw (characters-next l z, take-add (characterLength l) (charactersLength 0 (drop (characterLength l) l)) l) (more (suc n) _ _ (character-found l (charactersLength 0 (drop (characterLength l) l)) z) c))
+
+constant-parts : (l : List ℕ) → (constantLength (39 ∷ l) ≡ 0 → ⊥) → (charactersLength 0 l ≡ 0 → ⊥) × (getD l (charactersLength 0 l) 0 ≡ 39)
+unfolding constantLength
+constant-parts l n =
+    cases (eqb (charactersLength 0 l) 0)
+    (λ e. absurd (n (rw e)))
+    (λ e. cases (eqb (getD l (charactersLength 0 l) 0) 39) (λ q. (eqb-false (charactersLength 0 l) 0 e, eqb-true (getD l (charactersLength 0 l) 0) 39 q)) (λ q. absurd (n (rw (e, q)))))
+
+constant-bytes : (l : List ℕ) → (constantLength (39 ∷ l) ≡ 0 → ⊥) → take (constantLength (39 ∷ l)) (39 ∷ l) ≡ 39 ∷ (take (charactersLength 0 l) l ++ 39 ∷ [])
+constant-bytes l n =
+    let p = constant-parts l n in
+    let s : constantLength (39 ∷ l) ≡ suc (suc (charactersLength 0 l)) = constant-size l n ∙ omega arith in
+    let h : charactersLength 0 l < length l = cases (leb (length l) (charactersLength 0 l)) (λ e. let o = getD-past l (charactersLength 0 l) (leb-true (length l) (charactersLength 0 l) e) in absurd (omega arith)) (λ e. let o = leb-false (length l) (charactersLength 0 l) e in omega arith) in
+    rw (s, take-suc l (charactersLength 0 l) 0 h, p .1)
+
+constant-found : (l : List ℕ) → (constantLength (39 ∷ l) ≡ 0 → ⊥) → IsSymbol (constantKind l) (take (constantLength (39 ∷ l)) (39 ∷ l))
+unfolding constantKind
+constant-found l n =
+    let p = constant-parts l n in
+    let z : characterLength l ≡ 0 → ⊥ = λ e. p .0 (characters-stop l e) in
+    cases (eqb (charactersLength 0 l) (characterLength l))
+    (λ e. rw (e, constant-bytes l n) (character _ (one-found l z (eqb-true (charactersLength 0 l) (characterLength l) e))))
+    (λ e. let m = more-found l z (eqb-false (charactersLength 0 l) (characterLength l) e) in rw (e, constant-bytes l n) (string (m .0) _ (m .1)))
+
+name-symbol : (l : List ℕ) → (nameLength l ≡ 0 → ⊥) → IsSymbol (nameKind l) (take (nameLength l) l)
+unfolding nameKind
+name-symbol l n = cases (isWord (take (nameLength l) l)) (λ e. rw e (word _ (name-found l n) e)) (λ e. rw e (plainName _ (name-found l n) e))
+
+same-symbol : (k j n m : ℕ) (l : List ℕ) → k ≡ j → n ≡ m → IsSymbol j (take m l) → IsSymbol k (take n l)
+same-symbol k j n m l p q s = rw (p, q) s
+
+-- ---- THE THEOREM: what is found is a symbol of its kind
+
+sign-only : (l : List ℕ) → symbolLength (35 ∷ l) ≡ numeralLength (35 ∷ l)
+unfolding symbolLength orElse nameLength letter between both either constantLength specialLength specialSymbols longest begins
+sign-only l = cases (eqb (numeralLength (35 ∷ l)) 0) (λ e. rw e (sym (eqb-true (numeralLength (35 ∷ l)) 0 e))) (λ e. rw e)
+
+digit-some : (x : ℕ) (l : List ℕ) → digit x ≡ true → numeralLength (x ∷ l) ≡ 0 → ⊥
+unfolding numeralLength run
+digit-some x l e z = let o : suc (run digit l) ≡ 0 = rw (digit-sign x e, e) at z in omega arith
+
+pub is-symbol : (l : List ℕ) → (symbolLength l ≡ 0 → ⊥) → IsSymbol (symbolKind l) (take (symbolLength l) l)
+unfolding symbolKind specialLength
+is-symbol [] n = absurd (n symbol-nil)
+is-symbol (x ∷ l) n =
+    cases (letter x)
+    (λ a. let s = symbol-name (x ∷ l) (name-some x l a) in same-symbol (symbolKind (x ∷ l)) (nameKind (x ∷ l)) (symbolLength (x ∷ l)) (nameLength (x ∷ l)) (x ∷ l) (rw a) s (name-symbol (x ∷ l) (name-some x l a)))
+    (λ a. cases (eqb x 39)
+        (λ b. let e : x ≡ 39 = eqb-true x 39 b in let s = constant-symbol l in
+            same-symbol (symbolKind (x ∷ l)) (constantKind l) (symbolLength (x ∷ l)) (constantLength (39 ∷ l)) (x ∷ l) (rw (a, b)) (rw e s) (rw e (constant-found l (λ z. n (rw e (s ∙ z))))))
+        (λ b. cases (digit x)
+            (λ c. let m = digit-some x l c in same-symbol (symbolKind (x ∷ l)) 4 (symbolLength (x ∷ l)) (numeralLength (x ∷ l)) (x ∷ l) (rw (a, b, c)) (numeral-only x l a m) (numeral _ (numeral-found (x ∷ l) m)))
+            (λ c. cases (eqb x 35)
+                (λ d. let e : x ≡ 35 = eqb-true x 35 d in let s : symbolLength (x ∷ l) ≡ numeralLength (x ∷ l) = rw e (sign-only l) in
+                    same-symbol (symbolKind (x ∷ l)) 4 (symbolLength (x ∷ l)) (numeralLength (x ∷ l)) (x ∷ l) (rw (a, b, c, d)) s (numeral _ (numeral-found (x ∷ l) (λ z. n (s ∙ z)))))
+                (λ d. let s = special-only x l a c d b in
+                    same-symbol (symbolKind (x ∷ l)) 1 (symbolLength (x ∷ l)) (specialLength (x ∷ l)) (x ∷ l) (rw (a, b, c, d)) s (special _ (longest-found specialSymbols (x ∷ l) (λ z. n (s ∙ z))))))))

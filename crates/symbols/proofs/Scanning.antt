@@ -58,11 +58,11 @@ unfolding symbolLength
 symbol-length l =
     or-length _ _ _ (name-length l) (or-length _ _ _ (numeral-length l) (or-length _ _ _ (constant-length l) (special-length l)))
 
-comment-nil : commentLength [] ≡ 0
+pub comment-nil : commentLength [] ≡ 0
 unfolding commentLength
 comment-nil = refl
 
-symbol-nil : symbolLength [] ≡ 0
+pub symbol-nil : symbolLength [] ≡ 0
 symbol-nil = let b = symbol-length [] in omega arith
 
 -- ---- what has begun is passed
@@ -81,7 +81,7 @@ rest line place (suc k) x l n =
     let d : suc k - 1 ≡ k = omega arith in
     rw d (skip line (place + 1) k l ∙ rw e)
 
-comment-next : (line place : ℕ) (l : List ℕ) → (commentLength l ≡ 0 → ⊥) → symbolsFrom line place 0 l ≡ symbolsFrom (line + newLines (commentLength l) l) (place + commentLength l) 0 (drop (commentLength l) l)
+pub comment-next : (line place : ℕ) (l : List ℕ) → (commentLength l ≡ 0 → ⊥) → symbolsFrom line place 0 l ≡ symbolsFrom (line + newLines (commentLength l) l) (place + commentLength l) 0 (drop (commentLength l) l)
 unfolding symbolsFrom
 comment-next line place [] n = absurd (n comment-nil)
 comment-next line place (x ∷ l) n = rw (ne-eqb (commentLength (x ∷ l)) 0 n) (rest (line + newLines (commentLength (x ∷ l)) (x ∷ l)) place (commentLength (x ∷ l)) x l n)

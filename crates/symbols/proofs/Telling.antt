@@ -51,7 +51,7 @@ pub ruleset ends = (end-name, end-numeral, end-constant, end-special, needs)
 
 -- ---- kinds
 
-name-some : (x : ℕ) (l : List ℕ) → letter x ≡ true → nameLength (x ∷ l) ≡ 0 → ⊥
+pub name-some : (x : ℕ) (l : List ℕ) → letter x ≡ true → nameLength (x ∷ l) ≡ 0 → ⊥
 unfolding nameLength
 name-some x l e z = let q : suc (run _ l) ≡ 0 = rw e at z in omega arith
 
