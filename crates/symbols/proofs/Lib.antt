@@ -9,3 +9,4 @@ pub mod Comments
 pub mod Telling
 pub mod Answering
 pub mod Longest
+pub mod Splitting

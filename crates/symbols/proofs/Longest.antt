@@ -120,7 +120,7 @@ numeral-found (x ∷ l) n =
 
 -- ---- special symbols
 
-same-is : (s u : List ℕ) → same s u ≡ true → s ≡ u
+pub same-is : (s u : List ℕ) → same s u ≡ true → s ≡ u
 unfolding same
 same-is [] [] e = refl
 same-is [] (y ∷ u) e = no-true e
@@ -180,7 +180,7 @@ no-constant : (x : ℕ) (l : List ℕ) → eqb x 39 ≡ false → constantLength
 unfolding constantLength
 no-constant x l e = rw e
 
-digit-letter : (x : ℕ) → digit x ≡ true → letter x ≡ false
+pub digit-letter : (x : ℕ) → digit x ≡ true → letter x ≡ false
 unfolding digit letter either
 digit-letter x e =
     let b = between-true 48 57 x e in
@@ -269,7 +269,7 @@ apostrophe-none u = refl
 standing-at : (x : ℕ) → standing x ≡ true → eqb x 64 ≡ false
 standing-at x e = cases (eqb x 64) (λ q. let z : x ≡ 64 = eqb-true x 64 q in no-true (sym at-not-standing ∙ rw z at e)) (λ q. q)
 
-character-is : (s t u : List ℕ) → Character s t → (characterLength (s ++ (t ++ 39 ∷ u)) ≡ length s) × ((length s ≡ 0) → ⊥)
+pub character-is : (s t u : List ℕ) → Character s t → (characterLength (s ++ (t ++ 39 ∷ u)) ≡ length s) × ((length s ≡ 0) → ⊥)
 unfolding characterLength
 character-is s t u (plain x w e) = (rw (standing-at x e, e), λ z. omega arith)
 character-is s t u (coded r w n q) =
@@ -277,7 +277,7 @@ character-is s t u (coded r w n q) =
     let i = numeral-stays r t (t ++ 39 ∷ u) n (quiet digit apostrophe-digit t u) (quiet octalDigit apostrophe-octal t u) q in
     (rw (i, k .1, signed-some (k .0)), λ z. omega arith)
 
-characters-is : (n : ℕ) (s u : List ℕ) → Characters n s → charactersLength 0 (s ++ 39 ∷ u) ≡ length s
+pub characters-is : (n : ℕ) (s u : List ℕ) → Characters n s → charactersLength 0 (s ++ 39 ∷ u) ≡ length s
 characters-is n s u none = apostrophe-none u
 characters-is n s u (more m r t c cs) =
     let i = characters-is m t u cs in
@@ -287,7 +287,7 @@ characters-is n s u (more m r t c cs) =
     let j′ : charactersLength 0 (r ++ (t ++ 39 ∷ u)) ≡ characterLength (r ++ (t ++ 39 ∷ u)) + charactersLength 0 (t ++ 39 ∷ u) = rw d at j in
     rw (append-assoc r t (39 ∷ u)) (omega (arith, length-append r t, k .0))
 
-characters-some : (n : ℕ) (s : List ℕ) → Characters (suc n) s → length s ≡ 0 → ⊥
+pub characters-some : (n : ℕ) (s : List ℕ) → Characters (suc n) s → length s ≡ 0 → ⊥
 characters-some n s (more m r t c cs) z = character-is r t [] c .1 (omega (arith, length-append r t))
 
 -- a constant's length, by its character symbols
@@ -373,7 +373,7 @@ characters-found (suc f) l h =
 one-found : (l : List ℕ) → (characterLength l ≡ 0 → ⊥) → charactersLength 0 l ≡ characterLength l → Characters 1 (take (charactersLength 0 l) l)
 one-found l n e = rw e (subst (λ (u : List ℕ). Characters 1 u) (append-nil (take (characterLength l) l)) (more 0 _ [] (character-found l 0 n) none))
 
-none-empty : (n : ℕ) (u : List ℕ) → Characters n u → n ≡ 0 → length u ≡ 0
+pub none-empty : (n : ℕ) (u : List ℕ) → Characters n u → n ≡ 0 → length u ≡ 0
 none-empty n u none z = refl
 none-empty n u (more m s t c cs) z = absurd (omega arith)
 
