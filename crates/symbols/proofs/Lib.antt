@@ -10,3 +10,5 @@ pub mod Telling
 pub mod Answering
 pub mod Longest
 pub mod Splitting
+pub mod Lines
+pub mod Examples

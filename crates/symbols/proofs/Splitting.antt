@@ -62,7 +62,7 @@ comment-found (x ∷ l) n =
 
 -- ---- new lines of what is passed
 
-lines-front : (s rest : List ℕ) → newLines (length s) (s ++ rest) ≡ newLines (length s) s
+pub lines-front : (s rest : List ℕ) → newLines (length s) (s ++ rest) ≡ newLines (length s) s
 unfolding newLines
 lines-front [] rest = refl
 lines-front (x ∷ s) rest = rw (lines-front s rest)

@@ -66,3 +66,8 @@ pub data Splits : ℕ → ℕ → List ℕ → List Symbol → Type 0 where
 unfoldable pub Rising : ℕ → ℕ → List Symbol → Type 0
 Rising from to [] = from ≤ to
 Rising from to (s ∷ l) = (from ≤ s .place) × ((1 ≤ s .size) × Rising (s .place + s .size) to l)
+
+-- a symbol's line is one more than the new lines before it
+unfoldable pub Lined : List ℕ → List Symbol → Type 0
+Lined text [] = Unit {0}
+Lined text (s ∷ l) = (s .line ≡ 1 + newLines (s .place) text) × Lined text l
