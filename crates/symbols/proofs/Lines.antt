@@ -125,9 +125,10 @@ lined before line place text l p q (comment a b s rest m c r) =
 lined before line place text l p q (symbol a b k s rest m g r) =
     let z = symbol-count k s (g .is) in
     let j : line ≡ 1 + count (before ++ s) = let d = count-join before s in omega arith in
-    let w : place + length s ≡ length (before ++ s) = omega (arith, length-append before s) in
-    (lines-here before line place (s ++ rest) p q,
-    subst (λ (u : List ℕ). Lined u m) (append-assoc before s rest) (lined (before ++ s) line (place + length s) rest m w j r))
+    let w : place + length s ≡ length (before ++ s) = omega (arith, length-append before s) in (
+      lines-here before line place (s ++ rest) p q,
+      subst (λ (u : List ℕ). Lined u m) (append-assoc before s rest) (lined (before ++ s) line (place + length s) rest m w j r),
+    )
 
 -- THE THEOREM
 pub lines-counted : (text : List ℕ) (l : List Symbol) → symbolsOf text ≡ found l → Lined text l

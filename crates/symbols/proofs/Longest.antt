@@ -6,7 +6,7 @@ use mathlib.Core.List.{List, [], _∷_, _++_, append-assoc, append-nil}
 use native.Mathlib.Nat.{not-suc-le-zero}
 use native.Mathlib.Omega.{arith}
 use lib.ListN.{length, getD, take, drop, length-append, length-drop, take-append-drop}
-use lib.Seq.{drop-at, getD-at, length-take-le, take-add, take-suc}
+use lib.Seq.{drop-at, take-at, getD-at, length-take-le, take-add, take-suc}
 use lib.Dec.{eqb, leb}
 use borrow.Author.Tests.{eq-eqb, ne-eqb, eqb-true, eqb-false, leb-true, leb-false}
 use Rattle.basics.specs.Choice.{pick, cases, both, either, between}
@@ -110,6 +110,14 @@ octal-found x l e n = go l n
         at-some y l zero q n = absurd (n q)
         at-some y l (suc k) q n = rw (q, signed-some k, e) (octal y (take k l) (rw q at (all-front octalDigit (y ∷ l))))
 
+empty : (u : List ℕ) → length u ≡ 0 → u ≡ []
+empty [] e = refl
+empty (x ∷ u) e = absurd (omega arith)
+
+numeral-nonempty : (s : List ℕ) → Numeral s → length s ≡ 0 → ⊥
+numeral-nonempty s (decimal x r e) z = omega arith
+numeral-nonempty s (octal x r e) z = omega arith
+
 numeral-found : (l : List ℕ) → (numeralLength l ≡ 0 → ⊥) → Numeral (take (numeralLength l) l)
 unfolding numeralLength
 numeral-found [] n = absurd (n refl)
@@ -117,6 +125,27 @@ numeral-found (x ∷ l) n =
     cases (eqb x 35)
     (λ e. rw e (octal-found x l (eqb-true x 35 e) (λ z. n (rw (e, z) signed-zero))))
     (λ e. rw e (decimal-found x l (λ z. n (rw e z))))
+
+-- as long as possible: as the grammar says it, and as a length
+numeral-exact : (s t : List ℕ) → Numeral s → ((u w : List ℕ) → t ≡ u ++ w → Numeral (s ++ u) → u ≡ []) → numeralLength (s ++ t) ≡ length s
+numeral-exact s t n q =
+    let l = numeral-longest s t n in
+    let b = numeral-within (s ++ t) in
+    let m : ℕ = numeralLength (s ++ t) - length s in
+    let k : numeralLength (s ++ t) ≡ length s + m = omega arith in
+    let z : numeralLength (s ++ t) ≡ 0 → ⊥ = λ o. numeral-nonempty s n (omega arith) in
+    let c : take (numeralLength (s ++ t)) (s ++ t) ≡ s ++ take m t = ap (λ (i : ℕ). take i (s ++ t)) k ∙ take-add (length s) m (s ++ t) ∙ rw (take-at s t (length s) refl, drop-at s t (length s) refl) in
+    let e = q (take m t) (drop m t) (sym (take-append-drop m t)) (rw c at (numeral-found (s ++ t) z)) in
+    let j : length (take m t) ≡ m = length-take-le m t (omega (arith, length-append s t)) in
+    let o : length (take m t) ≡ 0 = ap length e in
+    omega arith
+
+numeral-most : (s t : List ℕ) → numeralLength (s ++ t) ≡ length s → (u w : List ℕ) → t ≡ u ++ w → Numeral (s ++ u) → u ≡ []
+numeral-most s t k u w e n =
+    let l = numeral-longest (s ++ u) w n in
+    let a : (s ++ u) ++ w ≡ s ++ t = append-assoc s u w ∙ ap (λ (v : List ℕ). s ++ v) (sym e) in
+    let b : numeralLength ((s ++ u) ++ w) ≡ numeralLength (s ++ t) = ap numeralLength a in
+    empty u (omega (arith, length-append s u))
 
 -- ---- special symbols
 
@@ -162,8 +191,8 @@ longest-found [] l n = absurd (n refl)
 longest-found (u ∷ ss) l n =
     cases (begins u l)
     (λ b. cases (leb (longest ss l) (length u))
-        (λ h. let g = leb-true (longest ss l) (length u) h in let m : max (length u) (longest ss l) ≡ length u = omega arith in rw (b, m, begins-take u l b, same-self u))
-        (λ h. let g = leb-false (longest ss l) (length u) h in let m : max (length u) (longest ss l) ≡ longest ss l = omega arith in rw (b, m) (either-any (same (take (longest ss l) l) u) (among (take (longest ss l) l) ss) (longest-found ss l (λ z. omega arith)))))
+    (λ h. let g = leb-true (longest ss l) (length u) h in let m : max (length u) (longest ss l) ≡ length u = omega arith in rw (b, m, begins-take u l b, same-self u))
+    (λ h. let g = leb-false (longest ss l) (length u) h in let m : max (length u) (longest ss l) ≡ longest ss l = omega arith in rw (b, m) (either-any (same (take (longest ss l) l) u) (among (take (longest ss l) l) ss) (longest-found ss l (λ z. omega arith)))))
     (λ b. let m : max 0 (longest ss l) ≡ longest ss l = omega arith in rw (b, m) (either-any (same (take (longest ss l) l) u) (among (take (longest ss l) l) ss) (longest-found ss l (λ z. n (rw b (omega arith))))))
 
 -- ---- symbols of different sorts begin differently
@@ -274,7 +303,7 @@ unfolding characterLength
 character-is s t u (plain x w e) = (rw (standing-at x e, e), λ z. omega arith)
 character-is s t u (coded r w n q) =
     let k = numeral-some r n in
-    let i = numeral-stays r t (t ++ 39 ∷ u) n (quiet digit apostrophe-digit t u) (quiet octalDigit apostrophe-octal t u) q in
+    let i = numeral-stays r t (t ++ 39 ∷ u) n (quiet digit apostrophe-digit t u) (quiet octalDigit apostrophe-octal t u) (numeral-exact r t n q) in
     (rw (i, k .1, signed-some (k .0)), λ z. omega arith)
 
 pub characters-is : (n : ℕ) (s u : List ℕ) → Characters n s → charactersLength 0 (s ++ 39 ∷ u) ≡ length s
@@ -350,7 +379,7 @@ part-numeral l m n =
     let u : List ℕ = drop (numeralLength l) l in
     let k : length s ≡ numeralLength l = length-take-le (numeralLength l) l (numeral-within l) in
     let w : numeralLength (s ++ u) ≡ length s = rw (take-append-drop (numeralLength l) l) (sym k) in
-    coded s (take m u) (numeral-found l n) (numeral-stays s u (take m u) (numeral-found l n) (quiet-part digit m u) (quiet-part octalDigit m u) w)
+    coded s (take m u) (numeral-found l n) (numeral-most s (take m u) (numeral-stays s u (take m u) (numeral-found l n) (quiet-part digit m u) (quiet-part octalDigit m u) w))
 
 character-found : (l : List ℕ) (m : ℕ) → (characterLength l ≡ 0 → ⊥) → Character (take (characterLength l) l) (take m (drop (characterLength l) l))
 unfolding characterLength
@@ -366,9 +395,9 @@ characters-found (suc f) l h =
     cases (eqb (characterLength l) 0)
     (λ e. (0, rw (characters-stop l (eqb-true (characterLength l) 0 e)) none))
     (λ e.
-        let z : characterLength l ≡ 0 → ⊥ = eqb-false (characterLength l) 0 e in
-        let i = characters-found f (drop (characterLength l) l) (omega (arith, length-drop (characterLength l) l)) in
-        (suc (i .0), rw (characters-next l z, take-add (characterLength l) (charactersLength 0 (drop (characterLength l) l)) l) (more (i .0) _ _ (character-found l (charactersLength 0 (drop (characterLength l) l)) z) (i .1))))
+    let z : characterLength l ≡ 0 → ⊥ = eqb-false (characterLength l) 0 e in
+    let i = characters-found f (drop (characterLength l) l) (omega (arith, length-drop (characterLength l) l)) in
+    (suc (i .0), rw (characters-next l z, take-add (characterLength l) (charactersLength 0 (drop (characterLength l) l)) l) (more (i .0) _ _ (character-found l (charactersLength 0 (drop (characterLength l) l)) z) (i .1))))
 
 one-found : (l : List ℕ) → (characterLength l ≡ 0 → ⊥) → charactersLength 0 l ≡ characterLength l → Characters 1 (take (charactersLength 0 l) l)
 one-found l n e = rw e (subst (λ (u : List ℕ). Characters 1 u) (append-nil (take (characterLength l) l)) (more 0 _ [] (character-found l 0 n) none))
@@ -435,12 +464,12 @@ is-symbol (x ∷ l) n =
     cases (letter x)
     (λ a. let s = symbol-name (x ∷ l) (name-some x l a) in same-symbol (symbolKind (x ∷ l)) (nameKind (x ∷ l)) (symbolLength (x ∷ l)) (nameLength (x ∷ l)) (x ∷ l) (rw a) s (name-symbol (x ∷ l) (name-some x l a)))
     (λ a. cases (eqb x 39)
-        (λ b. let e : x ≡ 39 = eqb-true x 39 b in let s = constant-symbol l in
-            same-symbol (symbolKind (x ∷ l)) (constantKind l) (symbolLength (x ∷ l)) (constantLength (39 ∷ l)) (x ∷ l) (rw (a, b)) (rw e s) (rw e (constant-found l (λ z. n (rw e (s ∙ z))))))
-        (λ b. cases (digit x)
-            (λ c. let m = digit-some x l c in same-symbol (symbolKind (x ∷ l)) 4 (symbolLength (x ∷ l)) (numeralLength (x ∷ l)) (x ∷ l) (rw (a, b, c)) (numeral-only x l a m) (numeral _ (numeral-found (x ∷ l) m)))
-            (λ c. cases (eqb x 35)
-                (λ d. let e : x ≡ 35 = eqb-true x 35 d in let s : symbolLength (x ∷ l) ≡ numeralLength (x ∷ l) = rw e (sign-only l) in
-                    same-symbol (symbolKind (x ∷ l)) 4 (symbolLength (x ∷ l)) (numeralLength (x ∷ l)) (x ∷ l) (rw (a, b, c, d)) s (numeral _ (numeral-found (x ∷ l) (λ z. n (s ∙ z)))))
-                (λ d. let s = special-only x l a c d b in
-                    same-symbol (symbolKind (x ∷ l)) 1 (symbolLength (x ∷ l)) (specialLength (x ∷ l)) (x ∷ l) (rw (a, b, c, d)) s (special _ (longest-found specialSymbols (x ∷ l) (λ z. n (s ∙ z))))))))
+    (λ b. let e : x ≡ 39 = eqb-true x 39 b in let s = constant-symbol l in
+    same-symbol (symbolKind (x ∷ l)) (constantKind l) (symbolLength (x ∷ l)) (constantLength (39 ∷ l)) (x ∷ l) (rw (a, b)) (rw e s) (rw e (constant-found l (λ z. n (rw e (s ∙ z))))))
+    (λ b. cases (digit x)
+    (λ c. let m = digit-some x l c in same-symbol (symbolKind (x ∷ l)) 4 (symbolLength (x ∷ l)) (numeralLength (x ∷ l)) (x ∷ l) (rw (a, b, c)) (numeral-only x l a m) (numeral _ (numeral-found (x ∷ l) m)))
+    (λ c. cases (eqb x 35)
+    (λ d. let e : x ≡ 35 = eqb-true x 35 d in let s : symbolLength (x ∷ l) ≡ numeralLength (x ∷ l) = rw e (sign-only l) in
+    same-symbol (symbolKind (x ∷ l)) 4 (symbolLength (x ∷ l)) (numeralLength (x ∷ l)) (x ∷ l) (rw (a, b, c, d)) s (numeral _ (numeral-found (x ∷ l) (λ z. n (s ∙ z)))))
+    (λ d. let s = special-only x l a c d b in
+    same-symbol (symbolKind (x ∷ l)) 1 (symbolLength (x ∷ l)) (specialLength (x ∷ l)) (x ∷ l) (rw (a, b, c, d)) s (special _ (longest-found specialSymbols (x ∷ l) (λ z. n (s ∙ z))))))))

@@ -56,8 +56,8 @@ comment-found (x ∷ l) n =
     cases (eqb x 10) (λ b. rw (a, b, eqb-true x 10 b) newLine) (λ b.
     cases (eqb x 34)
     (λ c. cases (eqb (getD l (run inComment l) 0) 34)
-        (λ d. rw (a, b, c, d) (closed x l (eqb-true x 34 c) (eqb-true (getD l (run inComment l) 0) 34 d)))
-        (λ d. absurd (n (rw (a, b, c, d)))))
+    (λ d. rw (a, b, c, d) (closed x l (eqb-true x 34 c) (eqb-true (getD l (run inComment l) 0) 34 d)))
+    (λ d. absurd (n (rw (a, b, c, d)))))
     (λ c. absurd (n (rw (a, b, c))))))
 
 -- ---- new lines of what is passed
@@ -303,24 +303,24 @@ gives-more f before line place [] l h e = subst (λ (m : List Symbol). Splits li
 gives-more f before line place (x ∷ t) l h e =
     cases (eqb (commentLength (x ∷ t)) 0)
     (λ a. cases (eqb (symbolLength (x ∷ t)) 0)
-        (λ b. absurd (let z : fault ≡ found l = rw (a, b) at e in let o : _≡_ {A = ℕ} 0 1 = cc in omega arith))
-        (λ b.
-            let n : symbolLength (x ∷ t) ≡ 0 → ⊥ = eqb-false (symbolLength (x ∷ t)) 0 b in
-            let p = more-found (symbol-of line place (x ∷ t)) _ l (sym (symbol-next line place (x ∷ t) (eqb-true (commentLength (x ∷ t)) 0 a) n) ∙ e) in
-            let k = length-take-le (symbolLength (x ∷ t)) (x ∷ t) (symbol-length (x ∷ t)) in
-            let i = before line (place + symbolLength (x ∷ t)) (drop (symbolLength (x ∷ t)) (x ∷ t)) (p .0) (omega (arith, length-drop (symbolLength (x ∷ t)) (x ∷ t))) (p .1 .0) in
-            let j = moved line line _ _ _ (p .0) refl (ap (λ (m : ℕ). place + m) (sym k)) i in
-            subst (λ (m : List Symbol). Splits line place (x ∷ t) m) (sym (p .1 .1 ∙ ap (λ (u : Symbol). u ∷ p .0) (same-symbol line place (x ∷ t) (symbolKind (x ∷ t)) (length (take (symbolLength (x ∷ t)) (x ∷ t))) refl (sym k))))
-            (subst (λ (u : List ℕ). Splits line place u (record { kind = symbolKind (x ∷ t); line = line; place = place; size = length (take (symbolLength (x ∷ t)) (x ∷ t)) } ∷ p .0)) (take-append-drop (symbolLength (x ∷ t)) (x ∷ t))
-            (symbol line place (symbolKind (x ∷ t)) (take (symbolLength (x ∷ t)) (x ∷ t)) (drop (symbolLength (x ∷ t)) (x ∷ t)) (p .0) (longest-of (x ∷ t) n) j))))
+    (λ b. absurd (let z : fault ≡ found l = rw (a, b) at e in let o : _≡_ {A = ℕ} 0 1 = cc in omega arith))
+    (λ b.
+    let n : symbolLength (x ∷ t) ≡ 0 → ⊥ = eqb-false (symbolLength (x ∷ t)) 0 b in
+    let p = more-found (symbol-of line place (x ∷ t)) _ l (sym (symbol-next line place (x ∷ t) (eqb-true (commentLength (x ∷ t)) 0 a) n) ∙ e) in
+    let k = length-take-le (symbolLength (x ∷ t)) (x ∷ t) (symbol-length (x ∷ t)) in
+    let i = before line (place + symbolLength (x ∷ t)) (drop (symbolLength (x ∷ t)) (x ∷ t)) (p .0) (omega (arith, length-drop (symbolLength (x ∷ t)) (x ∷ t))) (p .1 .0) in
+    let j = moved line line _ _ _ (p .0) refl (ap (λ (m : ℕ). place + m) (sym k)) i in
+    subst (λ (m : List Symbol). Splits line place (x ∷ t) m) (sym (p .1 .1 ∙ ap (λ (u : Symbol). u ∷ p .0) (same-symbol line place (x ∷ t) (symbolKind (x ∷ t)) (length (take (symbolLength (x ∷ t)) (x ∷ t))) refl (sym k))))
+    (subst (λ (u : List ℕ). Splits line place u (record { kind = symbolKind (x ∷ t); line = line; place = place; size = length (take (symbolLength (x ∷ t)) (x ∷ t)) } ∷ p .0)) (take-append-drop (symbolLength (x ∷ t)) (x ∷ t))
+    (symbol line place (symbolKind (x ∷ t)) (take (symbolLength (x ∷ t)) (x ∷ t)) (drop (symbolLength (x ∷ t)) (x ∷ t)) (p .0) (longest-of (x ∷ t) n) j))))
     (λ a.
-        let n : commentLength (x ∷ t) ≡ 0 → ⊥ = eqb-false (commentLength (x ∷ t)) 0 a in
-        let k = length-take-le (commentLength (x ∷ t)) (x ∷ t) (comment-length (x ∷ t)) in
-        let i = before (line + newLines (commentLength (x ∷ t)) (x ∷ t)) (place + commentLength (x ∷ t)) (drop (commentLength (x ∷ t)) (x ∷ t)) l (omega (arith, length-drop (commentLength (x ∷ t)) (x ∷ t))) (sym (comment-next line place (x ∷ t) n) ∙ e) in
-        let w = front-lines (commentLength (x ∷ t)) (x ∷ t) k in
-        let j = moved _ _ _ _ _ l (ap (λ (m : ℕ). line + m) w) (ap (λ (m : ℕ). place + m) (sym k)) i in
-        subst (λ (u : List ℕ). Splits line place u l) (take-append-drop (commentLength (x ∷ t)) (x ∷ t))
-        (comment line place (take (commentLength (x ∷ t)) (x ∷ t)) (drop (commentLength (x ∷ t)) (x ∷ t)) l (comment-found (x ∷ t) n) j))
+    let n : commentLength (x ∷ t) ≡ 0 → ⊥ = eqb-false (commentLength (x ∷ t)) 0 a in
+    let k = length-take-le (commentLength (x ∷ t)) (x ∷ t) (comment-length (x ∷ t)) in
+    let i = before (line + newLines (commentLength (x ∷ t)) (x ∷ t)) (place + commentLength (x ∷ t)) (drop (commentLength (x ∷ t)) (x ∷ t)) l (omega (arith, length-drop (commentLength (x ∷ t)) (x ∷ t))) (sym (comment-next line place (x ∷ t) n) ∙ e) in
+    let w = front-lines (commentLength (x ∷ t)) (x ∷ t) k in
+    let j = moved _ _ _ _ _ l (ap (λ (m : ℕ). line + m) w) (ap (λ (m : ℕ). place + m) (sym k)) i in
+    subst (λ (u : List ℕ). Splits line place u l) (take-append-drop (commentLength (x ∷ t)) (x ∷ t))
+    (comment line place (take (commentLength (x ∷ t)) (x ∷ t)) (drop (commentLength (x ∷ t)) (x ∷ t)) l (comment-found (x ∷ t) n) j))
 
 gives : (f : ℕ) → Gives f
 gives zero = gives-none

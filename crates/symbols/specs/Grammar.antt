@@ -7,7 +7,6 @@ use lib.ListN.{length}
 use Rattle.basics.specs.Choice.{both}
 use Rattle.symbols.specs.Characters.{letter, digit, octalDigit, inName, inComment, standing}
 use Rattle.symbols.specs.Runs.{newLines}
-use Rattle.symbols.specs.Constants.{numeralLength}
 use Rattle.symbols.specs.Vocabulary.{specialSymbols, among, isWord}
 use Rattle.symbols.specs.Symbols.{Symbol}
 
@@ -28,7 +27,7 @@ pub data Numeral : List ℕ → Type 0 where
 -- 6.2, 02: a character symbol, and the bytes that follow it: its numeral is as long as possible
 pub data Character : List ℕ → List ℕ → Type 0 where
   plain : (x : ℕ) (t : List ℕ) → standing x ≡ true → Character (x ∷ []) t
-  coded : (s t : List ℕ) → Numeral s → numeralLength (s ++ t) ≡ length s → Character (64 ∷ s) t
+  coded : (s t : List ℕ) → Numeral s → ((u w : List ℕ) → t ≡ u ++ w → Numeral (s ++ u) → u ≡ []) → Character (64 ∷ s) t
 
 -- 6.3: so many of them
 pub data Characters : ℕ → List ℕ → Type 0 where
