@@ -15,8 +15,8 @@ use Rattle.basics.specs.Choice.{pick, cases, both}
 use Rattle.basics.proofs.Bools.{no-true, both-i, both-false-r}
 use Rattle.symbols.specs.Runs.{newLines}
 use Rattle.symbols.specs.Symbols.{symbolLength, symbolKind, commentLength, Symbol, Reading, fault, found, more, symbolsFrom, symbolsOf}
-use Rattle.symbols.specs.Cursors.{Stands, PassesTo, Begins}
-use Rattle.symbols.specs.Answer.{symbolBytes, Room, allBytes, answerTo, bytesOf, isFound, Found, fits, symbolsAnswer, laid, symbolsOut}
+use Rattle.symbols.specs.Steps.{Stands, PassesTo, Begins, Found, Room, isFound}
+use Rattle.symbols.specs.Answer.{symbolBytes, allBytes, answerTo, bytesOf, fits, symbolsAnswer, laid, symbolsOut}
 use Rattle.symbols.proofs.Going.{drop-end}
 use Rattle.symbols.proofs.Scanning.{symbol-length, symbol-of, symbol-next, no-symbol}
 

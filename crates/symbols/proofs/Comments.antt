@@ -15,7 +15,7 @@ use Rattle.basics.specs.Choice.{pick, cases}
 use Rattle.symbols.specs.Characters.{inComment}
 use Rattle.symbols.specs.Runs.{run, newLines}
 use Rattle.symbols.specs.Symbols.{commentLength}
-use Rattle.symbols.specs.Cursors.{Stands, Past}
+use Rattle.symbols.specs.Steps.{Stands, Past}
 use Rattle.symbols.proofs.Going.{Going, drop-end, run-more, run-stop, run-end, going-none, going-more, going-stop, going-end}
 use Rattle.symbols.proofs.Lengths.{run-length, getD-past}
 

@@ -12,10 +12,11 @@ use lib.Dec.{eqb, leb}
 use borrow.Author.Needs.{needs}
 use borrow.Author.Tests.{eq-eqb, ne-eqb, eqb-true, eqb-false, leb-true, leb-false, le-leb}
 use Rattle.basics.specs.Choice.{pick, cases, both, either, between}
+use Rattle.symbols.specs.Steps.{oneOf, packed}
 use Rattle.basics.proofs.Bools.{both-l, both-r, both-i, between-true, no-true}
 use Rattle.symbols.specs.Characters.{letter, digit, inName, small}
 use Rattle.symbols.specs.Runs.{run}
-use Rattle.symbols.specs.Vocabulary.{nameLength, wordSymbols, same, among, isWord, packed, oneOf}
+use Rattle.symbols.specs.Vocabulary.{nameLength, wordSymbols, same, among, isWord}
 use Rattle.symbols.proofs.Lengths.{run-length}
 
 -- the word symbols as numbers, as the code lists them

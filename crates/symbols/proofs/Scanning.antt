@@ -17,7 +17,7 @@ use Rattle.symbols.specs.Runs.{run, newLines}
 use Rattle.symbols.specs.Constants.{numeralLength, characterLength, charactersLength, constantLength}
 use Rattle.symbols.specs.Vocabulary.{nameLength, specialLength, isWord}
 use Rattle.symbols.specs.Symbols.{orElse, symbolLength, nameKind, constantKind, symbolKind, commentLength, Symbol, Reading, fault, more, symbolsFrom, symbolsOf}
-use Rattle.symbols.specs.Cursors.{Stands, Past, PassesTo}
+use Rattle.symbols.specs.Steps.{Stands, Past, PassesTo}
 use Rattle.symbols.proofs.Going.{drop-end}
 use Rattle.symbols.proofs.Lengths.{run-length, getD-past, numeral-length, constant-length}
 use Rattle.symbols.proofs.Keys.{name-length}

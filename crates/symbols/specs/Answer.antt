@@ -1,7 +1,6 @@
 -- What the call symbols answers, and what it leaves in the slice (02 (a)). Assumes nothing.
-use Prim.Native.Nat.{ℕ, _+_, _*_, _/_, _%_, _<_, _≤_}
-use mathlib.Core.Path.{_≡_}
-use mathlib.Core.Bool.{Bool, true, false}
+use Prim.Native.Nat.{ℕ, _+_, _*_, _/_, _%_}
+use mathlib.Core.Bool.{Bool}
 use mathlib.Core.List.{List, [], _∷_, _++_}
 use lib.ListN.{length, drop}
 use lib.Dec.{leb}
@@ -17,13 +16,6 @@ symbolBytes s =
     s .size % 256 ∷ s .size / 256 ∷
     []
 
--- there is room for them, and each number is a word
-pub record Room (out : List ℕ) (at line place size : ℕ) : Type 0 where
-  pub room : at + 7 ≤ length out
-  pub line-word : line < 65536
-  pub place-word : place < 65536
-  pub size-word : size < 65536
-
 unfoldable pub allBytes : List Symbol → List ℕ
 allBytes [] = []
 allBytes (s ∷ l) = symbolBytes s ++ allBytes l
@@ -36,16 +28,6 @@ answerTo (found l) = 65536 + length l
 unfoldable pub bytesOf : Reading → List ℕ
 bytesOf fault = []
 bytesOf (found l) = allBytes l
-
-unfoldable pub isFound : Reading → Bool
-isFound fault = false
-isFound (found l) = true
-
--- a text whose symbols may be written
-pub record Found (text out : List ℕ) : Type 0 where
-  pub read : isFound (symbolsOf text) ≡ true
-  pub short : length text < 65536
-  pub room : 7 * length text ≤ length out
 
 -- at most 65,535 bytes of text, and seven bytes of slice for each
 unfoldable pub fits : List ℕ → List ℕ → Bool

@@ -4,5 +4,5 @@ pub mod Constants
 pub mod Vocabulary
 pub mod Symbols
 pub mod Answer
-pub mod Cursors
+pub mod Steps
 pub mod Grammar

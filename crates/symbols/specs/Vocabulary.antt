@@ -1,5 +1,5 @@
 -- Special symbols, word symbols and names (3.2, 3.3). Assumes nothing.
-use Prim.Native.Nat.{ℕ, zero, suc, _+_, _*_, _%_, max}
+use Prim.Native.Nat.{ℕ, suc, max}
 use mathlib.Core.Bool.{Bool, true, false}
 use mathlib.Core.List.{List, [], _∷_, map}
 use lib.ListN.{length, take}
@@ -95,12 +95,3 @@ among s (t ∷ ts) = either (same s t) (among s ts)
 -- 3.1: capitals count as small letters
 unfoldable pub isWord : List ℕ → Bool
 isWord s = among (map small s) wordSymbols
-
--- bytes as one number, the first lowest; a byte of a word is below 128
-unfoldable pub packed : List ℕ → ℕ
-packed [] = 0
-packed (x ∷ s) = packed s * 128 + x % 128
-
-unfoldable pub oneOf : ℕ → List ℕ → Bool
-oneOf k [] = false
-oneOf k (x ∷ l) = either (eqb k x) (oneOf k l)

@@ -6,7 +6,7 @@ ghost use lib.ListN.{length, drop};
 ghost use Rattle.symbols.specs.Characters.{inComment};
 ghost use Rattle.symbols.specs.Runs.{run};
 ghost use Rattle.symbols.specs.Symbols.{commentLength};
-ghost use Rattle.symbols.specs.Cursors.{Stands, Past, PassesTo};
+ghost use Rattle.symbols.specs.Steps.{Stands, Past, PassesTo};
 
 // A place, and its line from 1.
 pub struct Cursor {

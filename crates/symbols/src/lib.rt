@@ -14,13 +14,12 @@ use vocabulary::is_word;
 use vocabulary::name_end;
 use vocabulary::special_end;
 ghost use mathlib.Core.Path.{_≡_};
-ghost use mathlib.Core.List.{[], _∷_};
-ghost use Prim.Native.Nat.{_+_, _*_, _/_, _%_, _<_, _≤_};
+ghost use Prim.Native.Nat.{_+_, _/_, _%_, _<_};
 ghost use lib.ListN.{length, drop};
 ghost use lib.Seq.{sets};
 ghost use Rattle.symbols.specs.Symbols.{symbolLength, symbolKind, symbolsOf};
-ghost use Rattle.symbols.specs.Cursors.{Begins};
-ghost use Rattle.symbols.specs.Answer.{symbolBytes, Room, answerTo, bytesOf, laid, Found, symbolsAnswer, symbolsOut};
+ghost use Rattle.symbols.specs.Steps.{Begins, Found, Room};
+ghost use Rattle.symbols.specs.Answer.{symbolBytes, answerTo, bytesOf, laid, symbolsAnswer, symbolsOut};
 
 // Where the symbol that begins here ends: here, where none begins.
 fn symbol_end(text: &[u8], at: usize) -> usize

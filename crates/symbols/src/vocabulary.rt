@@ -7,8 +7,9 @@ ghost use mathlib.Core.List.{[], _∷_, map};
 ghost use Prim.Native.Nat.{_+_, _-_, _*_, _<_, _≤_, _%_};
 ghost use lib.ListN.{length, take, drop};
 ghost use Rattle.symbols.specs.Characters.{inName, small};
+ghost use Rattle.symbols.specs.Steps.{oneOf, packed};
 ghost use Rattle.symbols.specs.Runs.{run};
-ghost use Rattle.symbols.specs.Vocabulary.{nameLength, specialLength, wordSymbols, isWord, packed, oneOf};
+ghost use Rattle.symbols.specs.Vocabulary.{nameLength, specialLength, wordSymbols, isWord};
 
 fn letters_end(text: &[u8], from: usize) -> usize
     requires { ⌜ from ≤ length (now text) ⌝ }

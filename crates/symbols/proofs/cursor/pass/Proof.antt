@@ -41,7 +41,7 @@ use denote.Triple.Table.{entered, cited}
 use denote.Triple.Walked.{says, needs, Stays, stay-ref, stay-none-slice, walkOf, goes-ref, goes-none-slice, Walks, ends-at, walked, walk-meets}
 use denote.Exit.{yes}
 use denote.Triple.Clauses.{ensured, lasts}
-use Rattle.symbols.specs.Cursors.{Stands, PassesTo}
+use Rattle.symbols.specs.Steps.{Stands, PassesTo}
 use Rattle.symbols.specs.declared.cursor.Cursor.{Cursor}
 use Rattle.symbols.proofs.cursor.Cursor as T
 use Rattle.symbols.proofs.cursor.Cursor.Laws as T′

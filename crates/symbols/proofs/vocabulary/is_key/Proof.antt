@@ -1,5 +1,5 @@
 use Rattle.basics.specs.Choice.{either}
-use Rattle.symbols.specs.Vocabulary.{oneOf}
+use Rattle.symbols.specs.Steps.{oneOf}
 use Rattle.symbols.proofs.Keys.{keyed}
 use Rattle.symbols.proofs.vocabulary.is_key.Statement.{statement}
 use Rattle.symbols.proofs.vocabulary.is_key.Tie as tie
