@@ -1,0 +1,14 @@
+pub mod Classes
+pub mod Going
+pub mod Lengths
+pub mod Specials
+pub mod Keys
+pub mod Seven
+pub mod Scanning
+pub mod Comments
+pub mod Telling
+pub mod Answering
+pub mod Longest
+pub mod Splitting
+pub mod Lines
+pub mod Examples
