@@ -60,3 +60,4 @@ pub mod ValueStores
 pub mod ValueTypes
 pub mod ValueWords
 pub mod Values
+pub mod Worked

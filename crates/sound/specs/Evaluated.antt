@@ -31,7 +31,7 @@ pub record SmallWords (ws : List ℕ) : Type 0 where
 -- at a stands a live variable of type τ for the calls of process p, or such a part of one; it lies in one area and holds a value of its type
 pub record Live (T : Table) (m : Memory) (p τ a : ℕ) : Type 0 where
   pub type : τ < 3 + typeCount T
-  pub alive : lives T m p (m (depthAt p)) (m (frameAt p)) τ a ≡ true
+  pub alive : lives T m p (m (depthAt p)) (m (frameAt p)) (m (worksAt p)) τ a ≡ true
   pub inside : fits T a τ ≡ true
   pub value : holds T m τ a ≡ true
 
