@@ -118,6 +118,27 @@ module _ (T : Table) (m n : Memory) (p : ℕ) where
   held-same r e6 e5 e2 (held h) = held (rw e6 h)
   held-same r e6 e5 e2 (given h w) = given (rw e5 h) (rw e2 w)
 
+-- a process works on itself, in its own block
+pub worked-own : (T : Table) (m : Memory) (p : ℕ) {d f w c top : ℕ} → Chained T m p d f w c top → worked T m p d f w p ≡ true
+worked-own T m p {f = f} {w = w} (bottom k) = worked-first T m p 0 f w p (k .own)
+worked-own T m p {d = suc d} {f = f} {w = w} (called k c) = worked-outer T m p d f w p (worked-own T m p c)
+
+-- a call that works on what its process works on outside it is a local call
+pub works-outer : (T : Table) (m : Memory) (p d f w : ℕ) (s : Statement) → worksBy T m p d f w s ≡ true → worked T m p d (callerFrame m p f) (callerWorks m p f) w ≡ true → callerWorks m p f ≡ w
+unfolding worksBy
+works-outer T m p d f w skip e h = no-true e
+works-outer T m p d f w (assign a b) e h = no-true e
+works-outer T m p d f w (localCall b c k) e h = eqb-true (callerWorks m p f) w e
+works-outer T m p d f w (processCall a b c k) e h = no-true (rw h at e)
+works-outer T m p d f w (create a) e h = no-true e
+works-outer T m p d f w (start a c k) e h = no-true e
+works-outer T m p d f w (opener k) e h = no-true e
+works-outer T m p d f w (arm i l) e h = no-true e
+works-outer T m p d f w (endArms l) e h = no-true e
+works-outer T m p d f w (write a b) e h = no-true e
+works-outer T m p d f w blockEnd e h = no-true e
+works-outer T m p d f w noStatement e h = no-true e
+
 -- how a call comes to work on w
 pub works-by-i : (T : Table) (m : Memory) (p d f w q : ℕ) (s : Statement) → calls q s ≡ true
     → ((b c k : ℕ) → s ≡ localCall b c k → callerWorks m p f ≡ w)
