@@ -17,9 +17,7 @@ use Rattle.machine.specs.Layout.{statusAt, moduleAt, statementAt, frameAt, topA
 use Rattle.machine.specs.Entries.{recordType, arrayType, typeAt}
 use Rattle.machine.specs.Variables.{offsetOf, fits}
 use Rattle.machine.specs.Values.{part, partOfBlock}
-use Rattle.machine.specs.Step.{inRange}
 use Rattle.machine.specs.Rule.{owns, worked, lives}
-use Rattle.machine.proofs.Tests.{range-low, range-high}
 use Rattle.verdict.specs.Accepted.{Accepted}
 use Rattle.sound.specs.Claims.{PlaceLaws}
 use Rattle.sound.specs.Ruled.{Chained, bottom, called, Ruled}

@@ -18,7 +18,6 @@ use Rattle.machine.specs.Values.{partOfBlock}
 use Rattle.machine.specs.Context.{contextOf, blockOf}
 use Rattle.machine.specs.Operands.{placeAt, moduleVariable, frameVariable, wholePlace}
 use Rattle.machine.specs.Rule.{owns, worked, lives}
-use Rattle.machine.proofs.Tests.{range-i}
 use Rattle.machine.proofs.Memories.{within-from, within-to}
 use Rattle.verdict.specs.Accepted.{Accepted}
 use Rattle.sound.specs.Claims.{PlaceLaws}

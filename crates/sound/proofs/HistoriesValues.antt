@@ -21,7 +21,6 @@ use Rattle.machine.specs.Layout.{location, statusAt, moduleAt, statementAt, top
 use Rattle.machine.specs.Entries.{TypeEntry, integer, boolean, character, recordType, arrayType, processType, noType, typeAt}
 use Rattle.machine.specs.Variables.{offsetOf}
 use Rattle.machine.specs.Processes.{refers}
-use Rattle.machine.specs.Step.{inRange}
 use Rattle.machine.specs.Values.{typeHolds, holdsAt, nowhere, holds, part}
 use Rattle.machine.specs.Rule.{owns, worked, lives, moduleHolds, modulesHold, frameHolds, framesHold, chain, startedOk, processOk, rule}
 use Rattle.machine.proofs.Memories.{location-plus}

@@ -1,5 +1,5 @@
 -- Who works on what, in a state that meets the rule. Assumes nothing.
-use Prim.Native.Nat.{ℕ, suc, _+_}
+use Prim.Native.Nat.{ℕ, suc}
 use mathlib.Core.Path.{_≡_, refl, sym, _∙_}
 use mathlib.Core.Bool.{true}
 use Rattle.table.specs.Table.{Table}
@@ -8,7 +8,7 @@ use Rattle.machine.specs.Memory.{Memory}
 use Rattle.machine.specs.Layout.{moduleAt, statementAt, frameAt, topAt, worksAt, holderAt, depthAt, callerFrame, callStatement, callerWorks, calledBlock}
 use Rattle.machine.specs.Entries.{stmtAt}
 use Rattle.machine.specs.Rule.{rule}
-use Rattle.sound.specs.InUse.{Created, Call, innermost, caller}
+use Rattle.sound.specs.InUse.{Call, innermost, caller}
 use Rattle.sound.specs.Ruled.{Chained, called, Ruled}
 use Rattle.sound.specs.StateRule.{Going}
 use Rattle.sound.proofs.Ruled.{ruled}

@@ -1,7 +1,7 @@
 -- The state rule and its record say the same. Assumes nothing.
 use Prim.Native.Nat.{ℕ, zero, suc, _+_, _-_, _≤_, _<_}
 use mathlib.Core.Path.{_≡_, refl, sym}
-use mathlib.Core.Bool.{true, false, not}
+use mathlib.Core.Bool.{true}
 use native.Mathlib.Omega.{arith}
 use lib.Dec.{eqb}
 use borrow.Author.Tests.{eqb-true, eqb-false, leb-true, ltb-true, eq-eqb, ne-eqb, le-leb, lt-ltb, not-true}
@@ -17,7 +17,7 @@ use Rattle.machine.specs.Entries.{stmtAt}
 use Rattle.machine.specs.Variables.{frameWords, offsetOf, isModule, isProcedure}
 use Rattle.machine.specs.Values.{holds}
 use Rattle.machine.specs.Step.{inRange}
-use Rattle.machine.specs.Rule.{nextFirst, liesIn, calls, isCreated, worked, lives, holdsOn, worksBy, mayWait, moduleHolds, modulesHold, frameHolds, framesHold, frameOk, chain, moduleOk, startedOk, processOk, failureOk, rule}
+use Rattle.machine.specs.Rule.{nextFirst, liesIn, calls, isCreated, worked, lives, holdsOn, worksBy, moduleHolds, modulesHold, frameHolds, framesHold, frameOk, chain, moduleOk, startedOk, processOk, failureOk, rule}
 use Rattle.numbers.proofs.BlockPromise.{program-there, program-kind, owner-self, owner-there}
 use Rattle.machine.specs.Context.{blockOf, contextual}
 pub use Rattle.machine.proofs.Tests.{range-low, range-high, range-i}

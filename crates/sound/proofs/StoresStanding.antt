@@ -138,11 +138,13 @@ module _ (s : Memory) (p c f top w d : ℕ) where
     unfolding standing
     stand-set r v b =
         let n : (k : ℕ) → k < 20 → (k ≡ 6 → ⊥) → holderAt r ≡ recordAt p k → ⊥ = λ k l g. cases (eqb r p) (λ e. rw (eqb-true r p e) (words-apart p 6 k (λ z. g (sym z)))) (λ e. records-apart r p 6 k b a (omega arith) l (eqb-false r p e)) in
-        rw (update-swap s (holderAt r) v (statementAt p) c (n 2 (omega arith) (λ z. omega arith)),
-        update-swap _ (holderAt r) v (frameAt p) f (n 3 (omega arith) (λ z. omega arith)),
-        update-swap _ (holderAt r) v (topAt p) top (n 4 (omega arith) (λ z. omega arith)),
-        update-swap _ (holderAt r) v (worksAt p) w (n 5 (omega arith) (λ z. omega arith)),
-        update-swap _ (holderAt r) v (depthAt p) d (n 7 (omega arith) (λ z. omega arith)))
+        rw (
+          update-swap s (holderAt r) v (statementAt p) c (n 2 (omega arith) (λ z. omega arith)),
+          update-swap _ (holderAt r) v (frameAt p) f (n 3 (omega arith) (λ z. omega arith)),
+          update-swap _ (holderAt r) v (topAt p) top (n 4 (omega arith) (λ z. omega arith)),
+          update-swap _ (holderAt r) v (worksAt p) w (n 5 (omega arith) (λ z. omega arith)),
+          update-swap _ (holderAt r) v (depthAt p) d (n 7 (omega arith) (λ z. omega arith)),
+        )
 
     module _ (T : Table) (ok : Accepted T) (L : PlaceLaws T) (h : Ruled T s) (b : p ≤ s createdAt) (k : Chained T s p d f w c top)
         (o : (x : ℕ) → worked T s p d f w x ≡ true → s (holderAt x) ≡ p) where

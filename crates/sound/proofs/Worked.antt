@@ -2,7 +2,7 @@
 -- which they are, and which variables are live. Assumes nothing.
 use Prim.Native.Nat.{ℕ, zero, suc, _+_, _-_, _/_, _%_, _≤_}
 use mathlib.Core.Path.{_≡_, refl, sym, _∙_}
-use mathlib.Core.Bool.{true, false, not}
+use mathlib.Core.Bool.{true, false}
 use native.Mathlib.Omega.{arith}
 use lib.Dec.{eqb, leb}
 use borrow.Author.Tests.{eqb-true, eq-eqb}
@@ -10,7 +10,7 @@ use Rattle.basics.specs.Choice.{both, either}
 use Rattle.basics.proofs.Bools.{no-true, both-l, both-r, both-i, either-l, either-r, either-case}
 use Rattle.table.specs.Table.{Table}
 use Rattle.machine.specs.Memory.{Memory}
-use Rattle.machine.specs.Layout.{linkAt, statusAt, moduleAt, statementAt, worksAt, holderAt, createdAt, callerFrame, callStatement, callerWorks, calledBlock}
+use Rattle.machine.specs.Layout.{linkAt, statusAt, moduleAt, statementAt, worksAt, holderAt, createdAt, callerFrame, callerWorks, calledBlock}
 use Rattle.machine.specs.Entries.{Statement, skip, assign, localCall, processCall, create, start, opener, arm, endArms, write, blockEnd, noStatement, stmtAt}
 use Rattle.machine.specs.Values.{partOfBlock}
 use Rattle.machine.specs.Rule.{isCreated, owns, worked, lives, mayWait, worksBy, calls}
