@@ -43,13 +43,14 @@ cell-rule =
     (refl, refl, refl, refl, refl, refl, refl, refl, refl, refl, refl, refl, refl, refl, refl, refl, refl, refl)
 
 -- process 1 is inside its call s.get(y): its variables are words 0 (s) and 1 (y), its frame begins at word 2, and the var parameter x at
--- word 6 names word 1. It may as well name the integer of process 2, but no reference and no word that is not in use
+-- word 6 names word 1. It may name no integer of process 2, on which the call works (an argument is selected before), no reference and no
+-- word that is not in use. Process 1 holds the variables of process 2, which has been started
 abbrev inside : List ℕ
 inside = 1 ∷ 1 ∷ 1 ∷ 2 ∷ 2 ∷ 1 ∷ []
 
 pub fetching-rule :
     (with-word fetching inside (location 1 6) 1 ≡ true)
-    × (with-word fetching inside (location 1 6) 256 ≡ true)
+    × (with-word fetching inside (location 1 6) 256 ≡ false)
     × (with-word fetching inside (location 1 6) 0 ≡ false)
     × (with-word fetching inside (location 1 6) 6 ≡ false)
     × (with-word fetching inside (location 1 6) 257 ≡ false)
@@ -61,5 +62,9 @@ pub fetching-rule :
     × (with-word fetching inside (frameAt 1) 3 ≡ false)
     × (with-word fetching inside (topAt 1) 8 ≡ false)
     × (with-word fetching inside (worksAt 1) 1 ≡ false)
+    × (with-word fetching inside (holderAt 2) 0 ≡ false)
+    × (with-word fetching inside (holderAt 2) 2 ≡ false)
+    × (with-word fetching inside (holderAt 1) 2 ≡ false)
+    × (with-word fetching inside (statusAt 2) 1 ≡ false)
 unfolding with-word
-fetching-rule = (refl, refl, refl, refl, refl, refl, refl, refl, refl, refl, refl, refl, refl)
+fetching-rule = (refl, refl, refl, refl, refl, refl, refl, refl, refl, refl, refl, refl, refl, refl, refl, refl, refl)

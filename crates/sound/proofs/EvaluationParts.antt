@@ -17,9 +17,7 @@ use Rattle.machine.specs.Layout.{statusAt, moduleAt, statementAt, frameAt, topA
 use Rattle.machine.specs.Entries.{recordType, arrayType, typeAt}
 use Rattle.machine.specs.Variables.{offsetOf, fits}
 use Rattle.machine.specs.Values.{part, partOfBlock}
-use Rattle.machine.specs.Step.{inRange}
-use Rattle.machine.specs.Rule.{isCreated, owns, lives}
-use Rattle.machine.proofs.Tests.{range-low, range-high}
+use Rattle.machine.specs.Rule.{owns, worked, lives}
 use Rattle.verdict.specs.Accepted.{Accepted}
 use Rattle.sound.specs.Claims.{PlaceLaws}
 use Rattle.sound.specs.Ruled.{Chained, bottom, called, Ruled}
@@ -27,6 +25,7 @@ use Rattle.sound.specs.Evaluated.{Live}
 use Rattle.sound.proofs.Ruled.{block-there}
 use Rattle.sound.proofs.EvaluationVariables.{live}
 use Rattle.sound.proofs.ValueBlocks.{words-value, variable-type, in-block, block-i}
+use Rattle.sound.proofs.Worked.{worked-created}
 
 -- wherever a part of type σ begins, one of type τ begins k words further on
 pub record Further (T : Table) (σ τ k : ℕ) : Type 0 where
@@ -82,15 +81,16 @@ module _ (T : Table) (acc : Accepted T) (L : PlaceLaws T) (σ τ k : ℕ) (t : �
       word : (a + k) % 256 ≡ a % 256 + k
       word = let h = room in let g = within-type .1 in let w = L .some-words τ (within-type .0) in omega arith
 
-      further-lives : lives T m p (m (depthAt p)) (m (frameAt p)) σ a ≡ true → lives T m p (m (depthAt p)) (m (frameAt p)) τ (a + k) ≡ true
-      unfolding lives isCreated
+      further-lives : lives T m p (m (depthAt p)) (m (frameAt p)) (m (worksAt p)) σ a ≡ true → lives T m p (m (depthAt p)) (m (frameAt p)) (m (worksAt p)) τ (a + k) ≡ true
+      unfolding lives
       further-lives e =
           rw (area, word)
-          (either-case (both (inRange 1 (m createdAt) (a / 256 + 1)) (partOfBlock T (m (moduleAt (a / 256 + 1))) σ (a % 256))) (both (eqb (a / 256 + 1) p) (owns T m p (m (depthAt p)) (m (frameAt p)) σ (a % 256))) e
+          (either-case (both (worked T m p (m (depthAt p)) (m (frameAt p)) (m (worksAt p)) (a / 256 + 1)) (partOfBlock T (m (moduleAt (a / 256 + 1))) σ (a % 256))) (both (eqb (a / 256 + 1) p) (owns T m p (m (depthAt p)) (m (frameAt p)) σ (a % 256))) e
           (λ q.
           let c : ℕ = a / 256 + 1 in
           let h = both-l _ _ q in
-          let y = block-there T acc m c (R .process c (range-low 1 (m createdAt) c h) (range-high 1 (m createdAt) c h)) in
+          let n = worked-created T m p some made chain c h in
+          let y = block-there T acc m c (R .process c (n .least) (n .most)) in
           either-l _ _ (both-i _ _ h (further-block (m (moduleAt c)) (a % 256) y (both-r _ _ q))))
           (λ q. either-r _ _ (both-i _ _ (both-l _ _ q) (further-owns m p (m (depthAt p)) (m (frameAt p)) (m (worksAt p)) (m (statementAt p)) (m (topAt p)) (a % 256) chain (both-r _ _ q)))))
 

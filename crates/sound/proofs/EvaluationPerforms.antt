@@ -30,7 +30,7 @@ use Rattle.verdict.specs.Accepted.{Accepted}
 use Rattle.sound.specs.Claims.{PlaceLaws, Small}
 use Rattle.sound.specs.Ruled.{Chained, bottom, called, Ruled, Standing}
 use Rattle.sound.specs.Reached.{WordTable}
-use Rattle.sound.specs.Evaluated.{Scoped, Performed, goes, holds-on, gives-up, ends, returns, fails}
+use Rattle.sound.specs.Evaluated.{Scoped, Passing, Performed, goes, holds-on, gives-up, ends, returns, fails}
 use Rattle.sound.proofs.Ruled.{lies-from, lies-to, lies-i, stands}
 use Rattle.sound.proofs.StoresMemory.{update-small}
 use Rattle.sound.proofs.StoresStanding.{stand-small}
@@ -132,20 +132,20 @@ module _ (T : Table) (acc : Accepted T) (L : PlaceLaws T) (W : WordTable T) (m :
       (arm-low T (acc .nesting) (blockOf m p) there i o c) (arm-high T (acc .nesting) (blockOf m p) there i o c) (omega arith))
 
   -- 11.7 to 11.10
-  chosen-good : (k : Opener) (o : Outcome Choice) → Chosen T (blockOf m p) o → Performed T m page p (andThen o (chosen T m page (contextOf m p) k))
+  chosen-good : (k : Opener) → state.mayWait (stmtAt T stmt) ≡ entries.waits k → (o : Outcome Choice) → Chosen T (blockOf m p) o → Performed T m page p (andThen o (chosen T m page (contextOf m p) k))
   unfolding andThen chosen goTo wait contextOf entries.waits
-  chosen-good if _ (entering i o e) = goes (i + 1) (after i o (λ z. omega arith))
-  chosen-good while _ (entering i o e) = goes (i + 1) (after i o (λ z. omega arith))
-  chosen-good when _ (entering i o e) = holds-on (i + 1) (after i o (λ z. omega arith))
-  chosen-good cycle _ (entering i o e) = holds-on (i + 1) (after i o (λ z. omega arith))
-  chosen-good if _ (skipping i o e) = goes (i + 1) (after i o (λ z. omega arith))
-  chosen-good while _ (skipping i o e) = goes (i + 1) (after i o (λ z. omega arith))
-  chosen-good when _ (skipping i o e) = gives-up
-  chosen-good cycle _ (skipping i o e) = gives-up
-  chosen-good if _ (failing n l h) = fails n l h
-  chosen-good while _ (failing n l h) = fails n l h
-  chosen-good when _ (failing n l h) = fails n l h
-  chosen-good cycle _ (failing n l h) = fails n l h
+  chosen-good if w _ (entering i o e) = goes (i + 1) w (after i o (λ z. omega arith))
+  chosen-good while w _ (entering i o e) = goes (i + 1) w (after i o (λ z. omega arith))
+  chosen-good when w _ (entering i o e) = holds-on (i + 1) (after i o (λ z. omega arith))
+  chosen-good cycle w _ (entering i o e) = holds-on (i + 1) (after i o (λ z. omega arith))
+  chosen-good if w _ (skipping i o e) = goes (i + 1) w (after i o (λ z. omega arith))
+  chosen-good while w _ (skipping i o e) = goes (i + 1) w (after i o (λ z. omega arith))
+  chosen-good when w _ (skipping i o e) = gives-up w
+  chosen-good cycle w _ (skipping i o e) = gives-up w
+  chosen-good if w _ (failing n l h) = fails n l h
+  chosen-good while w _ (failing n l h) = fails n l h
+  chosen-good when w _ (failing n l h) = fails n l h
+  chosen-good cycle w _ (failing n l h) = fails n l h
 
   module _ (low : 6 ≤ stmtKind T stmt) (high : stmtKind T stmt ≤ 9) where
     next : StmtOf T (blockOf m p) (stmt + 1)
@@ -154,20 +154,20 @@ module _ (T : Table) (acc : Accepted T) (L : PlaceLaws T) (W : WordTable T) (m :
     next-arm : stmtKind T (stmt + 1) ≡ 10
     next-arm = opener-arm T (acc .nesting) (blockOf m p) there stmt here low high
 
-    opener-good : (k : Opener) → Performed T m page p (doOpener T m page (contextOf m p) k)
-    unfolding doOpener onArms contextOf
-    opener-good k =
+    opener-good : (k : Opener) → stmtAt T stmt ≡ opener k → Performed T m page p (doOpener T m page (contextOf m p) k)
+    unfolding state.mayWait doOpener onArms contextOf
+    opener-good k is =
         let e = next-arm in
         rw (arm-is (stmt + 1) next next-arm)
-        (chosen-good k (choose T m page (contextOf m p) (stmtCount T) (stmt + 1)) (choose-good (stmtCount T) (stmt + 1) next (omega arith) (omega arith) (omega arith)))
+        (chosen-good k (rw is) (choose T m page (contextOf m p) (stmtCount T) (stmt + 1)) (choose-good (stmtCount T) (stmt + 1) next (omega arith) (omega arith) (omega arith)))
 
     pub opener-performs : Performed T m page p (perform T m page (contextOf m p) (stmtAt T stmt))
     unfolding perform statementOf
     opener-performs =
-        cases (eqb (stmtKind T stmt) 6) (λ q. rw (stmt-is T stmt 6 stmt-in (eqb-true (stmtKind T stmt) 6 q)) (opener-good if))
-        (λ q. cases (eqb (stmtKind T stmt) 7) (λ u. rw (stmt-is T stmt 7 stmt-in (eqb-true (stmtKind T stmt) 7 u)) (opener-good while))
-        (λ u. cases (eqb (stmtKind T stmt) 8) (λ v. rw (stmt-is T stmt 8 stmt-in (eqb-true (stmtKind T stmt) 8 v)) (opener-good when))
-        (λ v. rw (stmt-is T stmt 9 stmt-in (omega (arith, eqb-false (stmtKind T stmt) 6 q, eqb-false (stmtKind T stmt) 7 u, eqb-false (stmtKind T stmt) 8 v))) (opener-good cycle))))
+        cases (eqb (stmtKind T stmt) 6) (λ q. let e = stmt-is T stmt 6 stmt-in (eqb-true (stmtKind T stmt) 6 q) in rw e (opener-good if e))
+        (λ q. cases (eqb (stmtKind T stmt) 7) (λ u. let e = stmt-is T stmt 7 stmt-in (eqb-true (stmtKind T stmt) 7 u) in rw e (opener-good while e))
+        (λ u. cases (eqb (stmtKind T stmt) 8) (λ v. let e = stmt-is T stmt 8 stmt-in (eqb-true (stmtKind T stmt) 8 v) in rw e (opener-good when e))
+        (λ v. let e = stmt-is T stmt 9 stmt-in (omega (arith, eqb-false (stmtKind T stmt) 6 q, eqb-false (stmtKind T stmt) 7 u, eqb-false (stmtKind T stmt) 8 v)) in rw e (opener-good cycle e))))
 
   -- an opener by its kind
   opener-kind : (i : ℕ) → i < stmtCount T → 6 ≤ stmtKind T i → stmtKind T i ≤ 9 → (f : Opener → Outcome Effect) → ((k : Opener) → Performed T m page p (f k)) → Performed T m page p (onOpener (stmtAt T i) f)
@@ -203,27 +203,27 @@ module _ (T : Table) (acc : Accepted T) (L : PlaceLaws T) (W : WordTable T) (m :
       (arm-low T (acc .nesting) (blockOf m p) there i o k) (arm-high T (acc .nesting) (blockOf m p) there i o k) (omega arith) h)
       (h i o)
 
-  ending : 10 ≤ stmtKind T stmt → stmtKind T stmt ≤ 11 → Performed T m page p (doEnd T m page (contextOf m p))
+  ending : 10 ≤ stmtKind T stmt → stmtKind T stmt ≤ 11 → Passing T m p → Performed T m page p (doEnd T m page (contextOf m p))
   unfolding doEnd goTo contextOf
-  ending a b =
+  ending a b w =
       end-good (stmtCount T) stmt _ here a b (omega arith) (λ j o k.
       let x = end-in T (acc .nesting) (blockOf m p) there j o k in
       opener-kind (stmtLink T j) (inside (stmtLink T j) x) (end-low T (acc .nesting) (blockOf m p) there j o k) (end-high T (acc .nesting) (blockOf m p) there j o k) _ (λ c.
       cases (entries.repeats c)
-      (λ e. rw e (goes (stmtLink T j) (lies (stmtLink T j) x)))
-      (λ e. rw e (goes (j + 1) (after j o (λ z. omega arith))))))
+      (λ e. rw e (goes (stmtLink T j) w (lies (stmtLink T j) x)))
+      (λ e. rw e (goes (j + 1) w (after j o (λ z. omega arith))))))
 
   pub end-performs : 10 ≤ stmtKind T stmt → stmtKind T stmt ≤ 11 → Performed T m page p (perform T m page (contextOf m p) (stmtAt T stmt))
-  unfolding perform
+  unfolding state.mayWait perform
   end-performs a b =
       cases (eqb (stmtKind T stmt) 10)
-      (λ q. rw (arm-is stmt here (eqb-true (stmtKind T stmt) 10 q)) (ending a b))
-      (λ q. rw (end-is stmt here (omega (arith, eqb-false (stmtKind T stmt) 10 q))) (ending a b))
+      (λ q. let e = arm-is stmt here (eqb-true (stmtKind T stmt) 10 q) in rw e (ending a b (rw e)))
+      (λ q. let e = end-is stmt here (omega (arith, eqb-false (stmtKind T stmt) 10 q)) in rw e (ending a b (rw e)))
 
   -- 0, the empty statement
   pub skip-performs : stmtKind T stmt ≡ 0 → Performed T m page p (perform T m page (contextOf m p) (stmtAt T stmt))
-  unfolding statementOf perform goOn goTo contextOf
-  skip-performs k = rw (stmt-is T stmt 0 stmt-in k) (goes (stmt + 1) (after stmt here (λ z. omega arith)))
+  unfolding state.mayWait statementOf perform goOn goTo contextOf
+  skip-performs k = let e = stmt-is T stmt 0 stmt-in k in rw e (goes (stmt + 1) (rw e) (after stmt here (λ z. omega arith)))
 
   -- 13, the end of its own block or of a call
   popped-small : (u : Memory) → Small u → (c : ℕ) → c + 1 < 65536 → Small (call.popped T m page (contextOf m p) u c)
@@ -247,11 +247,11 @@ module _ (T : Table) (acc : Accepted T) (L : PlaceLaws T) (W : WordTable T) (m :
   returned c q blockEnd l e = no-true e
   returned c q noStatement l e = no-true e
 
-  return-good : (m (depthAt p) ≡ 0 → ⊥) → Performed T m page p (moved T m page (contextOf m p) (return T m page (contextOf m p)))
-  return-good n = go (m (depthAt p)) refl (R .process p some made .chain s)
+  return-good : Passing T m p → (m (depthAt p) ≡ 0 → ⊥) → Performed T m page p (moved T m page (contextOf m p) (return T m page (contextOf m p)))
+  return-good w n = go (m (depthAt p)) refl (R .process p some made .chain s)
     where
       done : (o : Outcome Memory) → o ≡ return T m page (contextOf m p) → Returning o → Performed T m page p (moved T m page (contextOf m p) o)
-      done _ e (a-state u v) = unfold moved andThen in returns u n (sym e) v
+      done _ e (a-state u v) = unfold moved andThen in returns u w n (sym e) v
 
       go : (d : ℕ) → m (depthAt p) ≡ d → Chained T m p d (m (frameAt p)) (m (worksAt p)) (m (statementAt p)) (m (topAt p)) → Performed T m page p (moved T m page (contextOf m p) (return T m page (contextOf m p)))
       go zero e (bottom b) = absurd (n e)
@@ -261,12 +261,13 @@ module _ (T : Table) (acc : Accepted T) (L : PlaceLaws T) (W : WordTable T) (m :
           (unfold return contextOf in returned (callStatement m p (m (frameAt p))) (calledBlock m p (m (frameAt p))) (stmtAt T (callStatement m p (m (frameAt p)))) l (F .calling))
 
   pub block-end-performs : stmtKind T stmt ≡ 13 → Performed T m page p (perform T m page (contextOf m p) (stmtAt T stmt))
-  unfolding statementOf perform doBlockEnd contextOf
+  unfolding state.mayWait statementOf perform doBlockEnd contextOf
   block-end-performs k =
-      rw (stmt-is T stmt 13 stmt-in k)
+      let i = stmt-is T stmt 13 stmt-in k in
+      rw i
       (cases (eqb (m (depthAt p)) 0)
-      (λ e. rw e (ends (eqb-true (m (depthAt p)) 0 e)))
-      (λ e. rw e (return-good (eqb-false (m (depthAt p)) 0 e))))
+      (λ e. rw e (ends (rw i) (eqb-true (m (depthAt p)) 0 e)))
+      (λ e. rw e (return-good (rw i) (eqb-false (m (depthAt p)) 0 e))))
 
   -- kinds 1 to 5
   low-performs : 1 ≤ stmtKind T stmt → stmtKind T stmt ≤ 5 → Performed T m page p (perform T m page (contextOf m p) (stmtAt T stmt))

@@ -26,6 +26,7 @@ use Rattle.sound.proofs.StoresMemory.{location-add, location-of}
 use Rattle.sound.proofs.StoresBlocks.{module-fits}
 use Rattle.sound.proofs.EvaluationBasics.{location-area, location-word}
 use Rattle.sound.proofs.ValueBlocks.{words-value, variable-type, in-block, block-i, block-in}
+use Rattle.sound.proofs.Worked.{lives-there}
 
 -- ---- parts of the variables of a block
 
@@ -105,10 +106,10 @@ module _ (T : Table) (ok : Accepted T) (L : PlaceLaws T) (m : Memory) (R : Ruled
 
   -- what lives is housed
   module _ (p : ℕ) (some : 1 ≤ p) (made : p ≤ m createdAt) where
-    pub lives-housed : (d f w c top τ a : ℕ) → Chained T m p d f w c top → lives T m p d f τ a ≡ true → Housed T m τ a
-    unfolding lives isCreated
+    pub lives-housed : (d f w c top τ a : ℕ) → Chained T m p d f w c top → lives T m p d f w τ a ≡ true → Housed T m τ a
+    unfolding isCreated
     lives-housed d f w c top τ a C e =
-        either-case (both (inRange 1 (m createdAt) (a / 256 + 1)) (partOfBlock T (m (moduleAt (a / 256 + 1))) τ (a % 256))) (both (eqb (a / 256 + 1) p) (owns T m p d f τ (a % 256))) e
+        either-case (both (inRange 1 (m createdAt) (a / 256 + 1)) (partOfBlock T (m (moduleAt (a / 256 + 1))) τ (a % 256))) (both (eqb (a / 256 + 1) p) (owns T m p d f τ (a % 256))) (lives-there T m p some made C τ a e)
         (λ q. rw (location-of a) at (module-housed (a / 256 + 1) (range-low 1 (m createdAt) (a / 256 + 1) (both-l _ _ q)) (range-high 1 (m createdAt) (a / 256 + 1) (both-l _ _ q)) τ (a % 256) (both-r _ _ q)))
         (λ q.
         let i : a / 256 + 1 ≡ p = eqb-true (a / 256 + 1) p (both-l _ _ q) in

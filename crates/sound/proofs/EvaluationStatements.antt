@@ -1,7 +1,7 @@
 -- Evaluation: what each statement with operands comes to. Assumes nothing.
 use Prim.Native.Nat.{ℕ, _+_, _≤_, _<_}
 use mathlib.Core.Path.{_≡_, refl}
-use mathlib.Core.Bool.{true, not}
+use mathlib.Core.Bool.{true, false, not}
 use mathlib.Core.List.{List}
 use native.Mathlib.Omega.{arith}
 use lib.ListN.{length}
@@ -38,7 +38,7 @@ use Rattle.verdict.specs.Accepted.{Accepted}
 use Rattle.sound.specs.Claims.{PlaceLaws, Small}
 use Rattle.sound.specs.Ruled.{Ruled}
 use Rattle.sound.specs.Reached.{WordTable}
-use Rattle.sound.specs.Evaluated.{Live, GoodPlace, GoodValue, Scoping, Bound, GoodArguments, the-words, no-words, Performed, assigns, calls, serves, waits, creates, starts, writes, fails}
+use Rattle.sound.specs.Evaluated.{Live, GoodPlace, GoodValue, Scoping, Bound, GoodArguments, the-words, no-words, Passing, Performed, assigns, calls, serves, waits, creates, starts, writes, fails}
 use Rattle.sound.proofs.EvaluationBasics.{on-need, on-fail, on-place, on-value, on-word}
 use Rattle.sound.proofs.EvaluationTypes.{word-small}
 use Rattle.sound.proofs.StoresBlocks.{module-fits}
@@ -76,6 +76,9 @@ module _ (T : Table) (acc : Accepted T) (L : PlaceLaws T) (W : WordTable T) (m :
   abbrev GoesOn : Type 0
   GoesOn = state.liesIn T (blockOf m p) (m (statementAt p) + 1) ≡ true
 
+  passes : (k : ℕ) → stmtKind T stmt ≡ k → state.mayWait (statementOf k (stmtA T stmt) (stmtB T stmt) (stmtC T stmt) (stmtD T stmt) (stmtLink T stmt)) ≡ false → Passing T m p
+  passes k e h = rw (stmt-is T stmt k l e) h
+
   on-failed : (n : ℕ) → 16 ≤ n → n ≤ 24 → Performed T m page p (fail n)
   on-failed n a b = fails n a b
 
@@ -87,7 +90,7 @@ module _ (T : Table) (acc : Accepted T) (L : PlaceLaws T) (W : WordTable T) (m :
 
   -- 1, assignment
   pub assign-performs : stmtKind T stmt ≡ 1 → GoesOn → scope (stmtA T stmt) → scope (stmtB T stmt) → Performed T m page p (perform T m page (contextOf m p) (stmtAt T stmt))
-  unfolding statementOf perform doAssign goOn goTo contextOf
+  unfolding state.mayWait statementOf perform doAssign goOn goTo contextOf
   assign-performs k on ca cb =
       let t = typing.assignment T (acc .types) stmt l k in
       rw (stmt-is T stmt 1 l k)
@@ -96,11 +99,11 @@ module _ (T : Table) (acc : Accepted T) (L : PlaceLaws T) (W : WordTable T) (m :
       (λ a v. on-value (Performed T m page p) on-failed T m (typeOf T (stmtB T stmt)) (operand T m page (contextOf m p) (stmtB T stmt)) _
       (expression-good (stmtB T stmt) (ranged.assign-value T (acc .numbers) stmt l k) cb)
       (λ ws u w. on-need (Performed T m page p) on-failed (matches T (typeOf T (stmtA T stmt)) (typeOf T (stmtB T stmt))) _ t
-      (assigns (typeOf T (stmtA T stmt)) a ws on v (L .matching m (typeOf T (stmtA T stmt)) (typeOf T (stmtB T stmt)) ws t u) w))))
+      (assigns (typeOf T (stmtA T stmt)) a ws (passes 1 k refl) on v (L .matching m (typeOf T (stmtA T stmt)) (typeOf T (stmtB T stmt)) ws t u) w))))
 
   -- 12, write
   pub write-performs : stmtKind T stmt ≡ 12 → GoesOn → scope (stmtA T stmt) → scope (stmtB T stmt) → Performed T m page p (perform T m page (contextOf m p) (stmtAt T stmt))
-  unfolding statementOf perform doWrite contextOf
+  unfolding state.mayWait statementOf perform doWrite contextOf
   write-performs k on ca cb =
       rw (stmt-is T stmt 12 l k)
       (on-word (Performed T m page p) on-failed T m 0 (operand T m page (contextOf m p) (stmtA T stmt)) _
@@ -108,7 +111,7 @@ module _ (T : Table) (acc : Accepted T) (L : PlaceLaws T) (W : WordTable T) (m :
       (λ us u a. on-word (Performed T m page p) on-failed T m 0 (operand T m page (contextOf m p) (stmtB T stmt)) _
       (rw (typing.written-value T (acc .types) stmt l k) at (expression-good (stmtB T stmt) (ranged.write-value T (acc .numbers) stmt l k) cb))
       (λ vs v b. on-fail (Performed T m page p) on-failed (not (isDevice (intOf (wordOf us)))) 21 _ (omega arith) (omega arith)
-      (λ e. writes (wordOf us) (wordOf vs) on (word-small us a) (word-small vs b) (not-false _ e)))))
+      (λ e. writes (wordOf us) (wordOf vs) (passes 12 k refl) on (word-small us a) (word-small vs b) (not-false _ e)))))
 
   -- 4, create
   on-process : (n : ℕ) (f : ℕ → ℕ → Outcome Effect) → typeKind T (typeOf T n) ≡ 3 → Variable T (nodeCount T) n → scope n → ((a : ℕ) → Live T m p (typeOf T n) a → Performed T m page p (f a (typeP T (typeOf T n))))
@@ -119,13 +122,13 @@ module _ (T : Table) (acc : Accepted T) (L : PlaceLaws T) (W : WordTable T) (m :
       (λ a w. rw (at-process T (typeOf T n) k) (h a w))
 
   pub create-performs : stmtKind T stmt ≡ 4 → GoesOn → scope (stmtA T stmt) → Performed T m page p (perform T m page (contextOf m p) (stmtAt T stmt))
-  unfolding statementOf perform doCreate goOn goTo contextOf
+  unfolding state.mayWait statementOf perform doCreate goOn goTo contextOf
   create-performs k on c =
       let t = typing.created-variable T (acc .types) stmt l k in
       rw (stmt-is T stmt 4 l k)
       (on-process (stmtA T stmt) _ t (ranged.create-variable T (acc .numbers) stmt l k) c
       (λ a w. on-fail (Performed T m page p) on-failed (eqb (m createdAt) 64) 24 _ (omega arith) (omega arith)
-      (λ e. let z = eqb-false (m createdAt) 64 e in let y = R .most in creates (typeOf T (stmtA T stmt)) a on w t (omega arith))))
+      (λ e. let z = eqb-false (m createdAt) 64 e in let y = R .most in creates (typeOf T (stmtA T stmt)) a (passes 4 k refl) on w t (omega arith))))
 
   -- references
   on-reference : (τ a : ℕ) (f : ℕ → Outcome Effect) → Live T m p τ a → typeKind T τ ≡ 3 → (refers m (typeP T τ) (m a) ≡ true → Performed T m page p (f (m a))) → Performed T m page p (onReference m a (typeP T τ) f)
@@ -180,7 +183,7 @@ module _ (T : Table) (acc : Accepted T) (L : PlaceLaws T) (W : WordTable T) (m :
       pushed-frame ws b =
           let f = arguments-fit T acc m p (stmtA T stmt) (there .0) ws b in
           pushes m (stmtA T stmt) (m (worksAt p)) ws f
-          (λ r d. calls (stmtA T stmt) ws own (record { there = there .0; procedure = there .1; bound = b; long = f; room = r; deep = d; calling = calling }))
+          (λ r d. calls (stmtA T stmt) ws e own (record { there = there .0; procedure = there .1; bound = b; long = f; room = r; deep = d; calling = calling }))
 
       performed : Performed T m page p (perform T m page (contextOf m p) (localCall (stmtA T stmt) (stmtC T stmt) (stmtD T stmt)))
       performed =
@@ -212,7 +215,7 @@ module _ (T : Table) (acc : Accepted T) (L : PlaceLaws T) (W : WordTable T) (m :
       pushed-frame r g h ws b =
           let f = arguments-fit T acc m p (stmtB T stmt) (there .0) ws b in
           pushes (update m (holderAt r) p) (stmtB T stmt) r ws f
-          (λ o d. serves r (stmtB T stmt) ws (rw own g) (free-status T m page (contextOf m p) r h) (free-holder T m page (contextOf m p) r h)
+          (λ o d. serves r (stmtB T stmt) ws e (rw own g) (free-status T m page (contextOf m p) r h) (free-holder T m page (contextOf m p) r h)
           (record { there = there .0; procedure = there .1; bound = b; long = f; room = o; deep = d; calling = calling }))
 
       served : (r : ℕ) → refers m (typeP T (typeOf T (stmtA T stmt))) r ≡ true
@@ -232,7 +235,7 @@ module _ (T : Table) (acc : Accepted T) (L : PlaceLaws T) (W : WordTable T) (m :
 
   -- 5, start
   pub start-performs : stmtKind T stmt ≡ 5 → GoesOn → scope (stmtA T stmt) → ((k : ℕ) → k < stmtD T stmt → scope (argNode T (stmtC T stmt + k))) → Performed T m page p (perform T m page (contextOf m p) (stmtAt T stmt))
-  unfolding statementOf perform doStart goOn goTo contextOf
+  unfolding state.mayWait statementOf perform doStart goOn goTo contextOf
   start-performs k on c inside =
       let t = typing.started-variable T (acc .types) stmt l k in
       rw (stmt-is T stmt 5 l k)
@@ -246,4 +249,4 @@ module _ (T : Table) (acc : Accepted T) (L : PlaceLaws T) (W : WordTable T) (m :
       let y = μ .1 in
       let z = module-fits T acc (typeP T (typeOf T (stmtA T stmt))) (μ .0) (omega arith) in
       on-need (Performed T m page p) on-failed (leb (length ws) 256) _ (le-leb (length ws) 256 (omega arith))
-      (starts (m a) (typeP T (typeOf T (stmtA T stmt))) ws on g (eqb-true (m (statusAt (m a))) 1 (not-false _ h)) (μ .0) (μ .1) b (omega arith)))))))
+      (starts (m a) (typeP T (typeOf T (stmtA T stmt))) ws (passes 5 k refl) on g (eqb-true (m (statusAt (m a))) 1 (not-false _ h)) (μ .0) (μ .1) b (omega arith)))))))

@@ -8,7 +8,7 @@ use lib.ListN.{length, getD, replicate}
 use lib.Dec.{eqb}
 use borrow.Author.Tests.{eqb-true, eqb-false, leb-true, le-ltb, le-leb, lt-ltb, eq-eqb}
 use Rattle.basics.specs.Choice.{either, cases}
-use Rattle.basics.proofs.Bools.{both-l, both-r}
+use Rattle.basics.proofs.Bools.{both-l, both-r, either-case}
 use Rattle.table.specs.Table.{Table}
 use Rattle.table.specs.Entries.{blockCount, typeKind, typeP, blockKind, owner, firstVar, params, firstStmt}
 use Rattle.numbers.proofs.TypePromise.{process-module}
@@ -18,7 +18,7 @@ use Rattle.sizes.proofs.Promise.{module-most}
 use Rattle.machine.specs.Memory.{Memory, update}
 use Rattle.machine.specs.Layout.{location, statusAt, moduleAt, statementAt, frameAt, topAt, worksAt, holderAt, depthAt, createdAt, failureAt}
 use Rattle.machine.specs.Outcomes.{Outcome, ok, fail, need, failWhere}
-use Rattle.machine.specs.Entries.{stmtAt}
+use Rattle.machine.specs.Entries.{localCall, processCall, stmtAt}
 use Rattle.machine.specs.Variables.{frameWords}
 use Rattle.machine.specs.Processes.{refers, created, started}
 use Rattle.machine.specs.Context.{contextOf, blockOf}
@@ -34,7 +34,7 @@ use Rattle.sound.specs.Claims.{PlaceLaws, Started, Small, Listed, regula
 use Rattle.sound.specs.Ruled.{Ruled, Calling}
 use Rattle.sound.specs.Ruled as called
 use Rattle.sound.specs.Reached.{WordTable}
-use Rattle.sound.specs.Evaluated.{SmallWords, Live, Pushable, Performed, goes, holds-on, gives-up, assigns, calls, serves, waits, creates, starts, writes, ends, returns, fails}
+use Rattle.sound.specs.Evaluated.{SmallWords, Live, Pushable, Passing, Performed, goes, holds-on, gives-up, assigns, calls, serves, waits, creates, starts, writes, ends, returns, fails}
 use Rattle.sound.proofs.Ruled.{ruled, stands, contexts}
 use Rattle.sound.proofs.StoresMemory.{update-small, store-small}
 use Rattle.sound.proofs.StoresStanding.{stand-small}
@@ -126,29 +126,29 @@ module _ (T : Table) (acc : Accepted T) (inner : scoped T ≡ true) (L : PlaceLa
     refers-small = let x = R .most in let y = refers-made in omega arith
 
   -- calls
-  call-kept : (q : ℕ) (ws : List ℕ) → owner T q ≡ owner T (blockOf m p) → (P : Pushable T m page p q ws) → Kept T (ok (effect 0 (pushed T m page (contextOf m p) m q (m (worksAt p)) ws) page))
-  call-kept q ws own P =
+  call-kept : (q : ℕ) (ws : List ℕ) (c n : ℕ) → stmtAt T (m (statementAt p)) ≡ localCall q c n → owner T q ≡ owner T (blockOf m p) → (P : Pushable T m page p q ws) → Kept T (ok (effect 0 (pushed T m page (contextOf m p) m q (m (worksAt p)) ws) page))
+  call-kept q ws c n is own P =
       let k = stands T acc m p some made (R .process p some made) (S .started) in
       kept 0 _ page (regular (omega arith))
-      (entered T _ _ (local-call-rule T acc L m page p S q ws (fills T m p q ws (P .bound)) (P .there) (P .procedure) (P .calling) (own ∙ sym (k .owned))) (call-is q ws P m (m (worksAt p))))
+      (entered T _ _ (local-call-rule T acc L m page p S q ws (fills T m p q ws (P .bound)) (P .there) (P .procedure) (P .calling) c n is (own ∙ sym (k .owned))) (call-is q ws P m (m (worksAt p))))
       (pushed-small q ws P m (m (worksAt p)) ms (ms .small (worksAt p))) ps
 
-  serve-kept : (r q : ℕ) (ws : List ℕ) → refers m (owner T q) r ≡ true → (P : Pushable T m page p q ws) → Kept T (ok (effect 0 (pushed T m page (contextOf m p) (update m (holderAt r) p) q r ws) page))
-  serve-kept r q ws e P =
+  serve-kept : (r q : ℕ) (ws : List ℕ) (i c n : ℕ) → stmtAt T (m (statementAt p)) ≡ processCall i q c n → (m (statusAt r) ≡ 1 → ⊥) → m (holderAt r) ≡ 0 → refers m (owner T q) r ≡ true → (P : Pushable T m page p q ws) → Kept T (ok (effect 0 (pushed T m page (contextOf m p) (update m (holderAt r) p) q r ws) page))
+  serve-kept r q ws i c n is begun idle e P =
       let two = refers-two (owner T q) r e in
       kept 0 _ page (regular (omega arith))
-      (entered T _ _ (process-call-rule T acc L m page p S q ws (fills T m p q ws (P .bound)) (P .there) (P .procedure) (P .calling) r (omega arith) (refers-made (owner T q) r e) (sym (refers-module (owner T q) r e))) (call-is q ws P (update m (holderAt r) p) r))
+      (entered T _ _ (process-call-rule T acc L m page p S q ws (fills T m p q ws (P .bound)) (P .there) (P .procedure) (P .calling) i c n is r (omega arith) (refers-made (owner T q) r e) idle begun (sym (refers-module (owner T q) r e))) (call-is q ws P (update m (holderAt r) p) r))
       (pushed-small q ws P (update m (holderAt r) p) r (update-small m (holderAt r) p ms process-small) (refers-small (owner T q) r e)) ps
 
   -- creation and start
-  create-kept : (τ a : ℕ) → liesIn T (blockOf m p) (m (statementAt p) + 1) ≡ true → Live T m p τ a → typeKind T τ ≡ 3 → m createdAt < 64
+  create-kept : (τ a : ℕ) → Passing T m p → liesIn T (blockOf m p) (m (statementAt p) + 1) ≡ true → Live T m p τ a → typeKind T τ ≡ 3 → m createdAt < 64
       → Kept T (ok (effect 0 (update (update (created m (m createdAt + 1) (typeP T τ)) a (m createdAt + 1)) (statementAt p) (m (statementAt p) + 1)) page))
-  create-kept τ a on l k room =
+  create-kept τ a y on l k room =
       let μ = process-module T (acc .numbers) τ (l .type) k in
       let n : ℕ = m createdAt + 1 in
       let o = R .some in
       kept 0 _ page (regular (omega arith))
-      (create-rule T acc L m p S (typeP T τ) τ a (m (statementAt p) + 1) room (μ .0) (μ .1) (l .alive) (reference-value T (created m n (typeP T τ)) n τ (typeP T τ) (at-process T τ k) (created-refers m n (typeP T τ) (omega arith) (omega arith))) on)
+      (create-rule T acc L m p S y (typeP T τ) τ a (m (statementAt p) + 1) room (μ .0) (μ .1) (l .alive) (reference-value T (created m n (typeP T τ)) n τ (typeP T τ) (at-process T τ k) (created-refers m n (typeP T τ) (omega arith) (omega arith))) on)
       (update-small _ (statementAt p) (m (statementAt p) + 1) (update-small _ a n (created-small m n (typeP T τ) (omega arith) (omega arith) ms (declared-small T W τ 1)) (omega arith)) (lies-small T W (blockOf m p) (m (statementAt p) + 1) on)) ps
 
   started-small : (r μ : ℕ) (ws : List ℕ) → refers m μ r ≡ true → μ < blockCount T → blockKind T μ ≡ 1 → SmallWords ws → Small (started T m r μ ws)
@@ -160,42 +160,42 @@ module _ (T : Table) (acc : Accepted T) (inner : scoped T ≡ true) (L : PlaceLa
       (update-small _ (holderAt r) r (update-small _ (statusAt r) 2 (store-small m (location r 0) ws ms (λ k g. w .words k)) (omega arith)) s)
       (W .cells 3 μ 5) (omega arith) (omega arith) s (omega arith)
 
-  return-kept : (n : Memory) → (m (depthAt p) ≡ 0 → ⊥) → return T m page (contextOf m p) ≡ ok n → Small n → Kept T (ok (effect 0 n page))
-  return-kept n d e v =
+  return-kept : (n : Memory) → Passing T m p → (m (depthAt p) ≡ 0 → ⊥) → return T m page (contextOf m p) ≡ ok n → Small n → Kept T (ok (effect 0 n page))
+  return-kept n y d e v =
       let z : m (depthAt p) ≡ suc (m (depthAt p) - 1) = omega arith in
-      let r = return-rule T acc L m page p S (m (depthAt p) - 1) z in
+      let r = return-rule T acc L m page p S y (m (depthAt p) - 1) z in
       let i = r .is in
       let q : r .state ≡ n = cc in
       kept 0 n page (regular (omega arith)) (rw q at (r .ruled)) v ps
 
-  -- EACH WAY TO GO ON keeps the rule
-  performed-kept : (o : Outcome Effect) → Performed T m page p o → Kept T o
-  performed-kept _ (goes c l) = kept 0 _ page (regular (omega arith)) (goto-rule T acc L m p c S l) (update-small m (statementAt p) c ms (lies-small T W (blockOf m p) c l)) ps
-  performed-kept _ (holds-on c l) =
-      kept 0 _ page (regular (omega arith)) (enter-rule T acc L m p S c l)
+  -- EACH WAY TO GO ON keeps the rule, where no other process holds what it works on
+  performed-kept : ((q : ℕ) → 1 ≤ q → m (holderAt (m (worksAt p))) ≡ q → q ≡ p) → (o : Outcome Effect) → Performed T m page p o → Kept T o
+  performed-kept alone _ (goes c y l) = kept 0 _ page (regular (omega arith)) (goto-rule T acc L m p c S y l) (update-small m (statementAt p) c ms (lies-small T W (blockOf m p) c l)) ps
+  performed-kept alone _ (holds-on c l) =
+      kept 0 _ page (regular (omega arith)) (enter-rule T acc L m p S alone c l)
       (update-small _ (statementAt p) c (update-small m (holderAt (m (worksAt p))) p ms process-small) (lies-small T W (blockOf m p) c l)) ps
-  performed-kept _ gives-up = kept 1 _ page (regular (omega arith)) (wait-rule T acc L m p S) (update-small m (holderAt (m (worksAt p))) 0 ms (omega arith)) ps
-  performed-kept _ (assigns τ a ws on l v w) =
-      kept 0 _ page (regular (omega arith)) (assign-rule T acc L m p S τ a (m (statementAt p) + 1) ws (l .alive) v on)
+  performed-kept alone _ (gives-up y) = kept 1 _ page (regular (omega arith)) (wait-rule T acc L m p S alone y) (update-small m (holderAt (m (worksAt p))) 0 ms (omega arith)) ps
+  performed-kept alone _ (assigns τ a ws y on l v w) =
+      kept 0 _ page (regular (omega arith)) (assign-rule T acc L m p S τ a (m (statementAt p) + 1) ws y (l .alive) v on)
       (update-small _ (statementAt p) (m (statementAt p) + 1) (store-small m a ws ms (λ k g. w .words k)) (lies-small T W (blockOf m p) (m (statementAt p) + 1) on)) ps
-  performed-kept _ (calls q ws own P) = call-kept q ws own P
-  performed-kept _ (serves r q ws e t h P) = serve-kept r q ws e P
-  performed-kept _ waits = kept 1 m page (regular (omega arith)) (S .ruled) ms ps
-  performed-kept _ (creates τ a on l k room) = create-kept τ a on l k room
-  performed-kept _ (starts r μ ws on e t there kind b len) =
-      kept 0 _ page (regular (omega arith)) (start-rule T acc L m p S r μ (m (statementAt p) + 1) ws e t (fills T m p μ ws b) on)
+  performed-kept alone _ (calls q ws {c} {n} is own P) = call-kept q ws c n is own P
+  performed-kept alone _ (serves r q ws {i} {c} {n} is e t h P) = serve-kept r q ws i c n is t h e P
+  performed-kept alone _ waits = kept 1 m page (regular (omega arith)) (S .ruled) ms ps
+  performed-kept alone _ (creates τ a y on l k room) = create-kept τ a y on l k room
+  performed-kept alone _ (starts r μ ws y on e t there kind b len) =
+      kept 0 _ page (regular (omega arith)) (start-rule T acc L m p S y r μ (m (statementAt p) + 1) ws e t (fills T m p μ ws b) on)
       (update-small _ (statementAt p) (m (statementAt p) + 1) (started-small r μ ws e there kind (bound-small T m p (params T μ) (firstVar T μ) ws b)) (lies-small T W (blockOf m p) (m (statementAt p) + 1) on)) ps
-  performed-kept _ (writes a v on x y d) =
-      kept 0 _ _ (regular (omega arith)) (goto-rule T acc L m p (m (statementAt p) + 1) S on)
+  performed-kept alone _ (writes a v n on x y d) =
+      kept 0 _ _ (regular (omega arith)) (goto-rule T acc L m p (m (statementAt p) + 1) S n on)
       (update-small m (statementAt p) (m (statementAt p) + 1) ms (lies-small T W (blockOf m p) (m (statementAt p) + 1) on)) (update-small page _ v ps y)
-  performed-kept _ (ends d) =
-      kept 2 _ page (regular (omega arith)) (end-rule T acc L m p (S .ruled) some made)
+  performed-kept alone _ (ends y d) =
+      kept 2 _ page (regular (omega arith)) (end-rule T acc L m p S y d)
       (update-small _ (holderAt p) 0 (update-small m (statusAt p) 3 ms (omega arith)) (omega arith)) ps
-  performed-kept _ (returns n d e v) = return-kept n d e v
-  performed-kept _ (fails n l h) = failed n l h
+  performed-kept alone _ (returns n y d e v) = return-kept n y d e v
+  performed-kept alone _ (fails n l h) = failed n l h
 
-  performs-kept : Kept T (perform T m page (contextOf m p) (stmtAt T (m (statementAt p))))
-  performs-kept = performed-kept _ (performed T acc inner L W m page p S ms ps)
+  performs-kept : ((q : ℕ) → 1 ≤ q → m (holderAt (m (worksAt p))) ≡ q → q ≡ p) → Kept T (perform T m page (contextOf m p) (stmtAt T (m (statementAt p))))
+  performs-kept alone = performed-kept alone _ (performed T acc inner L W m page p S ms ps)
 
 module _ (T : Table) (acc : Accepted T) (inner : scoped T ≡ true) (L : PlaceLaws T) (W : WordTable T) (m page : Memory) (p : ℕ) (rm : rule T m ≡ true) (ms : Small m) (ps : Small page) where
   Rm : Ruled T m
@@ -209,6 +209,13 @@ module _ (T : Table) (acc : Accepted T) (inner : scoped T ≡ true) (L : PlaceLa
   unfolding need
   needs b o e h = rw e h
 
+  -- a process goes on where it holds what it works on, or nobody does
+  alone-of : either (eqb (m (holderAt (m (worksAt p)))) 0) (eqb (m (holderAt (m (worksAt p)))) p) ≡ true → (q : ℕ) → 1 ≤ q → m (holderAt (m (worksAt p))) ≡ q → q ≡ p
+  alone-of e q l z =
+      either-case _ _ e
+      (λ h. let x = eqb-true (m (holderAt (m (worksAt p)))) 0 h in absurd (omega arith))
+      (λ h. sym z ∙ eqb-true (m (holderAt (m (worksAt p)))) p h)
+
   proceeds-kept : Started T m p → Kept T (proceeds T m page p)
   unfolding proceeds steps.performs contextOf
   proceeds-kept S =
@@ -217,7 +224,7 @@ module _ (T : Table) (acc : Accepted T) (inner : scoped T ≡ true) (L : PlaceLa
       let k = stands T acc m p a b (Rm .process p a b) (S .started) in
       needs _ _ (range-i 1 (m createdAt) (m (worksAt p)) (k .some-works) (k .works))
       (cases (either (eqb (m (holderAt (m (worksAt p)))) 0) (eqb (m (holderAt (m (worksAt p)))) p))
-      (λ e. rw e (needs _ _ (contexts T acc m p a b (Rm .process p a b) (S .started)) (performs-kept T acc inner L W m page p S ms ps)))
+      (λ e. rw e (needs _ _ (contexts T acc m p a b (Rm .process p a b) (S .started)) (performs-kept T acc inner L W m page p S ms ps (alone-of e))))
       (λ e. rw e (answers-kept 1 (regular (omega arith)))))
 
   exists-kept : 1 ≤ p → p ≤ m createdAt → Kept T (exists T m page p)

@@ -1,29 +1,28 @@
 -- Evaluation: the whole variables that a started process can name are live places. Assumes nothing.
 use Prim.Native.Nat.{ℕ, zero, suc, _+_, _-_, _/_, _%_, _≤_, _<_}
 use mathlib.Core.Path.{_≡_, refl, sym, _∙_}
-use mathlib.Core.Bool.{Bool, true, false}
+use mathlib.Core.Bool.{true, false}
 use native.Mathlib.Omega.{arith}
 use lib.Dec.{eqb, leb, ltb}
 use borrow.Author.Tests.{eqb-true, eqb-false, le-leb, lt-ltb, eq-eqb}
-use Rattle.basics.specs.Choice.{both, either, cases}
-use Rattle.basics.proofs.Bools.{no-true, both-r, both-i, either-l, either-r}
+use Rattle.basics.specs.Choice.{both, cases}
+use Rattle.basics.proofs.Bools.{no-true, both-l, both-r, both-i, either-l, either-r, either-case}
 use Rattle.table.specs.Table.{Table}
 use Rattle.table.specs.Entries.{varCount, blockCount, varMode, varType, owner, firstVar, vars}
 use Rattle.numbers.proofs.TypePromise.{var-type}
 use Rattle.machine.specs.Memory.{Memory}
-use Rattle.machine.specs.Layout.{location, statusAt, moduleAt, statementAt, frameAt, topAt, worksAt, depthAt, createdAt, callerFrame, calledBlock}
+use Rattle.machine.specs.Layout.{location, statusAt, moduleAt, statementAt, frameAt, topAt, worksAt, depthAt, createdAt, callerFrame, callerWorks, calledBlock}
 use Rattle.machine.specs.Outcomes.{ok, need, place, value}
 use Rattle.machine.specs.Variables.{varWords, offsetOf, belongs, known, fits}
 use Rattle.machine.specs.Values.{partOfBlock}
 use Rattle.machine.specs.Context.{contextOf, blockOf}
 use Rattle.machine.specs.Operands.{placeAt, moduleVariable, frameVariable, wholePlace}
-use Rattle.machine.specs.Rule.{isCreated, owns, lives}
-use Rattle.machine.proofs.Tests.{range-i}
+use Rattle.machine.specs.Rule.{owns, worked, lives}
 use Rattle.machine.proofs.Memories.{within-from, within-to}
 use Rattle.machine.proofs.Outcomes.{need-true}
 use Rattle.verdict.specs.Accepted.{Accepted}
 use Rattle.sound.specs.Claims.{PlaceLaws}
-use Rattle.sound.specs.Ruled.{Framed, Chained, bottom, called, Ruled, Standing}
+use Rattle.sound.specs.Ruled.{Framed, Chained, Worked, bottom, called, Ruled, Standing}
 use Rattle.sound.specs.Evaluated.{Live, GoodPlace, at-place, no-place}
 use Rattle.sound.proofs.Ruled.{block-there, block-kind, block-owner, block-bottom, block-called, stands}
 use Rattle.sound.proofs.StoresBlocks.{module-plain, module-fits}
@@ -31,6 +30,7 @@ use Rattle.sound.proofs.EvaluationBasics.{on-need, location-area, locat
 use Rattle.sound.proofs.ValueKnown.{known-type}
 use Rattle.sound.proofs.EvaluationPlaces.{whole-part, lives-housed}
 use Rattle.sound.proofs.ValueBlocks.{variable-in, words-value, words-var, variable-type}
+use Rattle.sound.proofs.Worked.{worked-first, worked-outer}
 
 -- the place of a variable among those of its block
 pub record Placed (T : Table) (b v : ℕ) : Type 0 where
@@ -47,25 +47,19 @@ belongs-placed T b v e =
 
 -- how live places arise
 module _ (T : Table) (m : Memory) (p d f τ k : ℕ) (l : k < 256) where
-  pub module-lives : (w : ℕ) → 1 ≤ w → w ≤ m createdAt → partOfBlock T (m (moduleAt w)) τ k ≡ true → lives T m p d f τ (location w k) ≡ true
-  unfolding lives isCreated
-  module-lives w a b e =
+  pub module-lives : (v w : ℕ) → 1 ≤ w → worked T m p d f v w ≡ true → partOfBlock T (m (moduleAt w)) τ k ≡ true → lives T m p d f v τ (location w k) ≡ true
+  unfolding lives
+  module-lives v w a t e =
       either-l _ _
       (rw (location-area w k a l, location-word w k a l)
-      (both-i _ _ (range-i 1 (m createdAt) w a b) e))
+      (both-i _ _ t e))
 
-  pub own-lives : 1 ≤ p → owns T m p d f τ k ≡ true → lives T m p d f τ (location p k) ≡ true
+  pub own-lives : (v : ℕ) → 1 ≤ p → owns T m p d f τ k ≡ true → lives T m p d f v τ (location p k) ≡ true
   unfolding lives
-  own-lives a e =
+  own-lives v a e =
       either-r _ _
       (rw (location-area p k a l, location-word p k a l)
       (both-i _ _ (eq-eqb p p refl) e))
-
-widened : (c e x y : Bool) → either c (both e y) ≡ true → either c (both e (either x y)) ≡ true
-unfolding either both
-widened true e x y q = refl
-widened false true x y q = either-r x y q
-widened false false x y q = q
 
 module _ (T : Table) (m : Memory) (p d f τ : ℕ) where
   pub frame-owns : (k : ℕ) → f + 4 ≤ k → partOfBlock T (calledBlock m p f) τ (k - (f + 4)) ≡ true → owns T m p (suc d) f τ k ≡ true
@@ -73,17 +67,18 @@ module _ (T : Table) (m : Memory) (p d f τ : ℕ) where
   frame-owns k l e = either-l _ _ (both-i _ _ (le-leb (f + 4) k l) e)
 
   -- what lives for the caller's calls lives for the call
-  pub outer-lives : (a : ℕ) → lives T m p d (callerFrame m p f) τ a ≡ true → lives T m p (suc d) f τ a ≡ true
+  pub outer-lives : (w a : ℕ) → lives T m p d (callerFrame m p f) (callerWorks m p f) τ a ≡ true → lives T m p (suc d) f w τ a ≡ true
   unfolding lives owns
-  outer-lives a e =
-      widened (both (isCreated T m (a / 256 + 1)) (partOfBlock T (m (moduleAt (a / 256 + 1))) τ (a % 256))) (eqb (a / 256 + 1) p)
-      (both (leb (f + 4) (a % 256)) (partOfBlock T (calledBlock m p f) τ (a % 256 - (f + 4)))) (owns T m p d (callerFrame m p f) τ (a % 256)) e
+  outer-lives w a e =
+      either-case (both (worked T m p d (callerFrame m p f) (callerWorks m p f) (a / 256 + 1)) (partOfBlock T (m (moduleAt (a / 256 + 1))) τ (a % 256))) (both (eqb (a / 256 + 1) p) (owns T m p d (callerFrame m p f) τ (a % 256))) e
+      (λ h. either-l _ _ (both-i _ _ (worked-outer T m p d f w (a / 256 + 1) (both-l _ _ h)) (both-r _ _ h)))
+      (λ h. either-r _ _ (both-i _ _ (both-l _ _ h) (either-r (both (leb (f + 4) (a % 256)) (partOfBlock T (calledBlock m p f) τ (a % 256 - (f + 4)))) _ (both-r _ _ h))))
 
 module _ (T : Table) (acc : Accepted T) (L : PlaceLaws T) (m : Memory) (R : Ruled T m) (p : ℕ) (some : 1 ≤ p) (made : p ≤ m createdAt) (s : m (statusAt p) ≡ 2) where
   chain : Chained T m p (m (depthAt p)) (m (frameAt p)) (m (worksAt p)) (m (statementAt p)) (m (topAt p))
   chain = R .process p some made .chain s
 
-  pub live : (τ a : ℕ) → lives T m p (m (depthAt p)) (m (frameAt p)) τ a ≡ true → Live T m p τ a
+  pub live : (τ a : ℕ) → lives T m p (m (depthAt p)) (m (frameAt p)) (m (worksAt p)) τ a ≡ true → Live T m p τ a
   live τ a e =
       let h = lives-housed T acc L m R p some made (m (depthAt p)) (m (frameAt p)) (m (worksAt p)) (m (statementAt p)) (m (topAt p)) τ a chain e in
       record { type = h .type; alive = e; inside = h .inside; value = h .value }
@@ -115,11 +110,11 @@ module _ (T : Table) (acc : Accepted T) (L : PlaceLaws T) (m : Memory) (R : Rule
         let g = module-fits T acc b there (block-kind T acc m w (R .process w some-w made-w)) in
         omega arith
 
-    module-live : Live T m p (varType T (firstVar T (m (moduleAt w)) + i)) (location w (offsetOf T (m (moduleAt w)) (firstVar T (m (moduleAt w)) + i)))
-    module-live =
+    module-live : Worked T m p w → Live T m p (varType T (firstVar T (m (moduleAt w)) + i)) (location w (offsetOf T (m (moduleAt w)) (firstVar T (m (moduleAt w)) + i)))
+    module-live t =
         let b : ℕ = m (moduleAt w) in
         live (varType T (firstVar T b + i)) (location w (offsetOf T b (firstVar T b + i)))
-        (module-lives T m p (m (depthAt p)) (m (frameAt p)) (varType T (firstVar T b + i)) (offsetOf T b (firstVar T b + i)) module-word w some-w made-w
+        (module-lives T m p (m (depthAt p)) (m (frameAt p)) (varType T (firstVar T b + i)) (offsetOf T b (firstVar T b + i)) module-word (m (worksAt p)) w some-w t
         (whole-part T acc L b there i l mode))
 
   module-good : (v : ℕ) (page : Memory) → belongs T (owner T (blockOf m p)) v ≡ true → GoodPlace T m p (varType T v) (moduleVariable T m page (contextOf m p) (offsetOf T (owner T (blockOf m p)) v) (varType T v))
@@ -132,7 +127,7 @@ module _ (T : Table) (acc : Accepted T) (L : PlaceLaws T) (m : Memory) (R : Rule
       rw (sym (k .owned), r .is)
       (need-place (offsetOf T (m (moduleAt w)) (firstVar T (m (moduleAt w)) + r .number)) (varType T (firstVar T (m (moduleAt w)) + r .number)) (location w (offsetOf T (m (moduleAt w)) (firstVar T (m (moduleAt w)) + r .number)))
       (module-word w (k .some-works) (k .works) (r .number) (r .below))
-      (module-live w (k .some-works) (k .works) (r .number) (r .below)))
+      (module-live w (k .some-works) (k .works) (r .number) (r .below) (worked-first T m p (m (depthAt p)) (m (frameAt p)) w w refl)))
 
   -- variable i of the procedure of its innermost call
   module _ (d : ℕ) (deep : m (depthAt p) ≡ suc d) (F : Framed T m p d (m (frameAt p)) (m (worksAt p)) (m (statementAt p)) (m (topAt p)) (calledBlock m p (m (frameAt p))))
@@ -158,7 +153,7 @@ module _ (T : Table) (acc : Accepted T) (L : PlaceLaws T) (m : Memory) (R : Rule
         let q : ℕ = calledBlock m p (m (frameAt p)) in
         let z : m (frameAt p) + 4 + offset - (m (frameAt p) + 4) ≡ offset = omega arith in
         live (varType T variable) (location p (m (frameAt p) + 4 + offset))
-        (own-lives T m p (m (depthAt p)) (m (frameAt p)) (varType T variable) (m (frameAt p) + 4 + offset) frame-word some
+        (own-lives T m p (m (depthAt p)) (m (frameAt p)) (varType T variable) (m (frameAt p) + 4 + offset) frame-word (m (worksAt p)) some
         (rw deep
         (frame-owns T m p d (m (frameAt p)) (varType T variable) (m (frameAt p) + 4 + offset) (omega arith)
         (rw z (whole-part T acc L q (F .there) i l n)))))
@@ -166,7 +161,7 @@ module _ (T : Table) (acc : Accepted T) (L : PlaceLaws T) (m : Memory) (R : Rule
     bound-live : varMode T variable ≡ 2 → Live T m p (varType T variable) (m (location p (m (frameAt p) + 4 + offset)))
     bound-live e =
         live (varType T variable) (m (location p (m (frameAt p) + 4 + offset)))
-        (rw deep (outer-lives T m p d (m (frameAt p)) (varType T variable) (m (location p (m (frameAt p) + 4 + offset))) (F .bound i l e)))
+        (rw deep (outer-lives T m p d (m (frameAt p)) (varType T variable) (m (worksAt p)) (m (location p (m (frameAt p) + 4 + offset))) (F .bound i l e)))
 
     variable-good : (page : Memory) → GoodPlace T m p (varType T variable) (frameVariable T m page (contextOf m p) (m (frameAt p) + 4 + offset) (varMode T variable) (varType T variable))
     unfolding frameVariable contextOf

@@ -39,6 +39,7 @@ use Rattle.sound.proofs.StoresChains.{chain-over, created-low, created-
 use Rattle.sound.proofs.StoresProcesses.{chain-fits}
 use Rattle.sound.proofs.StoresValues.{owns-in}
 use Rattle.sound.proofs.ValueBlocks.{variables-apart, variable-in, words-var, in-block, part-inside, block-in}
+use Rattle.sound.proofs.Worked.{lives-there}
 
 -- the call with its frame at f' and d' calls below it is one of the d calls from the frame at f on
 pub data Under (m : Memory) (p : ℕ) : ℕ → ℕ → ℕ → ℕ → Type 0 where
@@ -176,15 +177,14 @@ module _ (T : Table) (ok : Accepted T) (L : PlaceLaws T) (m : Memory) (h : Ruled
       let v = module-variables T ok (m (moduleAt p)) t k in
       record { some = n .least; made = n .most; base = y .0; below = y .1; fits = chain-fits T m p (omega arith) ch }
 
-  live-apart : (p τ a : ℕ) → 1 ≤ p → p ≤ m createdAt → m (statusAt p) ≡ 2 → lives T m p (m (depthAt p)) (m (frameAt p)) τ a ≡ true
+  live-apart : (p τ a : ℕ) → 1 ≤ p → p ≤ m createdAt → m (statusAt p) ≡ 2 → lives T m p (m (depthAt p)) (m (frameAt p)) (m (worksAt p)) τ a ≡ true
       → (p' d f j : ℕ) → Call T m p' d f → FrameWord T m p' f j → Apart (location p' j) a (wordsOf T τ)
-  unfolding lives
   live-apart p τ a l g s e p' d f j c x =
       let o = spot p' d f j c x in
       let ob = o .base in
       let oj = o .below in
       let of = o .fits in
-      either-case (both (isCreated T m (a / 256 + 1)) (partOfBlock T (m (moduleAt (a / 256 + 1))) τ (a % 256))) (both (eqb (a / 256 + 1) p) (owns T m p (m (depthAt p)) (m (frameAt p)) τ (a % 256))) e
+      either-case (both (isCreated T m (a / 256 + 1)) (partOfBlock T (m (moduleAt (a / 256 + 1))) τ (a % 256))) (both (eqb (a / 256 + 1) p) (owns T m p (m (depthAt p)) (m (frameAt p)) τ (a % 256))) (lives-there T m p l g (h .process p l g .chain s) τ a e)
       (λ y.
       let r = h .process (a / 256 + 1) (created-low T m (a / 256 + 1) (both-l _ _ y)) (created-high T m (a / 256 + 1) (both-l _ _ y)) in
       let t = block-there T ok m (a / 256 + 1) r in
@@ -331,24 +331,24 @@ module _ (T : Table) (ok : Accepted T) (L : PlaceLaws T) (m : Memory) (h : Ruled
 
     performed-keeping : (o : Outcome Effect) → Performed T m page p o → Keeping o
     unfolding return refers
-    performed-keeping _ (Performed.goes c l) = keeps (k-record m p 2 c k-none)
+    performed-keeping _ (Performed.goes c y l) = keeps (k-record m p 2 c k-none)
     performed-keeping _ (Performed.holds-on c l) = keeps (k-record _ p 2 c (k-record m _ 6 p k-none))
-    performed-keeping _ Performed.gives-up = keeps (k-record m _ 6 0 k-none)
-    performed-keeping _ (Performed.assigns τ a ws l live v w) = keeps (k-record _ p 2 _ (k-live m τ a ws live (v .long) k-none))
-    performed-keeping _ (Performed.calls q ws e P) = keeps (k-pushed m q _ ws P k-none)
-    performed-keeping _ (Performed.serves r q ws e s u P) = keeps (k-pushed _ q r ws P (k-record m r 6 p k-none))
+    performed-keeping _ (Performed.gives-up y) = keeps (k-record m _ 6 0 k-none)
+    performed-keeping _ (Performed.assigns τ a ws y l live v w) = keeps (k-record _ p 2 _ (k-live m τ a ws live (v .long) k-none))
+    performed-keeping _ (Performed.calls q ws i e P) = keeps (k-pushed m q _ ws P k-none)
+    performed-keeping _ (Performed.serves r q ws i e s u P) = keeps (k-pushed _ q r ws P (k-record m r 6 p k-none))
     performed-keeping _ Performed.waits = keeps k-none
-    performed-keeping _ (Performed.creates τ a l live k c) =
+    performed-keeping _ (Performed.creates τ a y l live k c) =
         let w : wordsOf T τ ≡ 1 = words-simple T τ (λ z. omega arith) (λ z. omega arith) in
         keeps (k-record _ p 2 _ (k-update _ a _ (λ p' d f j u x. rw w at (live-apart p τ a some made started-p (live .alive) p' d f j u x)) (k-created m (m createdAt + 1) _ (omega arith) k-none)))
-    performed-keeping _ (Performed.starts r μ ws l e s t k b w) =
+    performed-keeping _ (Performed.starts r μ ws y l e s t k b w) =
         keeps (k-record _ p 2 _ (k-started r μ ws (refers-some μ r e) s w))
       where
         refers-some : (μ r : ℕ) → refers m μ r ≡ true → 1 ≤ r
         refers-some μ r e = let u = leb-true 2 r (both-l _ _ (both-l _ _ e)) in omega arith
-    performed-keeping _ (Performed.writes a v l b c e) = keeps (k-record m p 2 _ k-none)
-    performed-keeping _ (Performed.ends e) = keeps (k-record _ p 6 0 (k-record m p 0 3 k-none))
-    performed-keeping _ (Performed.returns n e r w) = keeps (k-returns _ _ n r)
+    performed-keeping _ (Performed.writes a v y l b c e) = keeps (k-record m p 2 _ k-none)
+    performed-keeping _ (Performed.ends y e) = keeps (k-record _ p 6 0 (k-record m p 0 3 k-none))
+    performed-keeping _ (Performed.returns n y e r w) = keeps (k-returns _ _ n r)
     performed-keeping _ (Performed.fails n a b) = fails
 
   -- ---- the step: P says what its statement comes to (Evaluation, performed)

@@ -1,5 +1,5 @@
 -- A state that meets the rule: the variables in use hold values of their types, by parts. Assumes nothing.
-use Prim.Native.Nat.{ℕ, zero, suc, _+_, _-_, _*_, _/_, _%_, _<_}
+use Prim.Native.Nat.{ℕ, zero, suc, _+_, _-_, _*_, _/_, _%_, _≤_, _<_}
 use mathlib.Core.Path.{_≡_, refl, sym, ap, _∙_}
 use mathlib.Core.Bool.{Bool, true}
 use native.Mathlib.Omega.{arith}
@@ -21,14 +21,17 @@ use Rattle.machine.specs.Layout.{location, statusAt, moduleAt, statementAt, top
 use Rattle.machine.specs.Entries.{TypeEntry, integer, boolean, character, recordType, arrayType, processType, noType, typeAt}
 use Rattle.machine.specs.Variables.{offsetOf}
 use Rattle.machine.specs.Processes.{refers}
-use Rattle.machine.specs.Step.{inRange}
 use Rattle.machine.specs.Values.{typeHolds, holdsAt, nowhere, holds, part}
-use Rattle.machine.specs.Rule.{isCreated, owns, lives, moduleHolds, modulesHold, frameHolds, framesHold, chain, startedOk, processOk, rule}
+use Rattle.machine.specs.Rule.{owns, worked, lives, moduleHolds, modulesHold, frameHolds, framesHold, chain, startedOk, processOk, rule}
 use Rattle.machine.proofs.Memories.{location-plus}
 use Rattle.machine.proofs.Entries.{type-integer, type-boolean, type-character, standard-record, standard-array, at-record, at-array}
 use Rattle.sound.specs.Claims.{Small}
 use Rattle.sound.specs.InUse.{Created, Reference, empty, names, HoldsValue, simple, reference, eachField, eachElement, Part, itself, ofField, ofElement, Call, innermost, caller, Of, moduleVariable, callVariable, InUse, ofModule, ofCall, Bound, ValuesHold}
+use Rattle.sound.specs.Ruled.{Chained}
+use Rattle.sound.proofs.HistoriesBindings.{call-created}
+use Rattle.sound.proofs.Ruled.{chained as chain-of}
 use Rattle.sound.proofs.ValueBlocks.{variable, InBlock, in-block}
+use Rattle.sound.proofs.Worked.{worked-created}
 use Rattle.sound.proofs.ValueParts as parts
 
 -- ---- tests
@@ -163,7 +166,7 @@ module _ (T : Table) (m : Memory) (small : Small m) (ruled : rule T m ≡ true) 
       record { works = m (worksAt p); statement = m (statementAt p); top = m (topAt p); chained = rw z (rw e at (started-ok p c s)) }
   call-framed p d f (caller g c z) =
       let h = call-framed p (suc d) g c in
-      record { works = callerWorks m p g; statement = callStatement m p g; top = g; chained = rw z (both-r _ _ (both-r _ _ (both-r _ _ (h .chained)))) }
+      record { works = callerWorks m p g; statement = callStatement m p g; top = g; chained = rw z (both-r _ _ (both-r _ _ (both-r _ _ (both-r _ _ (h .chained))))) }
 
   frame-holds : (p d f v : ℕ) → Call T m p d f → Of T (calledBlock m p f) v → frameHolds T m p d f (calledBlock m p f) v ≡ true
   unfolding chain framesHold
@@ -216,26 +219,35 @@ module _ (T : Table) (m : Memory) (small : Small m) (ruled : rule T m ≡ true) 
       bound-at τ _ _ _ _ (ofCall p d f (variable T (calledBlock m p f) (b .i)) (c d refl) (of-block T _ _ _ b) (b .mode) refl refl) (part-of T τ _ _ (b .part)) (ap (location p) y ∙ location-plus p _ _))
       (λ h. owned p d (callerFrame m p f) τ k (λ i z. caller f (rw z at (c d refl)) refl) h)
 
-  lives-bound : (p d f τ a : ℕ) → ((e : ℕ) → d ≡ suc e → Call T m p e f) → lives T m p d f τ a ≡ true → Bound T m τ a
-  unfolding lives isCreated inRange
-  lives-bound p d f τ a c e =
+  lives-bound : (p d f w τ a : ℕ) → ((e : ℕ) → d ≡ suc e → Call T m p e f) → ((r : ℕ) → worked T m p d f w r ≡ true → Created m r) → lives T m p d f w τ a ≡ true → Bound T m τ a
+  unfolding lives
+  lives-bound p d f w τ a c n e =
       either-case _ _ e
       (λ h.
-      let g = both-l _ _ h in
       let b = in-block T (m (moduleAt (a / 256 + 1))) τ (a % 256) (both-r _ _ h) in
       let o = b .from in
-      let n : Created m (a / 256 + 1) = record { least = leb-true _ _ (both-l _ _ g); most = leb-true _ _ (both-r _ _ g) } in
       let y : a % 256 ≡ offsetOf T (m (moduleAt (a / 256 + 1))) (variable T (m (moduleAt (a / 256 + 1))) (b .i)) + (a % 256 - offsetOf T (m (moduleAt (a / 256 + 1))) (variable T (m (moduleAt (a / 256 + 1))) (b .i))) = omega arith in
-      bound-at τ _ _ _ _ (ofModule (a / 256 + 1) (variable T (m (moduleAt (a / 256 + 1))) (b .i)) n (of-block T _ _ _ b) refl refl) (part-of T τ _ _ (b .part)) (location-is a ∙ ap (location (a / 256 + 1)) y ∙ location-plus (a / 256 + 1) _ _))
+      bound-at τ _ _ _ _ (ofModule (a / 256 + 1) (variable T (m (moduleAt (a / 256 + 1))) (b .i)) (n (a / 256 + 1) (both-l _ _ h)) (of-block T _ _ _ b) refl refl) (part-of T τ _ _ (b .part)) (location-is a ∙ ap (location (a / 256 + 1)) y ∙ location-plus (a / 256 + 1) _ _))
       (λ h.
       let q = eqb-true _ p (both-l _ _ h) in
       let x : a ≡ location p (a % 256) = location-is a ∙ ap (λ (r : ℕ). location r (a % 256)) q in
       rw x (owned p d f τ (a % 256) c (both-r _ _ h)))
 
+  -- what the caller of a call works on is created
+  call-worked : (p d f : ℕ) → Call T m p d f → (r : ℕ) → worked T m p d (callerFrame m p f) (callerWorks m p f) r ≡ true → Created m r
+  call-worked p d f c =
+      let h = call-framed p d f c in
+      let n = call-created T m p d f c in
+      outer (chain-of T m p (suc d) f (h .works) (h .statement) (h .top) (h .chained))
+      (n .least) (n .most)
+    where
+      outer : {d f w c top : ℕ} → Chained T m p (suc d) f w c top → 1 ≤ p → p ≤ m createdAt → (r : ℕ) → worked T m p d (callerFrame m p f) (callerWorks m p f) r ≡ true → Created m r
+      outer (Chained.called k q) a b = worked-created T m p a b q
+
   call-bound : (p d f v : ℕ) → Call T m p d f → Of T (calledBlock m p f) v → varMode T v ≡ 2 → Bound T m (varType T v) (m (callVariable T m p f v))
   unfolding frameHolds
   call-bound p d f v c o e =
-      lives-bound p d (callerFrame m p f) (varType T v) _ (λ i z. caller f (rw z at c) refl) (rw (eq-eqb _ 2 e) at (frame-holds p d f v c o))
+      lives-bound p d (callerFrame m p f) (callerWorks m p f) (varType T v) _ (λ i z. caller f (rw z at c) refl) (call-worked p d f c) (rw (eq-eqb _ 2 e) at (frame-holds p d f v c o))
 
   -- THE RULE GIVES: every variable in use holds a value of its type
   pub rule-values : ValuesHold T m

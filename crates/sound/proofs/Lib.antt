@@ -22,6 +22,7 @@ pub mod HistoriesOperands
 pub mod HistoriesRecords
 pub mod HistoriesSized
 pub mod HistoriesValues
+pub mod Holders
 pub mod OpenCallsEntered
 pub mod OpenCallsKept
 pub mod OpenCallsListed
@@ -60,3 +61,4 @@ pub mod ValueStores
 pub mod ValueTypes
 pub mod ValueWords
 pub mod Values
+pub mod Worked

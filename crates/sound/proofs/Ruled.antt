@@ -4,7 +4,7 @@ use mathlib.Core.Path.{_≡_, refl, sym}
 use mathlib.Core.Bool.{true}
 use native.Mathlib.Omega.{arith}
 use lib.Dec.{eqb}
-use borrow.Author.Tests.{eqb-true, eqb-false, leb-true, ltb-true, eq-eqb, ne-eqb, le-leb, lt-ltb}
+use borrow.Author.Tests.{eqb-true, eqb-false, leb-true, ltb-true, eq-eqb, ne-eqb, le-leb, lt-ltb, not-true}
 use Rattle.basics.specs.Choice.{cases}
 use Rattle.basics.proofs.Bools.{both-l, both-r, both-i, all-at, all-i, either-l, either-r}
 pub use Rattle.basics.proofs.Bools.{either-case}
@@ -17,13 +17,13 @@ use Rattle.machine.specs.Entries.{stmtAt}
 use Rattle.machine.specs.Variables.{frameWords, offsetOf, isModule, isProcedure}
 use Rattle.machine.specs.Values.{holds}
 use Rattle.machine.specs.Step.{inRange}
-use Rattle.machine.specs.Rule.{nextFirst, liesIn, calls, isCreated, lives, moduleHolds, modulesHold, frameHolds, framesHold, frameOk, chain, moduleOk, startedOk, processOk, failureOk, rule}
+use Rattle.machine.specs.Rule.{nextFirst, liesIn, calls, isCreated, worked, lives, holdsOn, worksBy, moduleHolds, modulesHold, frameHolds, framesHold, frameOk, chain, moduleOk, startedOk, processOk, failureOk, rule}
 use Rattle.numbers.proofs.BlockPromise.{program-there, program-kind, owner-self, owner-there}
 use Rattle.machine.specs.Context.{blockOf, contextual}
 pub use Rattle.machine.proofs.Tests.{range-low, range-high, range-i}
 use Rattle.verdict.specs.Accepted.{Accepted}
 use Rattle.sound.specs.InUse.{Created}
-use Rattle.sound.specs.Ruled.{Bottom, Framed, Chained, bottom, called, Process, Ruled, Standing}
+use Rattle.sound.specs.Ruled.{Bottom, Framed, Chained, bottom, called, Held, held, given, Process, Ruled, Standing}
 
 module _ (m : Memory) (p : ℕ) where
   pub created-in : Created m p → inRange 1 (m createdAt) p ≡ true
@@ -74,11 +74,11 @@ module _ (T : Table) where
     unfolding frameHolds
     frame-values p d f q v e n = rw (ne-eqb (varMode T v) 2 n) at e
 
-    frame-bound : (p d f q v : ℕ) → frameHolds T m p d f q v ≡ true → varMode T v ≡ 2 → lives T m p d (callerFrame m p f) (varType T v) (m (location p (f + 4 + offsetOf T q v))) ≡ true
+    frame-bound : (p d f q v : ℕ) → frameHolds T m p d f q v ≡ true → varMode T v ≡ 2 → lives T m p d (callerFrame m p f) (callerWorks m p f) (varType T v) (m (location p (f + 4 + offsetOf T q v))) ≡ true
     unfolding frameHolds
     frame-bound p d f q v e n = rw n at e
 
-    frame-holds : (p d f q v : ℕ) → ((varMode T v ≡ 2 → ⊥) → holds T m (varType T v) (location p (f + 4 + offsetOf T q v)) ≡ true) → (varMode T v ≡ 2 → lives T m p d (callerFrame m p f) (varType T v) (m (location p (f + 4 + offsetOf T q v))) ≡ true) → frameHolds T m p d f q v ≡ true
+    frame-holds : (p d f q v : ℕ) → ((varMode T v ≡ 2 → ⊥) → holds T m (varType T v) (location p (f + 4 + offsetOf T q v)) ≡ true) → (varMode T v ≡ 2 → lives T m p d (callerFrame m p f) (callerWorks m p f) (varType T v) (m (location p (f + 4 + offsetOf T q v))) ≡ true) → frameHolds T m p d f q v ≡ true
     unfolding frameHolds
     frame-holds p d f q v a b =
         cases (eqb (varMode T v) 2)
@@ -89,7 +89,7 @@ module _ (T : Table) where
     unfolding chain
     bottom-of p f w c top e = search (both-l, both-r, eqb-true, lies-from, lies-to)
 
-    module _ (p d f w c top q : ℕ) (o : frameOk T m f w c top q ≡ true) (h : framesHold T m p d f q ≡ true) (k : calls q (stmtAt T (callStatement m p f)) ≡ true) where
+    module _ (p d f w c top q : ℕ) (o : frameOk T m f w c top q ≡ true) (h : framesHold T m p d f q ≡ true) (k : calls q (stmtAt T (callStatement m p f)) ≡ true) (b : worksBy T m p d f w (stmtAt T (callStatement m p f)) ≡ true) where
       frame-each : (i : ℕ) → i < vars T q → frameHolds T m p d f q (firstVar T q + i) ≡ true
       unfolding framesHold
       frame-each i l = all-at (vars T q) (λ i. frameHolds T m p d f q (firstVar T q + i)) h i l
@@ -97,13 +97,15 @@ module _ (T : Table) where
       framed-of : Framed T m p d f w c top q
       unfolding frameOk isCreated
       framed-of =
-          let made = both-l _ _ (both-r _ _ o) in
+          let made = both-l _ _ (both-l _ _ (both-r _ _ o)) in
+          let begun = both-r _ _ (both-l _ _ (both-r _ _ o)) in
           let proc = both-l _ _ (both-r _ _ (both-r _ _ o)) in
           let r3 = both-r _ _ (both-r _ _ (both-r _ _ o)) in
           record {
             room = leb-true (f + 4) 256 (both-l _ _ o);
             some-works = range-low 1 (m createdAt) w made;
             works = range-high 1 (m createdAt) w made;
+            begun = eqb-false (m (statusAt w)) 1 (not-true _ begun);
             there = procedure-there q proc;
             procedure = procedure-kind q proc;
             owned = eqb-true (owner T q) (m (moduleAt w)) (both-l _ _ r3);
@@ -114,6 +116,7 @@ module _ (T : Table) where
             values = λ i l. frame-values p d f q (firstVar T q + i) (frame-each i l);
             bound = λ i l. frame-bound p d f q (firstVar T q + i) (frame-each i l);
             calling = k;
+            by = b;
           }
 
     module _ (p d f w c top q : ℕ) (r : Framed T m p d f w c top q) where
@@ -121,7 +124,7 @@ module _ (T : Table) where
       unfolding frameOk isCreated
       frame-ok =
           both-i _ _ (le-leb (f + 4) 256 (r .room))
-          (both-i _ _ (range-i 1 (m createdAt) w (r .some-works) (r .works))
+          (both-i _ _ (both-i _ _ (range-i 1 (m createdAt) w (r .some-works) (r .works)) (rw (ne-eqb (m (statusAt w)) 1 (r .begun))))
           (both-i _ _ (procedure-i q (r .there) (r .procedure))
           (both-i _ _ (eq-eqb (owner T q) (m (moduleAt w)) (r .owned))
           (both-i _ _ (eq-eqb (f + 4 + frameWords T q) top (r .ends))
@@ -132,26 +135,50 @@ module _ (T : Table) where
       unfolding framesHold
       frames-hold = all-i (vars T q) (λ i. frameHolds T m p d f q (firstVar T q + i)) (λ i l. frame-holds p d f q (firstVar T q + i) (r .values i l) (r .bound i l))
 
-    -- the chain as a family, and back
+    -- what a process holds
+    held-of : (p r : ℕ) → holdsOn T m p r ≡ true → Held T m p r
+    unfolding holdsOn
+    held-of p r e =
+        either-case (eqb (m (holderAt r)) p) _ e
+        (λ h. held (eqb-true (m (holderAt r)) p h))
+        (λ h. given (eqb-true r (m (worksAt p)) (both-l _ _ h)) (both-r _ _ h))
+
+    holds-on : (p r : ℕ) → Held T m p r → holdsOn T m p r ≡ true
+    unfolding holdsOn
+    holds-on p r (held e) = either-l _ _ (eq-eqb (m (holderAt r)) p e)
+    holds-on p r (given e w) = either-r (eqb (m (holderAt r)) p) _ (both-i _ _ (eq-eqb r (m (worksAt p)) e) w)
+
+    -- the chain as a family, with what is held, and back
     pub chained : (p d f w c top : ℕ) → chain T m p d f w c top ≡ true → Chained T m p d f w c top
     unfolding chain
     chained p zero f w c top e = bottom (bottom-of p f w c top e)
     chained p (suc d) f w c top e =
-        called (framed-of p d f w c top (calledBlock m p f) (both-l _ _ e) (both-l _ _ (both-r _ _ e)) (both-l _ _ (both-r _ _ (both-r _ _ e))))
-        (chained p d (callerFrame m p f) (callerWorks m p f) (callStatement m p f) f (both-r _ _ (both-r _ _ (both-r _ _ e))))
+        let calling = both-l _ _ (both-r _ _ (both-r _ _ e)) in
+        called (framed-of p d f w c top (calledBlock m p f) (both-l _ _ e) (both-l _ _ (both-r _ _ e)) (both-l _ _ calling) (both-r _ _ calling))
+        (chained p d (callerFrame m p f) (callerWorks m p f) (callStatement m p f) f (both-r _ _ (both-r _ _ (both-r _ _ (both-r _ _ e)))))
 
-    pub chains : (p d f w c top : ℕ) → Chained T m p d f w c top → chain T m p d f w c top ≡ true
-    unfolding chain
-    chains p zero f w c top (bottom b) =
+    pub holding : (p d f w c top : ℕ) → chain T m p d f w c top ≡ true → (r : ℕ) → worked T m p d f w r ≡ true → Held T m p r
+    unfolding chain worked
+    holding p zero f w c top e r h = held-of p r (rw (eqb-true w r h) at (both-r _ _ (both-l _ _ (both-r _ _ e))))
+    holding p (suc d) f w c top e r h =
+        let rest = both-r _ _ (both-r _ _ (both-r _ _ e)) in
+        either-case (eqb w r) _ h
+        (λ i. held-of p r (rw (eqb-true w r i) at (both-l _ _ rest)))
+        (λ i. holding p d (callerFrame m p f) (callerWorks m p f) (callStatement m p f) f (both-r _ _ rest) r i)
+
+    pub chains : (p d f w c top : ℕ) → Chained T m p d f w c top → ((r : ℕ) → worked T m p d f w r ≡ true → Held T m p r) → chain T m p d f w c top ≡ true
+    unfolding chain worked
+    chains p zero f w c top (bottom b) h =
         both-i _ _ (eq-eqb f 0 (b .no-frame))
-        (both-i _ _ (eq-eqb w p (b .own))
+        (both-i _ _ (both-i _ _ (eq-eqb w p (b .own)) (holds-on p w (h w (eq-eqb w w refl))))
         (both-i _ _ (eq-eqb top (moduleWords T (m (moduleAt p))) (b .ends))
         (lies-i (m (moduleAt p)) c (b .from) (b .to))))
-    chains p (suc d) f w c top (called r k) =
+    chains p (suc d) f w c top (called r k) h =
         both-i _ _ (frame-ok p d f w c top (calledBlock m p f) r)
         (both-i _ _ (frames-hold p d f w c top (calledBlock m p f) r)
-        (both-i _ _ (r .calling)
-        (chains p d (callerFrame m p f) (callerWorks m p f) (callStatement m p f) f k)))
+        (both-i _ _ (both-i _ _ (r .calling) (r .by))
+        (both-i _ _ (holds-on p w (h w (either-l _ _ (eq-eqb w w refl))))
+        (chains p d (callerFrame m p f) (callerWorks m p f) (callStatement m p f) f k (λ x e. h x (either-r (eqb w x) _ e))))))
 
     -- a created process
     module _ (p : ℕ) where
@@ -185,6 +212,7 @@ module _ (T : Table) where
             holder = leb-true (m (holderAt p)) (m createdAt) (both-l _ _ (both-r _ _ e));
             variables = λ i l. all-at (vars T (m (moduleAt p))) (λ i. moduleHolds T m p (m (moduleAt p)) (firstVar T (m (moduleAt p)) + i)) v i l;
             chain = λ n. chained p (m (depthAt p)) (m (frameAt p)) (m (worksAt p)) (m (statementAt p)) (m (topAt p)) (rw (eq-eqb (m (statusAt p)) 2 n) at s);
+            holding = λ n. holding p (m (depthAt p)) (m (frameAt p)) (m (worksAt p)) (m (statementAt p)) (m (topAt p)) (rw (eq-eqb (m (statusAt p)) 2 n) at s);
           }
 
       module-ok : Process T m p → moduleOk T m p ≡ true
@@ -201,7 +229,7 @@ module _ (T : Table) where
           (both-i _ _ (le-leb (m (holderAt p)) (m createdAt) (r .holder))
           (both-i _ _ (all-i (vars T (m (moduleAt p))) (λ i. moduleHolds T m p (m (moduleAt p)) (firstVar T (m (moduleAt p)) + i)) (r .variables))
           (cases (eqb (m (statusAt p)) 2)
-          (λ e. rw e (chains p (m (depthAt p)) (m (frameAt p)) (m (worksAt p)) (m (statementAt p)) (m (topAt p)) (r .chain (eqb-true (m (statusAt p)) 2 e))))
+          (λ e. rw e (chains p (m (depthAt p)) (m (frameAt p)) (m (worksAt p)) (m (statementAt p)) (m (topAt p)) (r .chain (eqb-true (m (statusAt p)) 2 e)) (r .holding (eqb-true (m (statusAt p)) 2 e))))
           (λ e. rw e))))
 
     failed-in : failureOk T m ≡ true → (m failureAt ≡ 0 → ⊥) → (16 ≤ m failureAt) × (m failureAt ≤ 24)

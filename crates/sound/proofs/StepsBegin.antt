@@ -17,12 +17,13 @@ use Rattle.machine.specs.Rule.{rule}
 use Rattle.machine.proofs.Memories.{update-at, update-other}
 use Rattle.verdict.specs.Accepted.{Accepted}
 use Rattle.sound.specs.Claims.{PlaceLaws}
-use Rattle.sound.specs.Ruled.{Bottom, bottom, Process, Ruled}
+use Rattle.sound.specs.Ruled.{Bottom, bottom, held, Process, Ruled}
 use Rattle.sound.proofs.Ruled.{rules}
 use Rattle.sound.proofs.StoresBlocks.{module-plain, module-fits}
 use Rattle.sound.proofs.StoresMemory.{location-add, location-low, location-up, record-high, words-apart}
 use Rattle.sound.proofs.StoresStanding.{block-begins, stand-word, stand-depth, stand-works, stand-top, stand-frame, stand-statement, stand-area}
 use Rattle.sound.proofs.ValueBlocks.{variable-in, words-value, variable-type}
+use Rattle.sound.proofs.Worked.{worked-bottom}
 
 -- the state before process 1 stands
 unfoldable empty : Memory
@@ -128,6 +129,9 @@ module _ (T : Table) (ok : Accepted T) where
                 stand-top empty 1 (firstStmt T 0) 0 (moduleWords T 0) 1 0,
               )
               (bottom first-bottom);
+          holding = λ z.
+              rw (stand-depth empty 1 (firstStmt T 0) 0 (moduleWords T 0) 1 0, stand-frame empty 1 (firstStmt T 0) 0 (moduleWords T 0) 1 0, stand-works empty 1 (firstStmt T 0) 0 (moduleWords T 0) 1 0)
+              (λ x t. let i = worked-bottom T first 1 0 1 x t in rw (← i) (held h));
         }
 
     first-ruled : Ruled T first

@@ -1,7 +1,7 @@
 -- THE RULE is kept where a procedure is called. Assumes nothing.
 use Prim.Native.Nat.{ℕ, suc, _+_, _-_, _*_, _≤_, _<_}
 use mathlib.Core.Path.{_≡_, refl, _∙_}
-use mathlib.Core.Bool.{true}
+use mathlib.Core.Bool.{true, false}
 use mathlib.Core.List.{List, _∷_, _++_}
 use native.Mathlib.Omega.{arith}
 use native.Mathlib.Numerals.{add-one}
@@ -14,19 +14,21 @@ use Rattle.table.specs.Table.{Table}
 use Rattle.table.specs.Entries.{blockCount, varMode, varType, blockKind, owner, firstVar, params, vars, firstStmt}
 use Rattle.numbers.proofs.BlockPromise.{params-vars, mode-local}
 use Rattle.machine.specs.Memory.{Memory, store}
-use Rattle.machine.specs.Layout.{location, linkAt, statusAt, moduleAt, statementAt, frameAt, topAt, worksAt, depthAt, createdAt, callerFrame}
-use Rattle.machine.specs.Entries.{stmtAt}
+use Rattle.machine.specs.Layout.{location, linkAt, statusAt, moduleAt, statementAt, frameAt, topAt, worksAt, holderAt, depthAt, createdAt, callerFrame, callStatement, callerWorks}
+use Rattle.machine.specs.Entries.{localCall, processCall, stmtAt}
 use Rattle.machine.specs.Variables.{firstWords, frameWords, offsetOf}
 use Rattle.machine.specs.Values.{holds}
 use Rattle.machine.specs.Calls.{standing}
-use Rattle.machine.specs.Rule.{calls, lives}
+use Rattle.machine.specs.Rule.{calls, worked, lives, worksBy}
 use Rattle.machine.proofs.Memories.{store-at}
 use Rattle.verdict.specs.Accepted.{Accepted}
 use Rattle.sound.specs.Claims.{PlaceLaws}
 use Rattle.sound.specs.Ruled.{Framed, Chained, bottom, called, Ruled, Carries, Fills}
 use Rattle.sound.proofs.StoresMemory.{location-add, area-before, area-record}
-use Rattle.sound.proofs.StoresChains.{Same, carries-keeps, chain-over, called-by, lives-part, owns-same, chain-same}
-use Rattle.sound.proofs.StoresProcesses.{process-keeps, variables-same}
+use Rattle.sound.proofs.StoresChains.{Same, carries-keeps, chain-over, called-by, alike-same, chain-same}
+use Rattle.sound.proofs.StoresProcesses.{process-keeps, variables-same, holding-stays}
+use Rattle.sound.proofs.StoresRecords.{Holds}
+use Rattle.sound.proofs.Worked.{Alike, worked-case, lives-alike, held-same, works-by-i}
 use Rattle.sound.proofs.StoresRule.{store-carries, store-ruled}
 use Rattle.sound.proofs.StoresStanding.{block-begins, stand-kept}
 use Rattle.sound.proofs.ValueBlocks.{begins-at, next-begins, begins-up, variable-in, words-value, words-var, variable-type}
@@ -76,6 +78,10 @@ module _ (T : Table) (good : Accepted T) (L : PlaceLaws T) (s : Memory) (h : Rul
     unfolding Same
     free-chain = chain-same T L s (store s (location p k) ws) free-carries p a b top-chain (λ j x y. area-before s p k ws j (omega arith))
 
+    free-alike : Alike T s (store s (location p k) ws) p (s (depthAt p)) (s (frameAt p)) (s (worksAt p))
+    unfolding Same
+    free-alike = alike-same T s (store s (location p k) ws) free-carries p top-chain (λ j x y. area-before s p k ws j (omega arith))
+
     pub free-kept : Ruled T (store s (location p k) ws)
     free-kept =
         let u = h .most in
@@ -83,16 +89,18 @@ module _ (T : Table) (good : Accepted T) (L : PlaceLaws T) (s : Memory) (h : Rul
         store-ruled T good L s h p k ws a b fits
         (process-keeps T s (store s (location p k) ws) p (h .process p a b) (λ i l. area-record s p k ws p i a (omega arith) fits) free-carries
         (variables-same T good L s (store s (location p k) ws) free-carries p a b (h .process p a b) (λ j l. area-before s p k ws j (omega arith)))
-        (λ y. free-chain))
+        (λ y. free-chain)
+        (λ y. holding-stays T good L s (store s (location p k) ws) free-carries p a b (h .process p a b) y free-alike
+        (λ t z w. held-same T s (store s (location p k) ws) p t (area-record s p k ws t 6 a (omega arith) fits) (area-record s p k ws p 5 a (omega arith) fits) (area-record s p k ws p 2 a (omega arith) fits))))
 
-    pub free-lives : (τ i : ℕ) → lives T s p (s (depthAt p)) (s (frameAt p)) τ i ≡ true → lives T (store s (location p k) ws) p (s (depthAt p)) (s (frameAt p)) τ i ≡ true
-    unfolding Same
-    free-lives τ i e =
-        lives-part T s (store s (location p k) ws) free-carries p (s (depthAt p)) (s (frameAt p)) (s (frameAt p)) τ i
-        (owns-same T s (store s (location p k) ws) free-carries p top-chain (λ j x y. area-before s p k ws j (omega arith)) τ) e
+    pub free-lives : (τ i : ℕ) → lives T s p (s (depthAt p)) (s (frameAt p)) (s (worksAt p)) τ i ≡ true → lives T (store s (location p k) ws) p (s (depthAt p)) (s (frameAt p)) (s (worksAt p)) τ i ≡ true
+    free-lives = lives-alike T s (store s (location p k) ws) p free-carries a b top-chain free-alike
 
   -- a frame for procedure q, on process r, with the arguments ws
-  module _ (q r : ℕ) (ws : List ℕ) (F : Fills T s p q ws) (there : q < blockCount T) (kind : blockKind T q ≡ 2) (r1 : 1 ≤ r) (r2 : r ≤ s createdAt) (owned : owner T q ≡ s (moduleAt r)) (room : s (topAt p) + 4 + frameWords T q ≤ 256) (calling : calls q (stmtAt T (s (statementAt p))) ≡ true) where
+  module _ (q r : ℕ) (ws : List ℕ) (F : Fills T s p q ws) (there : q < blockCount T) (kind : blockKind T q ≡ 2) (r1 : 1 ≤ r) (r2 : r ≤ s createdAt) (owned : owner T q ≡ s (moduleAt r)) (room : s (topAt p) + 4 + frameWords T q ≤ 256) (calling : calls q (stmtAt T (s (statementAt p))) ≡ true)
+      (begun : s (statusAt r) ≡ 1 → ⊥) (strict : Holds T s p) (taken : s (holderAt r) ≡ p)
+      (as-local : (q c n : ℕ) → stmtAt T (s (statementAt p)) ≡ localCall q c n → s (worksAt p) ≡ r)
+      (as-process : (i q c n : ℕ) → stmtAt T (s (statementAt p)) ≡ processCall i q c n → worked T s p (s (depthAt p)) (s (frameAt p)) (s (worksAt p)) r ≡ false) where
     abbrev fr : List ℕ
     fr = frameOf (s (frameAt p)) (s (statementAt p)) (s (worksAt p)) q ws (frameWords T q - length ws)
 
@@ -162,7 +170,7 @@ module _ (T : Table) (good : Accepted T) (L : PlaceLaws T) (s : Memory) (h : Rul
         let w : s (topAt p) + 4 + offsetOf T q (firstVar T q + i) + k ≡ s (topAt p) + 4 + (offsetOf T q (firstVar T q + i) + k) = omega arith in
         rw (location-add p (s (topAt p) + 4 + offsetOf T q (firstVar T q + i)) k, w) (new-zero (offsetOf T q (firstVar T q + i) + k) (omega arith) (omega arith))))
 
-    new-bound : (i : ℕ) → i < vars T q → varMode T (firstVar T q + i) ≡ 2 → lives T new p (s (depthAt p)) (callerFrame new p (s (topAt p))) (varType T (firstVar T q + i)) (new (location p (s (topAt p) + 4 + offsetOf T q (firstVar T q + i)))) ≡ true
+    new-bound : (i : ℕ) → i < vars T q → varMode T (firstVar T q + i) ≡ 2 → lives T new p (s (depthAt p)) (callerFrame new p (s (topAt p))) (callerWorks new p (s (topAt p))) (varType T (firstVar T q + i)) (new (location p (s (topAt p) + 4 + offsetOf T q (firstVar T q + i)))) ≡ true
     new-bound i l n =
         cases (ltb i (params T q))
         (λ x. let y = ltb-true i (params T q) x in
@@ -172,8 +180,18 @@ module _ (T : Table) (good : Accepted T) (L : PlaceLaws T) (s : Memory) (h : Rul
         let w = begins-up T q (i + 1) (params T q) (omega arith) in
         let m = next-begins T q i in
         let g = F .long in
-        rw (link0, e, new-argument (firstWords T q i) (omega arith)) (free-lives (s (topAt p)) fr top-top fits (varType T (firstVar T q + i)) (getD ws (firstWords T q i) 0) (F .places i y n)))
+        rw (link0, link2, e, new-argument (firstWords T q i) (omega arith)) (free-lives (s (topAt p)) fr top-top fits (varType T (firstVar T q + i)) (getD ws (firstWords T q i) 0) (F .places i y n)))
         (λ x. let y = mode-local T (good .numbers) q there i (ltb-false i (params T q) x) l in absurd (omega arith))
+
+    new-alike : Alike T s new p (s (depthAt p)) (s (frameAt p)) (s (worksAt p))
+    new-alike = free-alike (s (topAt p)) fr top-top fits
+
+    new-by : worksBy T new p (s (depthAt p)) (s (topAt p)) r (stmtAt T (callStatement new p (s (topAt p)))) ≡ true
+    new-by =
+        rw link1
+        (works-by-i T new p (s (depthAt p)) (s (topAt p)) r q (stmtAt T (s (statementAt p))) calling
+        (λ i c n e. link2 ∙ as-local i c n e)
+        (λ i j c n e. rw (link0, link2) (new-alike .working r ∙ as-process i j c n e)))
 
     new-frame : Framed T new p (s (depthAt p)) (s (topAt p)) r (firstStmt T q) (s (topAt p) + 4 + frameWords T q) q
     new-frame =
@@ -181,6 +199,7 @@ module _ (T : Table) (good : Accepted T) (L : PlaceLaws T) (s : Memory) (h : Rul
           room = omega arith;
           some-works = r1;
           works = let g = new-carries .grows in omega arith;
+          begun = new-carries .begun r r1 r2 begun;
           there = there;
           procedure = kind;
           owned = rw (new-carries .modules r r1 r2) owned;
@@ -191,7 +210,18 @@ module _ (T : Table) (good : Accepted T) (L : PlaceLaws T) (s : Memory) (h : Rul
           values = new-values;
           bound = new-bound;
           calling = rw link1 calling;
+          by = new-by;
         }
+
+    -- it holds what it works on
+    new-holder : (x : ℕ) → new (holderAt x) ≡ s (holderAt x)
+    new-holder x = let u = h .most in area-record s p (s (topAt p)) fr x 6 a (omega arith) fits
+
+    new-strict : (x : ℕ) → worked T new p (suc (s (depthAt p))) (s (topAt p)) r x ≡ true → new (holderAt x) ≡ p
+    new-strict x e =
+        worked-case T new p (s (depthAt p)) (s (topAt p)) r x e
+        (λ i. new-holder x ∙ rw i at taken)
+        (λ i. new-holder x ∙ strict x (rw (link0, link2, new-alike .working x) at i))
 
     -- THE PUSH
     pub push-kept : Ruled T (standing new p (firstStmt T q) (s (topAt p)) (s (topAt p) + 4 + frameWords T q) r (s (depthAt p) + 1))
@@ -200,4 +230,4 @@ module _ (T : Table) (good : Accepted T) (L : PlaceLaws T) (s : Memory) (h : Rul
         rw (add-one (s (depthAt p)))
         (stand-kept new p (firstStmt T q) (s (topAt p)) (s (topAt p) + 4 + frameWords T q) r (suc (s (depthAt p))) a T good L
         (free-kept (s (topAt p)) fr top-top fits) (omega arith)
-        (called-by T new p link0 link1 link2 link3 new-frame (free-chain (s (topAt p)) fr top-top fits)))
+        (called-by T new p link0 link1 link2 link3 new-frame (free-chain (s (topAt p)) fr top-top fits)) new-strict)

@@ -1,26 +1,26 @@
 -- A chain of calls stays where its words do, and the processes and their modules. Assumes nothing.
-use Prim.Native.Nat.{ℕ, suc, _+_, _-_, _/_, _%_, _≤_, _<_}
-use mathlib.Core.Path.{_≡_}
+use Prim.Native.Nat.{ℕ, suc, _+_, _≤_, _<_}
+use mathlib.Core.Path.{_≡_, refl}
 use mathlib.Core.Bool.{true}
 use native.Mathlib.Omega.{arith}
-use lib.Dec.{eqb, leb}
 use borrow.Author.Tests.{leb-true, le-leb}
-use Rattle.basics.specs.Choice.{both}
-use Rattle.basics.proofs.Bools.{no-true, both-l, both-r, both-i, either-l, either-r, either-case}
+use Rattle.basics.proofs.Bools.{both-l, both-r, both-i}
 use Rattle.table.specs.Table.{Table}
 use Rattle.table.specs.Entries.{varMode, varType, firstVar, vars}
 use Rattle.sizes.specs.Sizes.{wordsOf, moduleWords}
 use Rattle.machine.specs.Memory.{Memory}
-use Rattle.machine.specs.Layout.{location, linkAt, moduleAt, createdAt, callerFrame, callStatement, callerWorks, calledBlock}
+use Rattle.machine.specs.Layout.{location, linkAt, moduleAt, createdAt, callerFrame, callStatement, callerWorks}
+use Rattle.machine.specs.Entries.{stmtAt}
 use Rattle.machine.specs.Variables.{offsetOf}
 use Rattle.machine.specs.Processes.{refers}
-use Rattle.machine.specs.Values.{holds, partOfBlock}
-use Rattle.machine.specs.Rule.{isCreated, owns, lives}
+use Rattle.machine.specs.Values.{holds}
+use Rattle.machine.specs.Rule.{isCreated}
 use Rattle.machine.proofs.Tests.{range-low, range-high, range-i}
 use Rattle.sound.specs.Claims.{Keeps, PlaceLaws}
 use Rattle.sound.specs.Ruled.{Bottom, Framed, Chained, bottom, called, Carries}
 use Rattle.sound.proofs.StoresMemory.{location-add}
 use Rattle.sound.proofs.ValueBlocks.{variable-in, words-value, words-var}
+use Rattle.sound.proofs.Worked.{Alike, alike-none, alike-more, lives-alike, works-by-same}
 
 -- references stay references
 pub carries-keeps : (m n : Memory) → Carries m n → Keeps m n
@@ -33,6 +33,9 @@ carries-keeps m n c =
           let g = c .grows in
           both-i _ _ (both-i _ _ (le-leb 2 r l) (le-leb r (n createdAt) (omega arith))) (rw (c .modules r (omega arith) h) (both-r _ _ e));
     }
+
+pub same-carries : (m : Memory) → Carries m m
+same-carries m = record { grows = omega arith; modules = λ q l g. refl; begun = λ q l g n. n }
 
 pub created-low : (T : Table) (m : Memory) (p : ℕ) → isCreated T m p ≡ true → 1 ≤ p
 unfolding isCreated
@@ -57,15 +60,6 @@ called-by T m p {d = d} {f = f} {w = w} {c = c} {top = top} e0 e1 e2 e3 r k =
     called {d = d} {f = f} {w = w} {c = c} {top = top} (rw e3 r) (rw (e0, e1, e2) k)
 
 module _ (T : Table) (m n : Memory) (cs : Carries m n) (p : ℕ) where
-  -- a live variable stays one
-  pub lives-part : (d f f' τ a : ℕ) → ((k : ℕ) → owns T m p d f τ k ≡ true → owns T n p d f' τ k ≡ true) → lives T m p d f τ a ≡ true → lives T n p d f' τ a ≡ true
-  unfolding lives
-  lives-part d f f' τ a h e =
-      either-case (both (isCreated T m (a / 256 + 1)) (partOfBlock T (m (moduleAt (a / 256 + 1))) τ (a % 256))) (both (eqb (a / 256 + 1) p) (owns T m p d f τ (a % 256))) e
-      (λ x. let l = created-low T m (a / 256 + 1) (both-l _ _ x) in let g = created-high T m (a / 256 + 1) (both-l _ _ x) in let u = cs .grows in
-      either-l _ _ (both-i _ _ (created-i T n (a / 256 + 1) l (omega arith)) (rw (cs .modules (a / 256 + 1) l g) (both-r _ _ x))))
-      (λ x. either-r _ _ (both-i _ _ (both-l _ _ x) (h (a % 256) (both-r _ _ x))))
-
   -- the words of the area of p from base on below top are the same
   unfoldable pub Same : ℕ → ℕ → Type 0
   Same base top = (j : ℕ) → base ≤ j → j < top → n (location p j) ≡ m (location p j)
@@ -78,32 +72,33 @@ module _ (T : Table) (m n : Memory) (cs : Carries m n) (p : ℕ) where
   unfolding Same
   same-below base top f h l j a b = h j a (omega arith)
 
-  pub owns-same : {d f w c top : ℕ} → Chained T m p d f w c top → Same (moduleWords T (m (moduleAt p))) top → (τ k : ℕ) → owns T m p d f τ k ≡ true → owns T n p d f τ k ≡ true
-  unfolding owns
-  owns-same (bottom b) s τ k e = no-true e
-  owns-same {d = suc d} {f = f} {top = top} (called q r) s τ k e =
+  pub alike-same : {d f w c top : ℕ} → Chained T m p d f w c top → Same (moduleWords T (m (moduleAt p))) top → Alike T m n p d f w
+  alike-same {f = f} {w = w} (bottom b) s = alike-none T m n p f w
+  alike-same {d = suc d} {f = f} {w = w} {top = top} (called q r) s =
       let x = chain-over T m p r in
       let g = q .ends in
-      let e0 = link-same (moduleWords T (m (moduleAt p))) top f 0 s x (omega arith) in
-      let e3 = link-same (moduleWords T (m (moduleAt p))) top f 3 s x (omega arith) in
-      either-case (both (leb (f + 4) k) (partOfBlock T (calledBlock m p f) τ (k - (f + 4)))) (owns T m p d (callerFrame m p f) τ k) e
-      (λ y. either-l _ _ (both-i _ _ (both-l _ _ y) (rw e3 (both-r _ _ y))))
-      (λ y. either-r _ _ (rw e0 (owns-same r (same-below (moduleWords T (m (moduleAt p))) top f s (omega arith)) τ k y)))
+      alike-more T m n p d f w
+      (link-same (moduleWords T (m (moduleAt p))) top f 0 s x (omega arith))
+      (link-same (moduleWords T (m (moduleAt p))) top f 2 s x (omega arith))
+      (link-same (moduleWords T (m (moduleAt p))) top f 3 s x (omega arith))
+      (alike-same r (same-below (moduleWords T (m (moduleAt p))) top f s (omega arith)))
 
   -- a frame whose links and bound locations stay, and whose values are values
-  module _ {d f w c top q : ℕ} (r : Framed T m p d f w c top q) where
+  module _ (some : 1 ≤ p) (made : p ≤ m createdAt) {d f w c top q : ℕ} (r : Framed T m p d f w c top q) (k : Chained T m p d (callerFrame m p f) (callerWorks m p f) (callStatement m p f) f) where
     pub frame-new :
         n (linkAt p f 0) ≡ m (linkAt p f 0)
         → n (linkAt p f 1) ≡ m (linkAt p f 1)
-        → ((τ k : ℕ) → owns T m p d (callerFrame m p f) τ k ≡ true → owns T n p d (callerFrame m p f) τ k ≡ true)
+        → n (linkAt p f 2) ≡ m (linkAt p f 2)
+        → Alike T m n p d (callerFrame m p f) (callerWorks m p f)
         → ((i : ℕ) → i < vars T q → (varMode T (firstVar T q + i) ≡ 2 → ⊥) → holds T n (varType T (firstVar T q + i)) (location p (f + 4 + offsetOf T q (firstVar T q + i))) ≡ true)
         → ((i : ℕ) → i < vars T q → varMode T (firstVar T q + i) ≡ 2 → n (location p (f + 4 + offsetOf T q (firstVar T q + i))) ≡ m (location p (f + 4 + offsetOf T q (firstVar T q + i))))
         → Framed T n p d f w c top q
-    frame-new e0 e1 o v b =
+    frame-new e0 e1 e2 A v b =
         record {
           room = r .room;
           some-works = r .some-works;
           works = let g = cs .grows in let x = r .works in omega arith;
+          begun = cs .begun w (r .some-works) (r .works) (r .begun);
           there = r .there;
           procedure = r .procedure;
           owned = rw (cs .modules w (r .some-works) (r .works)) (r .owned);
@@ -112,8 +107,9 @@ module _ (T : Table) (m n : Memory) (cs : Carries m n) (p : ℕ) where
           from = r .from;
           to = r .to;
           values = v;
-          bound = λ i l g. rw (e0, b i l g) (lives-part d (callerFrame m p f) (callerFrame m p f) (varType T (firstVar T q + i)) (m (location p (f + 4 + offsetOf T q (firstVar T q + i)))) (λ k. o (varType T (firstVar T q + i)) k) (r .bound i l g));
+          bound = λ i l g. rw (e0, e2, b i l g) (lives-alike T m n p cs some made k A (varType T (firstVar T q + i)) (m (location p (f + 4 + offsetOf T q (firstVar T q + i)))) (r .bound i l g));
           calling = rw e1 (r .calling);
+          by = rw e1 (works-by-same T m n p d f w (stmtAt T (callStatement m p f)) e0 e2 A (r .by));
         }
 
 -- THE CHAIN stays where its words, the processes and their modules stay
@@ -127,10 +123,11 @@ module _ (T : Table) (L : PlaceLaws T) (m n : Memory) (cs : Carries m n) (p : �
   frame-same {f = f} {top = top} {q = q} r k s =
       let x = chain-over T m p k in
       let g = r .ends in
-      frame-new T m n cs p r
+      frame-new T m n cs p some made r k
       (link-same T m n cs p (moduleWords T (m (moduleAt p))) top f 0 s x (omega arith))
       (link-same T m n cs p (moduleWords T (m (moduleAt p))) top f 1 s x (omega arith))
-      (owns-same T m n cs p k (same-below T m n cs p (moduleWords T (m (moduleAt p))) top f s (omega arith)))
+      (link-same T m n cs p (moduleWords T (m (moduleAt p))) top f 2 s x (omega arith))
+      (alike-same T m n cs p k (same-below T m n cs p (moduleWords T (m (moduleAt p))) top f s (omega arith)))
       (λ i l h. let u = variable-in T q i l in let v = words-value T (firstVar T q + i) h in value-same (varType T (firstVar T q + i)) (f + 4 + offsetOf T q (firstVar T q + i)) (λ j y. s (f + 4 + offsetOf T q (firstVar T q + i) + j) (omega arith) (omega arith)) (r .values i l h))
       (λ i l h. let u = variable-in T q i l in let v = words-var T (firstVar T q + i) h in s (f + 4 + offsetOf T q (firstVar T q + i)) (omega arith) (omega arith))
 

@@ -1,7 +1,7 @@
 -- THE RULE is kept where a process is created. Assumes nothing.
 use Prim.Native.Nat.{ℕ, _+_, _≤_, _<_}
 use mathlib.Core.Path.{_≡_, sym, _∙_}
-use mathlib.Core.Bool.{true}
+use mathlib.Core.Bool.{true, false}
 use mathlib.Core.List.{[], _∷_}
 use native.Mathlib.Omega.{arith}
 use lib.Dec.{eqb, ltb}
@@ -11,21 +11,25 @@ use Rattle.basics.proofs.Bools.{both-i}
 use Rattle.table.specs.Table.{Table}
 use Rattle.table.specs.Entries.{blockCount, varType, blockKind, firstVar, vars}
 use Rattle.machine.specs.Memory.{Memory, store, update, clear}
-use Rattle.machine.specs.Layout.{location, recordAt, statusAt, moduleAt, statementAt, frameAt, depthAt, createdAt}
+use Rattle.machine.specs.Layout.{location, recordAt, statusAt, moduleAt, statementAt, frameAt, topAt, worksAt, holderAt, depthAt, createdAt}
 use Rattle.machine.specs.Variables.{offsetOf}
 use Rattle.machine.specs.Processes.{refers, created}
 use Rattle.machine.specs.Context.{blockOf}
 use Rattle.machine.specs.Values.{holds}
-use Rattle.machine.specs.Rule.{lives, liesIn, rule}
+use Rattle.machine.specs.Entries.{stmtAt}
+use Rattle.machine.specs.Rule.{lives, mayWait, liesIn, rule}
 use Rattle.machine.proofs.Memories.{update-at, update-other, store-below, store-above, store-at, clear-below, clear-above, clear-at}
 use Rattle.verdict.specs.Accepted.{Accepted}
 use Rattle.sound.specs.Claims.{IsValue, PlaceLaws, Started, Small}
-use Rattle.sound.specs.Ruled.{Process, Ruled, Carries}
+use Rattle.sound.specs.InUse.{Created}
+use Rattle.sound.specs.Ruled.{Chained, Worked, Process, Ruled, Carries}
 use Rattle.sound.proofs.Ruled.{ruled, rules}
 use Rattle.sound.proofs.StoresBlocks.{module-plain, module-fits}
 use Rattle.sound.proofs.StoresMemory.{location-add, location-low, location-up, areas-apart, record-high, records-apart, words-apart, update-small, clear-small}
-use Rattle.sound.proofs.StoresChains.{Same, created-low, created-high, lives-part, owns-same}
-use Rattle.sound.proofs.StoresProcesses.{chain-fits, base-fits, process-same}
+use Rattle.sound.proofs.StoresChains.{created-low, created-high}
+use Rattle.sound.proofs.StoresProcesses.{alike-stays, process-alike}
+use Rattle.sound.proofs.StoresRecords.{Holds, passing-holds}
+use Rattle.sound.proofs.Worked.{Alike, worked-created, lives-alike}
 use Rattle.sound.proofs.StoresSteps.{area-block, assign-kept}
 use Rattle.sound.proofs.ValueBlocks.{variable-in, words-value, variable-type}
 use Rattle.sound.proofs.HistoriesRecords.{created-count, created-module, created-status}
@@ -142,7 +146,14 @@ module _ (T : Table) (good : Accepted T) (L : PlaceLaws T) (m : Memory) (h : Rul
   pub created-carries : Carries m (created m next μ)
   created-carries =
       let e = created-count m next μ in
-      record { grows = omega arith; modules = λ p a b. created-record m next μ two most p 1 a (omega arith) (λ z. omega arith) (λ z. omega arith) }
+      record {
+        grows = omega arith;
+        modules = λ p a b. created-record m next μ two most p 1 a (omega arith) (λ z. omega arith) (λ z. omega arith);
+        begun = λ p a b n x. n (sym (created-record m next μ two most p 0 a (omega arith) (λ z. omega arith) (λ z. omega arith)) ∙ x);
+      }
+
+  created-holder : (x : ℕ) → Created m x → created m next μ (holderAt x) ≡ m (holderAt x)
+  created-holder x c = let l = c .most in created-record m next μ two most x 6 (c .least) (omega arith) (λ z. omega arith) (λ z. omega arith)
 
   -- its variables are 0
   new-variables : (i : ℕ) → i < vars T μ → holds T (created m next μ) (varType T (firstVar T μ + i)) (location next (offsetOf T μ (firstVar T μ + i))) ≡ true
@@ -170,6 +181,7 @@ module _ (T : Table) (good : Accepted T) (L : PlaceLaws T) (m : Memory) (h : Rul
         holder = omega arith;
         variables = rw e1 new-variables;
         chain = λ z. absurd (omega arith);
+        holding = λ z. absurd (omega arith);
       }
 
   -- THE CREATION
@@ -186,9 +198,10 @@ module _ (T : Table) (good : Accepted T) (L : PlaceLaws T) (m : Memory) (h : Rul
             (λ e. rw (eqb-true p next e) new-process)
             (λ e. let d = eqb-false p next e in
             let b' : p ≤ m createdAt = omega arith in
-            process-same T good L m (created m next μ) created-carries p a b' (h .process p a b')
+            process-alike T good L m (created m next μ) created-carries p a b' (h .process p a b')
             (λ i l. created-record m next μ two most p i a (omega arith) (λ z. omega arith) d)
-            (λ j l. created-area m next μ two most p j a (omega arith) l d));
+            (λ j l. created-area m next μ two most p j a (omega arith) l d)
+            created-holder);
       }
 
   -- with the new number in a live variable, and the process that created it at another statement
@@ -202,25 +215,35 @@ module _ (T : Table) (good : Accepted T) (L : PlaceLaws T) (m : Memory) (h : Rul
     same-area : (j : ℕ) → j < 256 → created m next μ (location p j) ≡ m (location p j)
     same-area j l = created-area m next μ two most p j a (omega arith) l apart
 
-    pub created-lives : (τ i : ℕ) → lives T m p (m (depthAt p)) (m (frameAt p)) τ i ≡ true → lives T (created m next μ) p (created m next μ (depthAt p)) (created m next μ (frameAt p)) τ i ≡ true
-    unfolding Same
-    created-lives τ i e =
-        let x = h .process p a b .chain st in
-        let f = chain-fits T m p (base-fits T good L m (created m next μ) created-carries p a b (h .process p a b)) x in
-        rw (same-record 7 (omega arith), same-record 3 (omega arith))
-        (lives-part T m (created m next μ) created-carries p (m (depthAt p)) (m (frameAt p)) (m (frameAt p)) τ i
-        (owns-same T m (created m next μ) created-carries p x (λ j y z. same-area j (omega arith)) τ) e)
+    chain : Chained T m p (m (depthAt p)) (m (frameAt p)) (m (worksAt p)) (m (statementAt p)) (m (topAt p))
+    chain = h .process p a b .chain st
 
-    pub create-kept : (τ i c : ℕ) → lives T m p (m (depthAt p)) (m (frameAt p)) τ i ≡ true → IsValue T (created m next μ) τ (next ∷ []) → liesIn T (blockOf m p) c ≡ true
+    same-alike : Alike T m (created m next μ) p (m (depthAt p)) (m (frameAt p)) (m (worksAt p))
+    same-alike = alike-stays T good L m (created m next μ) created-carries p a b (h .process p a b) (λ j y z. same-area j z) chain
+
+    pub created-lives : (τ i : ℕ) → lives T m p (m (depthAt p)) (m (frameAt p)) (m (worksAt p)) τ i ≡ true → lives T (created m next μ) p (created m next μ (depthAt p)) (created m next μ (frameAt p)) (created m next μ (worksAt p)) τ i ≡ true
+    created-lives τ i e =
+        rw (same-record 7 (omega arith), same-record 3 (omega arith), same-record 5 (omega arith))
+        (lives-alike T m (created m next μ) p created-carries a b chain same-alike τ i e)
+
+    created-holds : Holds T m p → Holds T (created m next μ) p
+    created-holds o x t =
+        let w : Worked T m p x = rw (same-record 7 (omega arith), same-record 3 (omega arith), same-record 5 (omega arith), same-alike .working x) at t in
+        created-holder x (worked-created T m p a b chain x w) ∙ o x w
+
+    pub create-kept : Holds T m p → (τ i c : ℕ) → lives T m p (m (depthAt p)) (m (frameAt p)) (m (worksAt p)) τ i ≡ true → IsValue T (created m next μ) τ (next ∷ []) → liesIn T (blockOf m p) c ≡ true
         → Ruled T (update (update (created m next μ) i next) (statementAt p) c)
-    create-kept τ i c e v l =
+    create-kept o τ i c e v l =
         let g = created-carries .grows in
         let z = area-block T good L m h p a b st (created m next μ) same-record same-area in
         rw (update-store (created m next μ) i next)
-        (assign-kept T good L (created m next μ) created-kept p a (omega arith) (same-record 0 (omega arith) ∙ st) τ (next ∷ []) v i (created-lives τ i e) c (rw z l))
+        (assign-kept T good L (created m next μ) created-kept p a (omega arith) (same-record 0 (omega arith) ∙ st) τ (next ∷ []) v i (created-lives τ i e) (created-holds o) c (rw z l))
 
-pub create-rule : (T : Table) → Accepted T → PlaceLaws T → (m : Memory) (p : ℕ) → Started T m p → (μ τ i c : ℕ) → m createdAt < 64 → μ < blockCount T → blockKind T μ ≡ 1
-    → lives T m p (m (depthAt p)) (m (frameAt p)) τ i ≡ true → IsValue T (created m (m createdAt + 1) μ) τ ((m createdAt + 1) ∷ []) → liesIn T (blockOf m p) c ≡ true
+pub create-rule : (T : Table) → Accepted T → PlaceLaws T → (m : Memory) (p : ℕ) → Started T m p → mayWait (stmtAt T (m (statementAt p))) ≡ false → (μ τ i c : ℕ) → m createdAt < 64 → μ < blockCount T → blockKind T μ ≡ 1
+    → lives T m p (m (depthAt p)) (m (frameAt p)) (m (worksAt p)) τ i ≡ true → IsValue T (created m (m createdAt + 1) μ) τ ((m createdAt + 1) ∷ []) → liesIn T (blockOf m p) c ≡ true
     → rule T (update (update (created m (m createdAt + 1) μ) i (m createdAt + 1)) (statementAt p) c) ≡ true
-create-rule T good L m p s μ τ i c room there kind e v l =
-    rules T _ (create-kept T good L m (ruled T m (s .ruled)) μ room there kind p (created-low T m p (s .created)) (created-high T m p (s .created)) (s .started) τ i c e v l)
+create-rule T good L m p s n μ τ i c room there kind e v l =
+    let h = ruled T m (s .ruled) in
+    let a = created-low T m p (s .created) in
+    let b = created-high T m p (s .created) in
+    rules T _ (create-kept T good L m h μ room there kind p a b (s .started) (passing-holds T good L m h p a b (s .started) n) τ i c e v l)

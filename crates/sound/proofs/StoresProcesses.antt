@@ -11,13 +11,16 @@ use Rattle.machine.specs.Memory.{Memory}
 use Rattle.machine.specs.Layout.{location, recordAt, statusAt, moduleAt, statementAt, frameAt, topAt, worksAt, holderAt, depthAt, createdAt}
 use Rattle.machine.specs.Variables.{offsetOf}
 use Rattle.machine.specs.Values.{holds}
+use Rattle.machine.specs.Rule.{worked}
 use Rattle.verdict.specs.Accepted.{Accepted}
 use Rattle.sound.specs.Claims.{PlaceLaws}
-use Rattle.sound.specs.Ruled.{Chained, bottom, called, Process, Carries}
+use Rattle.sound.specs.InUse.{Created}
+use Rattle.sound.specs.Ruled.{Chained, bottom, called, Held, Worked, Process, Carries}
 use Rattle.sound.proofs.Ruled.{block-there, block-kind}
 use Rattle.sound.proofs.StoresBlocks.{module-plain, module-variables}
-use Rattle.sound.proofs.StoresChains.{Same, value-same, chain-same}
+use Rattle.sound.proofs.StoresChains.{Same, value-same, chain-same, alike-same}
 use Rattle.sound.proofs.ValueBlocks.{variable-in, words-value}
+use Rattle.sound.proofs.Worked.{Alike, worked-created, held-same}
 
 -- a chain ends within the area
 pub chain-fits : (T : Table) (m : Memory) (p : ℕ) {d f w c top : ℕ} → moduleWords T (m (moduleAt p)) ≤ 256 → Chained T m p d f w c top → top ≤ 256
@@ -31,8 +34,9 @@ module _ (T : Table) (m n : Memory) (p : ℕ) (r : Process T m p) where
       → n (holderAt p) ≤ n createdAt
       → ((i : ℕ) → i < vars T (m (moduleAt p)) → holds T n (varType T (firstVar T (m (moduleAt p)) + i)) (location p (offsetOf T (m (moduleAt p)) (firstVar T (m (moduleAt p)) + i))) ≡ true)
       → (n (statusAt p) ≡ 2 → Chained T n p (n (depthAt p)) (n (frameAt p)) (n (worksAt p)) (n (statementAt p)) (n (topAt p)))
+      → (n (statusAt p) ≡ 2 → (x : ℕ) → Worked T n p x → Held T n p x)
       → Process T n p
-  process-by e l h f g v k =
+  process-by e l h f g v k o =
       record {
         low = l;
         high = h;
@@ -43,6 +47,7 @@ module _ (T : Table) (m n : Memory) (p : ℕ) (r : Process T m p) where
         holder = g;
         variables = rw e v;
         chain = k;
+        holding = o;
       }
 
   -- its record stays
@@ -50,8 +55,9 @@ module _ (T : Table) (m n : Memory) (p : ℕ) (r : Process T m p) where
     pub process-keeps :
         ((i : ℕ) → i < vars T (m (moduleAt p)) → holds T n (varType T (firstVar T (m (moduleAt p)) + i)) (location p (offsetOf T (m (moduleAt p)) (firstVar T (m (moduleAt p)) + i))) ≡ true)
         → (m (statusAt p) ≡ 2 → Chained T n p (m (depthAt p)) (m (frameAt p)) (m (worksAt p)) (m (statementAt p)) (m (topAt p)))
+        → (m (statusAt p) ≡ 2 → (x : ℕ) → worked T n p (m (depthAt p)) (m (frameAt p)) (m (worksAt p)) x ≡ true → Held T n p x)
         → Process T n p
-    process-keeps v k =
+    process-keeps v k o =
         let e0 = same 0 (omega arith) in
         let g = cs .grows in
         let h = r .holder in
@@ -60,6 +66,7 @@ module _ (T : Table) (m n : Memory) (p : ℕ) (r : Process T m p) where
         process-by (same 1 (omega arith)) (omega arith) (omega arith) (λ x. let y = r .first-status x in omega arith)
         (let e6 = same 6 (omega arith) in omega arith) v
         (λ x. rw (same 7 (omega arith), same 3 (omega arith), same 5 (omega arith), same 2 (omega arith), same 4 (omega arith)) (k (sym e0 ∙ x)))
+        (λ x. rw (same 7 (omega arith), same 3 (omega arith), same 5 (omega arith)) (o (sym e0 ∙ x)))
 
 module _ (T : Table) (ok : Accepted T) (L : PlaceLaws T) (m n : Memory) (cs : Carries m n) (p : ℕ) (some : 1 ≤ p) (made : p ≤ m createdAt) (r : Process T m p) where
   pub base-fits : moduleWords T (m (moduleAt p)) ≤ 256
@@ -84,9 +91,29 @@ module _ (T : Table) (ok : Accepted T) (L : PlaceLaws T) (m n : Memory) (cs : Ca
   unfolding Same
   chain-stays h k = let x = chain-fits T m p base-fits k in chain-same T L m n cs p some made k (λ j a b. h j a (omega arith))
 
-  -- THE PROCESS stays where its area and its record do
-  pub process-same : ((i : ℕ) → i < 8 → n (recordAt p i) ≡ m (recordAt p i)) → ((j : ℕ) → j < 256 → n (location p j) ≡ m (location p j)) → Process T n p
-  process-same s h =
+  pub alike-stays : ((j : ℕ) → moduleWords T (m (moduleAt p)) ≤ j → j < 256 → n (location p j) ≡ m (location p j))
+      → {d f w c top : ℕ} → Chained T m p d f w c top → Alike T m n p d f w
+  unfolding Same
+  alike-stays h k = let x = chain-fits T m p base-fits k in alike-same T m n cs p k (λ j a b. h j a (omega arith))
+
+  -- what it works on stays held, where the chain stays
+  pub holding-stays : (s : m (statusAt p) ≡ 2) → Alike T m n p (m (depthAt p)) (m (frameAt p)) (m (worksAt p))
+      → ((x : ℕ) → Created m x → Worked T m p x → Held T m p x → Held T n p x)
+      → (x : ℕ) → worked T n p (m (depthAt p)) (m (frameAt p)) (m (worksAt p)) x ≡ true → Held T n p x
+  holding-stays s A o x e =
+      let w : Worked T m p x = rw (A .working x) at e in
+      o x (worked-created T m p some made (r .chain s) x w) w (r .holding s x w)
+
+  -- THE PROCESS stays where its area and its record do, and what it holds
+  pub process-same : ((i : ℕ) → i < 8 → n (recordAt p i) ≡ m (recordAt p i)) → ((j : ℕ) → j < 256 → n (location p j) ≡ m (location p j))
+      → (m (statusAt p) ≡ 2 → (x : ℕ) → Created m x → Worked T m p x → Held T m p x → Held T n p x) → Process T n p
+  process-same s h o =
       process-keeps T m n p r s cs
       (variables-same (λ j l. let x = base-fits in h j (omega arith)))
       (λ x. chain-stays (λ j a b. h j b) (r .chain x))
+      (λ x. holding-stays x (alike-stays (λ j a b. h j b) (r .chain x)) (o x))
+
+  -- and where the holders do
+  pub process-alike : ((i : ℕ) → i < 8 → n (recordAt p i) ≡ m (recordAt p i)) → ((j : ℕ) → j < 256 → n (location p j) ≡ m (location p j))
+      → ((x : ℕ) → Created m x → n (holderAt x) ≡ m (holderAt x)) → Process T n p
+  process-alike s h o = process-same s h (λ e x c w. held-same T m n p x (o x c) (s 5 (omega arith)) (s 2 (omega arith)))

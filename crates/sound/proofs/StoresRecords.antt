@@ -1,7 +1,7 @@
 -- THE RULE is kept where a process goes on, ends, holds variables or gives them up, and where the run fails. Assumes nothing.
 use Prim.Native.Nat.{ℕ, _≤_, _<_}
 use mathlib.Core.Path.{_≡_, refl, sym, _∙_}
-use mathlib.Core.Bool.{true}
+use mathlib.Core.Bool.{true, false}
 use native.Mathlib.Omega.{arith}
 use lib.Dec.{eqb}
 use borrow.Author.Tests.{eqb-true, eqb-false, ne-eqb}
@@ -11,15 +11,18 @@ use Rattle.table.specs.Entries.{firstStmt}
 use Rattle.machine.specs.Memory.{Memory, update}
 use Rattle.machine.specs.Layout.{location, recordAt, statusAt, moduleAt, statementAt, frameAt, topAt, worksAt, holderAt, depthAt, createdAt, failureAt, calledBlock}
 use Rattle.machine.specs.Context.{blockOf}
-use Rattle.machine.specs.Rule.{liesIn, nextFirst, rule}
+use Rattle.machine.specs.Entries.{stmtAt}
+use Rattle.machine.specs.Rule.{liesIn, nextFirst, mayWait, worked, rule}
 use Rattle.machine.proofs.Memories.{update-at, update-other}
 use Rattle.verdict.specs.Accepted.{Accepted}
 use Rattle.sound.specs.Claims.{PlaceLaws, Started}
-use Rattle.sound.specs.Ruled.{Chained, bottom, called, Process, Ruled, Carries}
+use Rattle.sound.specs.InUse.{Created}
+use Rattle.sound.specs.Ruled.{Chained, bottom, called, Held, held, given, Worked, Process, Ruled, Carries}
 use Rattle.sound.proofs.Ruled.{ruled, rules, lies-from, lies-to, block-bottom}
 use Rattle.sound.proofs.StoresMemory.{location-low, location-up, record-high, records-apart, words-apart}
-use Rattle.sound.proofs.StoresChains.{created-low, created-high}
-use Rattle.sound.proofs.StoresProcesses.{process-by, variables-same, chain-stays, process-same, base-fits}
+use Rattle.sound.proofs.StoresChains.{same-carries, created-low, created-high}
+use Rattle.sound.proofs.StoresProcesses.{process-by, variables-same, chain-stays, alike-stays, process-same, base-fits}
+use Rattle.sound.proofs.Worked.{worked-first, worked-created, held-same, held-fast, given-same}
 
 -- word i of the record of r becomes v, and is neither its module nor the number of created processes
 module _ (m : Memory) (r i v : ℕ) (a : 1 ≤ r) (l : i < 20) (no-module : i ≡ 1 → ⊥) (no-created : i ≡ 8 → ⊥) where
@@ -39,45 +42,68 @@ module _ (m : Memory) (r i v : ℕ) (a : 1 ≤ r) (l : i < 20) (no-module : i �
       let z = location-low q 256 b c (omega arith) in
       update-other m (recordAt r i) v (location q j) (λ e. omega arith)
 
-  pub set-carries : Carries m (update m (recordAt r i) v)
-  set-carries =
+  pub set-carries : (i ≡ 0 → v ≡ 1 → ⊥) → Carries m (update m (recordAt r i) v)
+  set-carries begins =
       let e = set-unlike 1 8 (omega arith) (omega arith) (λ x. no-created (sym x)) in
-      record { grows = omega arith; modules = λ p b c. set-unlike p 1 b (omega arith) (λ x. no-module (sym x)) }
+      record {
+        grows = omega arith;
+        modules = λ p b c. set-unlike p 1 b (omega arith) (λ x. no-module (sym x));
+        begun = λ p b c g z.
+            cases (eqb i 0)
+            (λ y. let i0 = eqb-true i 0 y in
+            cases (eqb p r)
+            (λ q. let pr = eqb-true p r q in begins i0 (sym (update-at m (recordAt r i) v (recordAt p 0) (rw (pr, i0))) ∙ z))
+            (λ q. g (sym (set-other p 0 b (omega arith) (eqb-false p r q)) ∙ z)))
+            (λ y. g (sym (set-unlike p 0 b (omega arith) (λ x. eqb-false i 0 y (sym x))) ∙ z));
+      }
 
-  module _ (T : Table) (ok : Accepted T) (L : PlaceLaws T) (h : Ruled T m) (b : r ≤ m createdAt) where
+  module _ (T : Table) (ok : Accepted T) (L : PlaceLaws T) (h : Ruled T m) (b : r ≤ m createdAt) (begins : i ≡ 0 → v ≡ 1 → ⊥) where
+    -- another process holds what it held
+    abbrev Keeping : ℕ → Type 0
+    Keeping p = m (statusAt p) ≡ 2 → (x : ℕ) → Created m x → Worked T m p x → Held T m p x → Held T (update m (recordAt r i) v) p x
+
+    set-keeps : (i ≡ 6 → ⊥) → (p : ℕ) → 1 ≤ p → p ≤ m createdAt → (p ≡ r → ⊥) → Keeping p
+    set-keeps d p l g q s x c w =
+        held-same T m (update m (recordAt r i) v) p x (set-unlike x 6 (c .least) (omega arith) (λ z. d (sym z))) (set-other p 5 l (omega arith) q) (set-other p 2 l (omega arith) q)
+
     -- no other process changes
-    set-process : (p : ℕ) → 1 ≤ p → p ≤ m createdAt → (p ≡ r → ⊥) → Process T (update m (recordAt r i) v) p
-    set-process p x y d =
+    set-process : (p : ℕ) → 1 ≤ p → p ≤ m createdAt → (p ≡ r → ⊥) → Keeping p → Process T (update m (recordAt r i) v) p
+    set-process p x y d o =
         let z = h .most in
-        process-same T ok L m (update m (recordAt r i) v) set-carries p x y (h .process p x y)
-        (λ k g. set-other p k x (omega arith) d) (λ j g. set-area p j x (omega arith) g)
+        process-same T ok L m (update m (recordAt r i) v) (set-carries begins) p x y (h .process p x y)
+        (λ k g. set-other p k x (omega arith) d) (λ j g. set-area p j x (omega arith) g) o
 
-    pub set-ruled : Process T (update m (recordAt r i) v) r → ((update m (recordAt r i) v failureAt ≡ 0 → ⊥) → (16 ≤ update m (recordAt r i) v failureAt) × (update m (recordAt r i) v failureAt ≤ 24)) → Ruled T (update m (recordAt r i) v)
-    set-ruled n f =
+    pub set-ruled : Process T (update m (recordAt r i) v) r → ((p : ℕ) → 1 ≤ p → p ≤ m createdAt → (p ≡ r → ⊥) → Keeping p) → ((update m (recordAt r i) v failureAt ≡ 0 → ⊥) → (16 ≤ update m (recordAt r i) v failureAt) × (update m (recordAt r i) v failureAt ≤ 24)) → Ruled T (update m (recordAt r i) v)
+    set-ruled n o f =
         let e = set-unlike 1 8 (omega arith) (omega arith) (λ x. no-created (sym x)) in
         record {
           some = let x = h .some in omega arith;
           most = let x = h .most in omega arith;
           failed = f;
           process = λ p x y.
+              let y' : p ≤ m createdAt = omega arith in
               cases (eqb p r)
               (λ q. rw (eqb-true p r q) n)
-              (λ q. set-process p x (omega arith) (eqb-false p r q));
+              (λ q. set-process p x y' (eqb-false p r q) (o p x y' (eqb-false p r q)));
         }
 
     -- nor do its own variables; its chain is one of m
     pub set-own : (1 ≤ update m (recordAt r i) v (statusAt r)) → (update m (recordAt r i) v (statusAt r) ≤ 3) → (r ≡ 1 → 2 ≤ update m (recordAt r i) v (statusAt r))
         → update m (recordAt r i) v (holderAt r) ≤ m createdAt
         → (update m (recordAt r i) v (statusAt r) ≡ 2 → Chained T m r (update m (recordAt r i) v (depthAt r)) (update m (recordAt r i) v (frameAt r)) (update m (recordAt r i) v (worksAt r)) (update m (recordAt r i) v (statementAt r)) (update m (recordAt r i) v (topAt r)))
+        → (update m (recordAt r i) v (statusAt r) ≡ 2 → (x : ℕ) → worked T m r (update m (recordAt r i) v (depthAt r)) (update m (recordAt r i) v (frameAt r)) (update m (recordAt r i) v (worksAt r)) x ≡ true → Held T (update m (recordAt r i) v) r x)
         → Process T (update m (recordAt r i) v) r
-    set-own x y z w k =
+    set-own x y z w k o =
         let u = h .most in
-        let g = set-carries .grows in
+        let g = set-carries begins .grows in
         process-by T m (update m (recordAt r i) v) r (h .process r a b)
         (set-word 1 (λ e. no-module (sym e))) x y z (omega arith)
-        (variables-same T ok L m (update m (recordAt r i) v) set-carries r a b (h .process r a b)
-        (λ j g. let f = base-fits T ok L m m (record { grows = omega arith; modules = λ q l g. refl }) r a b (h .process r a b) in set-area r j a (omega arith) (omega arith)))
-        (λ e. chain-stays T ok L m (update m (recordAt r i) v) set-carries r a b (h .process r a b) (λ j c d. set-area r j a (omega arith) d) (k e))
+        (variables-same T ok L m (update m (recordAt r i) v) (set-carries begins) r a b (h .process r a b)
+        (λ j g. let f = base-fits T ok L m m (same-carries m) r a b (h .process r a b) in set-area r j a (omega arith) (omega arith)))
+        (λ e. chain-stays T ok L m (update m (recordAt r i) v) (set-carries begins) r a b (h .process r a b) (λ j c d. set-area r j a (omega arith) d) (k e))
+        (λ e t n.
+        let A = alike-stays T ok L m (update m (recordAt r i) v) (set-carries begins) r a b (h .process r a b) (λ j c d. set-area r j a (omega arith) d) (k e) in
+        o e t (rw (A .working t) at n))
 
     set-failed : (i ≡ 9 → ⊥) → (update m (recordAt r i) v failureAt ≡ 0 → ⊥) → (16 ≤ update m (recordAt r i) v failureAt) × (update m (recordAt r i) v failureAt ≤ 24)
     set-failed d = rw (set-unlike 1 9 (omega arith) (omega arith) (λ x. d (sym x))) (h .failed)
@@ -93,6 +119,7 @@ chain-at T m p b c' x y l h (called k r) =
       room = k .room;
       some-works = k .some-works;
       works = k .works;
+      begun = k .begun;
       there = k .there;
       procedure = k .procedure;
       owned = k .owned;
@@ -103,40 +130,106 @@ chain-at T m p b c' x y l h (called k r) =
       values = k .values;
       bound = k .bound;
       calling = k .calling;
+      by = k .by;
     }) r
 
 block-inner : (m : Memory) (p : ℕ) → (m (depthAt p) ≡ 0 → ⊥) → blockOf m p ≡ calledBlock m p (m (frameAt p))
 unfolding blockOf
 block-inner m p n = rw (ne-eqb (m (depthAt p)) 0 n)
 
+-- a process in its own block works on itself
+own-worked : (T : Table) (m : Memory) (p : ℕ) → m (depthAt p) ≡ 0 → Chained T m p (m (depthAt p)) (m (frameAt p)) (m (worksAt p)) (m (statementAt p)) (m (topAt p)) → Worked T m p p
+own-worked T m p e k = worked-first T m p (m (depthAt p)) (m (frameAt p)) (m (worksAt p)) p (bottom-own T m p e k)
+  where
+    bottom-own : (T : Table) (m : Memory) (p : ℕ) {d f w c top : ℕ} → d ≡ 0 → Chained T m p d f w c top → w ≡ p
+    bottom-own T m p e (bottom b) = b .own
+    bottom-own T m p e (called f r) = absurd (omega arith)
+
+-- process p holds what it works on
+abbrev pub Holds : Table → Memory → ℕ → Type 0
+Holds T m p = (x : ℕ) → Worked T m p x → m (holderAt x) ≡ p
+
 module _ (T : Table) (ok : Accepted T) (L : PlaceLaws T) (m : Memory) (h : Ruled T m) where
-  -- a started process goes to another statement of its block
-  pub goto-kept : (p c : ℕ) → 1 ≤ p → p ≤ m createdAt → m (statusAt p) ≡ 2 → liesIn T (blockOf m p) c ≡ true → Ruled T (update m (statementAt p) c)
-  goto-kept p c a b s e =
+  -- a started process that holds what it works on goes to another statement of its block
+  pub goto-kept : (p c : ℕ) → 1 ≤ p → p ≤ m createdAt → m (statusAt p) ≡ 2 → Holds T m p → liesIn T (blockOf m p) c ≡ true → Ruled T (update m (statementAt p) c)
+  goto-kept p c a b s o e =
       let x = h .process p a b in
       let w = set-word m p 2 c a (omega arith) (λ z. omega arith) (λ z. omega arith) in
       let e0 = w 0 (λ z. omega arith) in
       let e6 = w 6 (λ z. omega arith) in
       let hi = x .holder in
-      set-ruled m p 2 c a (omega arith) (λ z. omega arith) (λ z. omega arith) T ok L h b
-      (set-own m p 2 c a (omega arith) (λ z. omega arith) (λ z. omega arith) T ok L h b (omega arith) (omega arith) (λ z. omega arith) (omega arith)
+      set-ruled m p 2 c a (omega arith) (λ z. omega arith) (λ z. omega arith) T ok L h b (λ z. absurd (omega arith))
+      (set-own m p 2 c a (omega arith) (λ z. omega arith) (λ z. omega arith) T ok L h b (λ z. absurd (omega arith)) (omega arith) (omega arith) (λ z. omega arith) (omega arith)
       (λ z. rw (w 7 (λ z. omega arith), w 3 (λ z. omega arith), w 5 (λ z. omega arith), update-at m (statementAt p) c (statementAt p) refl, w 4 (λ z. omega arith))
-      (chain-at T m p (blockOf m p) c (block-bottom m p) (block-inner m p) (lies-from T (blockOf m p) c e) (lies-to T (blockOf m p) c e) (x .chain s))))
-      (set-failed m p 2 c a (omega arith) (λ z. omega arith) (λ z. omega arith) T ok L h b (λ z. omega arith))
+      (chain-at T m p (blockOf m p) c (block-bottom m p) (block-inner m p) (lies-from T (blockOf m p) c e) (lies-to T (blockOf m p) c e) (x .chain s)))
+      (λ z y u.
+      let t : Worked T m p y = rw (w 7 (λ z. omega arith), w 3 (λ z. omega arith), w 5 (λ z. omega arith)) at u in
+      held (set-unlike m p 2 c a (omega arith) (λ z. omega arith) (λ z. omega arith) y 6 (worked-created T m p a b (x .chain s) y t .least) (omega arith) (λ z. omega arith) ∙ o y t)))
+      (set-keeps m p 2 c a (omega arith) (λ z. omega arith) (λ z. omega arith) T ok L h b (λ z. absurd (omega arith)) (λ z. omega arith))
+      (set-failed m p 2 c a (omega arith) (λ z. omega arith) (λ z. omega arith) T ok L h b (λ z. absurd (omega arith)) (λ z. omega arith))
 
-  -- the variables of a process are held by another, or by none
-  pub holder-kept : (p v : ℕ) → 1 ≤ p → p ≤ m createdAt → v ≤ m createdAt → Ruled T (update m (holderAt p) v)
-  holder-kept p v a b g =
-      let x = h .process p a b in
-      let w = set-word m p 6 v a (omega arith) (λ z. omega arith) (λ z. omega arith) in
-      let e0 = w 0 (λ z. omega arith) in
-      let e6 = update-at m (holderAt p) v (holderAt p) refl in
-      let lo = x .low in
-      let hi = x .high in
-      set-ruled m p 6 v a (omega arith) (λ z. omega arith) (λ z. omega arith) T ok L h b
-      (set-own m p 6 v a (omega arith) (λ z. omega arith) (λ z. omega arith) T ok L h b (omega arith) (omega arith) (λ z. let y = x .first-status z in omega arith) (omega arith)
-      (λ z. rw (w 7 (λ z. omega arith), w 3 (λ z. omega arith), w 5 (λ z. omega arith), w 2 (λ z. omega arith), w 4 (λ z. omega arith)) (x .chain (sym e0 ∙ z))))
-      (set-failed m p 6 v a (omega arith) (λ z. omega arith) (λ z. omega arith) T ok L h b (λ z. omega arith))
+  -- the variables of a process are held by another, or by none, and each process that works on them holds them or has given them up
+  module _ (p v : ℕ) (a : 1 ≤ p) (b : p ≤ m createdAt) (g : v ≤ m createdAt)
+      (o : (q : ℕ) → 1 ≤ q → q ≤ m createdAt → m (statusAt q) ≡ 2 → Worked T m q p → Held T m q p → Held T (update m (holderAt p) v) q p) where
+    holder-held : (q : ℕ) → 1 ≤ q → q ≤ m createdAt → m (statusAt q) ≡ 2 → (x : ℕ) → Created m x → Worked T m q x → Held T m q x → Held T (update m (holderAt p) v) q x
+    holder-held q l r s x c w k =
+        let f = set-unlike m p 6 v a (omega arith) (λ z. omega arith) (λ z. omega arith) q in
+        cases (eqb x p)
+        (λ e. let i : x ≡ p = eqb-true x p e in rw i (o q l r s (rw i at w) (rw i at k)))
+        (λ e. held-same T m (update m (holderAt p) v) q x
+        (set-other m p 6 v a (omega arith) (λ z. omega arith) (λ z. omega arith) x 6 (c .least) (omega arith) (eqb-false x p e))
+        (f 5 l (omega arith) (λ z. omega arith)) (f 2 l (omega arith) (λ z. omega arith)) k)
+
+    pub holder-kept : Ruled T (update m (holderAt p) v)
+    holder-kept =
+        let x = h .process p a b in
+        let w = set-word m p 6 v a (omega arith) (λ z. omega arith) (λ z. omega arith) in
+        let e0 = w 0 (λ z. omega arith) in
+        let e6 = update-at m (holderAt p) v (holderAt p) refl in
+        let lo = x .low in
+        let hi = x .high in
+        set-ruled m p 6 v a (omega arith) (λ z. omega arith) (λ z. omega arith) T ok L h b (λ z. absurd (omega arith))
+        (set-own m p 6 v a (omega arith) (λ z. omega arith) (λ z. omega arith) T ok L h b (λ z. absurd (omega arith)) (omega arith) (omega arith) (λ z. let y = x .first-status z in omega arith) (omega arith)
+        (λ z. rw (w 7 (λ z. omega arith), w 3 (λ z. omega arith), w 5 (λ z. omega arith), w 2 (λ z. omega arith), w 4 (λ z. omega arith)) (x .chain (sym e0 ∙ z)))
+        (λ z y u.
+        let s : m (statusAt p) ≡ 2 = sym e0 ∙ z in
+        let t : Worked T m p y = rw (w 7 (λ z. omega arith), w 3 (λ z. omega arith), w 5 (λ z. omega arith)) at u in
+        holder-held p a b s y (worked-created T m p a b (x .chain s) y t) t (x .holding s y t)))
+        (λ q l r d s. holder-held q l r s)
+        (set-failed m p 6 v a (omega arith) (λ z. omega arith) (λ z. omega arith) T ok L h b (λ z. absurd (omega arith)) (λ z. omega arith))
+
+  -- a process that does not hold them stays as it was
+  holder-given : (p v q : ℕ) → 1 ≤ p → 1 ≤ q → (m (holderAt p) ≡ q → ⊥) → Held T m q p → Held T (update m (holderAt p) v) q p
+  holder-given p v q a l d k =
+      let f = set-unlike m p 6 v a (omega arith) (λ z. omega arith) (λ z. omega arith) q in
+      given-same T m (update m (holderAt p) v) q p d (f 5 l (omega arith) (λ z. omega arith)) (f 2 l (omega arith) (λ z. omega arith)) k
+
+  -- what a process works on stays when holders change
+  pub holder-worked : (r v p : ℕ) → 1 ≤ r → 1 ≤ p → p ≤ m createdAt → m (statusAt p) ≡ 2 → (x : ℕ) → worked T (update m (holderAt r) v) p (m (depthAt p)) (m (frameAt p)) (m (worksAt p)) x ≡ worked T m p (m (depthAt p)) (m (frameAt p)) (m (worksAt p)) x
+  holder-worked r v p a c d s =
+      let u = h .most in
+      alike-stays T ok L m (update m (holderAt r) v) (set-carries m r 6 v a (omega arith) (λ z. omega arith) (λ z. omega arith) (λ z. absurd (omega arith))) p c d (h .process p c d)
+      (λ j l g. set-area m r 6 v a (omega arith) (λ z. omega arith) (λ z. omega arith) p j c (omega arith) g) (h .process p c d .chain s) .working
+
+  -- process p takes the variables of r, which no other holds
+  pub take-kept : (r p : ℕ) → 1 ≤ r → r ≤ m createdAt → p ≤ m createdAt → ((q : ℕ) → 1 ≤ q → m (holderAt r) ≡ q → q ≡ p) → Ruled T (update m (holderAt r) p)
+  take-kept r p a b d o =
+      holder-kept r p a b d (λ q l g s w k.
+      cases (eqb q p)
+      (λ e. held (update-at m (holderAt r) p (holderAt r) refl ∙ sym (eqb-true q p e)))
+      (λ e. holder-given r p q a l (λ z. eqb-false q p e (o q l z)) k))
+
+  -- the variables of r, which only p holds, are held by none, where p does not work on them, or works on them at a when or cycle
+  pub give-kept : (r p : ℕ) → 1 ≤ r → r ≤ m createdAt → 1 ≤ p → ((q : ℕ) → 1 ≤ q → m (holderAt r) ≡ q → q ≡ p)
+      → (m (statusAt p) ≡ 2 → Worked T m p r → (r ≡ m (worksAt p)) × (mayWait (stmtAt T (m (statementAt p))) ≡ true)) → Ruled T (update m (holderAt r) 0)
+  give-kept r p a b c o y =
+      holder-kept r 0 a b (omega arith) (λ q l g s w k.
+      cases (eqb q p)
+      (λ e. let i : q ≡ p = eqb-true q p e in
+      let z = y (rw i at s) (rw i at w) in
+      let f = set-unlike m r 6 0 a (omega arith) (λ z. omega arith) (λ z. omega arith) p in
+      rw i (given (rw (f 5 c (omega arith) (λ z. omega arith)) (z .0)) (rw (f 2 c (omega arith) (λ z. omega arith)) (z .1))))
+      (λ e. holder-given r 0 q a l (λ z. eqb-false q p e (o q l z)) k))
 
   -- a process has ended
   pub status-kept : (p : ℕ) → 1 ≤ p → p ≤ m createdAt → Ruled T (update m (statusAt p) 3)
@@ -146,10 +239,11 @@ module _ (T : Table) (ok : Accepted T) (L : PlaceLaws T) (m : Memory) (h : Ruled
       let e0 = update-at m (statusAt p) 3 (statusAt p) refl in
       let e6 = w 6 (λ z. omega arith) in
       let lo = x .holder in
-      set-ruled m p 0 3 a (omega arith) (λ z. omega arith) (λ z. omega arith) T ok L h b
-      (set-own m p 0 3 a (omega arith) (λ z. omega arith) (λ z. omega arith) T ok L h b (omega arith) (omega arith) (λ z. omega arith) (omega arith)
-      (λ z. absurd (omega arith)))
-      (set-failed m p 0 3 a (omega arith) (λ z. omega arith) (λ z. omega arith) T ok L h b (λ z. omega arith))
+      set-ruled m p 0 3 a (omega arith) (λ z. omega arith) (λ z. omega arith) T ok L h b (λ y z. omega arith)
+      (set-own m p 0 3 a (omega arith) (λ z. omega arith) (λ z. omega arith) T ok L h b (λ y z. omega arith) (omega arith) (omega arith) (λ z. omega arith) (omega arith)
+      (λ z. absurd (omega arith)) (λ z. absurd (omega arith)))
+      (set-keeps m p 0 3 a (omega arith) (λ z. omega arith) (λ z. omega arith) T ok L h b (λ y z. omega arith) (λ z. omega arith))
+      (set-failed m p 0 3 a (omega arith) (λ z. omega arith) (λ z. omega arith) T ok L h b (λ y z. omega arith) (λ z. omega arith))
 
   -- the run has failed
   pub fail-kept : (n : ℕ) → 16 ≤ n → n ≤ 24 → Ruled T (update m failureAt n)
@@ -164,26 +258,42 @@ module _ (T : Table) (ok : Accepted T) (L : PlaceLaws T) (m : Memory) (h : Ruled
       let lo = x .low in
       let hi = x .high in
       let ho = x .holder in
-      set-ruled m 1 9 n one (omega arith) (λ z. omega arith) (λ z. omega arith) T ok L h b
-      (set-own m 1 9 n one (omega arith) (λ z. omega arith) (λ z. omega arith) T ok L h b (omega arith) (omega arith) (λ z. let y = x .first-status z in omega arith) (omega arith)
-      (λ z. rw (w 7 (λ z. omega arith), w 3 (λ z. omega arith), w 5 (λ z. omega arith), w 2 (λ z. omega arith), w 4 (λ z. omega arith)) (x .chain (sym e0 ∙ z))))
+      set-ruled m 1 9 n one (omega arith) (λ z. omega arith) (λ z. omega arith) T ok L h b (λ z. absurd (omega arith))
+      (set-own m 1 9 n one (omega arith) (λ z. omega arith) (λ z. omega arith) T ok L h b (λ z. absurd (omega arith)) (omega arith) (omega arith) (λ z. let y = x .first-status z in omega arith) (omega arith)
+      (λ z. rw (w 7 (λ z. omega arith), w 3 (λ z. omega arith), w 5 (λ z. omega arith), w 2 (λ z. omega arith), w 4 (λ z. omega arith)) (x .chain (sym e0 ∙ z)))
+      (λ z y u.
+      let s : m (statusAt 1) ≡ 2 = sym e0 ∙ z in
+      let t : Worked T m 1 y = rw (w 7 (λ z. omega arith), w 3 (λ z. omega arith), w 5 (λ z. omega arith)) at u in
+      held-same T m (update m failureAt n) 1 y
+      (set-unlike m 1 9 n one (omega arith) (λ z. omega arith) (λ z. omega arith) y 6 (worked-created T m 1 one b (x .chain s) y t .least) (omega arith) (λ z. omega arith))
+      (w 5 (λ z. omega arith)) (w 2 (λ z. omega arith)) (x .holding s y t)))
+      (set-keeps m 1 9 n one (omega arith) (λ z. omega arith) (λ z. omega arith) T ok L h b (λ z. absurd (omega arith)) (λ z. omega arith))
       (λ z. (omega arith, omega arith))
+
+  -- where p stands at no when or cycle, it holds what it works on
+  pub passing-holds : (p : ℕ) → 1 ≤ p → p ≤ m createdAt → m (statusAt p) ≡ 2 → mayWait (stmtAt T (m (statementAt p))) ≡ false → Holds T m p
+  passing-holds p a b s e x w = held-fast T m p x e (h .process p a b .holding s x w)
 
 -- the same of the rule itself
 module _ (T : Table) (ok : Accepted T) (L : PlaceLaws T) (m : Memory) where
-  pub goto-rule : (p c : ℕ) → Started T m p → liesIn T (blockOf m p) c ≡ true → rule T (update m (statementAt p) c) ≡ true
-  goto-rule p c s e =
-      rules T (update m (statementAt p) c)
-      (goto-kept T ok L m (ruled T m (s .ruled)) p c (created-low T m p (s .created)) (created-high T m p (s .created)) (s .started) e)
+  pub goto-rule : (p c : ℕ) → Started T m p → mayWait (stmtAt T (m (statementAt p))) ≡ false → liesIn T (blockOf m p) c ≡ true → rule T (update m (statementAt p) c) ≡ true
+  goto-rule p c s n e =
+      let h = ruled T m (s .ruled) in
+      let a = created-low T m p (s .created) in
+      let b = created-high T m p (s .created) in
+      rules T (update m (statementAt p) c) (goto-kept T ok L m h p c a b (s .started) (passing-holds T ok L m h p a b (s .started) n) e)
 
-  pub holder-rule : (p v : ℕ) → rule T m ≡ true → 1 ≤ p → p ≤ m createdAt → v ≤ m createdAt → rule T (update m (holderAt p) v) ≡ true
-  holder-rule p v r a b g = rules T (update m (holderAt p) v) (holder-kept T ok L m (ruled T m r) p v a b g)
-
-  pub end-rule : (p : ℕ) → rule T m ≡ true → 1 ≤ p → p ≤ m createdAt → rule T (update (update m (statusAt p) 3) (holderAt p) 0) ≡ true
-  end-rule p r a b =
-      let e = set-carries m p 0 3 a (omega arith) (λ z. omega arith) (λ z. omega arith) .grows in
+  pub end-rule : (p : ℕ) → Started T m p → mayWait (stmtAt T (m (statementAt p))) ≡ false → m (depthAt p) ≡ 0 → rule T (update (update m (statusAt p) 3) (holderAt p) 0) ≡ true
+  end-rule p s n d =
+      let h = ruled T m (s .ruled) in
+      let a = created-low T m p (s .created) in
+      let b = created-high T m p (s .created) in
+      let e = set-carries m p 0 3 a (omega arith) (λ z. omega arith) (λ z. omega arith) (λ y z. omega arith) .grows in
+      let e6 = set-word m p 0 3 a (omega arith) (λ z. omega arith) (λ z. omega arith) 6 (λ z. omega arith) in
+      let e0 = update-at m (statusAt p) 3 (statusAt p) refl in
+      let own = passing-holds T ok L m h p a b (s .started) n p (own-worked T m p d (h .process p a b .chain (s .started))) in
       rules T (update (update m (statusAt p) 3) (holderAt p) 0)
-      (holder-kept T ok L (update m (statusAt p) 3) (status-kept T ok L m (ruled T m r) p a b) p 0 a (omega arith) (omega arith))
+      (give-kept T ok L (update m (statusAt p) 3) (status-kept T ok L m h p a b) p p a (omega arith) a (λ q l z. sym (sym (e6 ∙ own) ∙ z)) (λ z. absurd (omega arith)))
 
   pub fail-rule : (n : ℕ) → rule T m ≡ true → 16 ≤ n → n ≤ 24 → rule T (update m failureAt n) ≡ true
   fail-rule n r l g = rules T (update m failureAt n) (fail-kept T ok L m (ruled T m r) n l g)

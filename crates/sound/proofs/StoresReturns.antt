@@ -1,8 +1,9 @@
 -- THE RULE is kept at the end of a call. Assumes nothing.
 use Prim.Native.Nat.{ℕ, suc, _+_, _-_, _≤_}
-use mathlib.Core.Path.{_≡_, refl}
-use mathlib.Core.Bool.{true}
+use mathlib.Core.Path.{_≡_, refl, sym, _∙_}
+use mathlib.Core.Bool.{true, false}
 use native.Mathlib.Omega.{arith}
+use borrow.Author.Tests.{not-true}
 use Rattle.table.specs.Table.{Table}
 use Rattle.table.specs.Entries.{firstStmt, stmtKind}
 use Rattle.basics.proofs.Bools.{no-true}
@@ -12,15 +13,16 @@ use Rattle.machine.specs.Outcomes.{Outcome, ok}
 use Rattle.machine.specs.Entries.{Statement, skip, assign, localCall, processCall, create, start, opener, arm, endArms, write, blockEnd, noStatement, stmtAt}
 use Rattle.machine.specs.Context.{contextOf}
 use Rattle.machine.specs.Calls.{standing, popped, returns, return}
-use Rattle.machine.specs.Rule.{calls, rule}
+use Rattle.machine.specs.Rule.{calls, mayWait, worked, worksBy, rule}
 use Rattle.verdict.specs.Accepted.{Accepted}
 use Rattle.sound.specs.Claims.{PlaceLaws, Started}
-use Rattle.sound.specs.Ruled.{Chained, bottom, called, Process, Ruled}
+use Rattle.sound.specs.Ruled.{Chained, bottom, called, Worked, Process, Ruled}
 use Rattle.sound.proofs.Ruled.{ruled, rules, block-there, stands}
 use Rattle.sound.proofs.StoresChains.{created-low, created-high}
-use Rattle.sound.proofs.StoresProcesses.{chain-stays}
-use Rattle.sound.proofs.StoresRecords.{set-area, set-carries, holder-kept}
-use Rattle.sound.proofs.StoresStanding.{block-goes, call-kind, stand-kept}
+use Rattle.sound.proofs.StoresProcesses.{alike-stays}
+use Rattle.sound.proofs.StoresRecords.{passing-holds, give-kept}
+use Rattle.sound.proofs.StoresStanding.{block-goes, call-kind, stand-depth, stand-frame, stand-works, stand-area, stand-carries, stand-holder, stand-set, stand-kept}
+use Rattle.sound.proofs.Worked.{worked-first, worked-outer}
 
 -- where a chain stands at no block end, it may stand at the next statement
 pub chain-next : (T : Table) → Accepted T → (m : Memory) (p : ℕ) → Process T m p → {d f w c top : ℕ} → (stmtKind T c ≡ 13 → ⊥) → Chained T m p d f w c top → Chained T m p d f w (c + 1) top
@@ -35,6 +37,7 @@ chain-next T good m p x {f = f} {c = c} n (called k r) =
       room = k .room;
       some-works = k .some-works;
       works = k .works;
+      begun = k .begun;
       there = k .there;
       procedure = k .procedure;
       owned = k .owned;
@@ -45,6 +48,7 @@ chain-next T good m p x {f = f} {c = c} n (called k r) =
       values = k .values;
       bound = k .bound;
       calling = k .calling;
+      by = k .by;
     }) r
 
 -- the chain without its innermost call, after the call statement
@@ -52,8 +56,8 @@ module _ (T : Table) (good : Accepted T) (L : PlaceLaws T) (m : Memory) (h : Rul
   popped-chain : {d f w c top : ℕ} → Chained T m p (suc d) f w c top → Chained T m p d (callerFrame m p f) (callerWorks m p f) (callStatement m p f + 1) f
   popped-chain {f = f} (called k r) = chain-next T good m p (h .process p a b) (call-kind T (calledBlock m p f) (callStatement m p f) (k .calling)) r
 
-  pub pop-kept : {d f w c top : ℕ} → Chained T m p (suc d) f w c top → Ruled T (standing m p (callStatement m p f + 1) (callerFrame m p f) f (callerWorks m p f) d)
-  pop-kept {d = d} {f = f} k = stand-kept m p (callStatement m p f + 1) (callerFrame m p f) f (callerWorks m p f) d a T good L h b (popped-chain k)
+  pub pop-kept : {d f w c top : ℕ} → Chained T m p (suc d) f w c top → ((x : ℕ) → worked T m p (suc d) f w x ≡ true → m (holderAt x) ≡ p) → Ruled T (standing m p (callStatement m p f + 1) (callerFrame m p f) f (callerWorks m p f) d)
+  pop-kept {d = d} {f = f} {w = w} k o = stand-kept m p (callStatement m p f + 1) (callerFrame m p f) f (callerWorks m p f) d a T good L h b (popped-chain k) (λ x e. o x (worked-outer T m p d f w x e))
 
 -- a call's end comes to a state that meets the rule
 pub record Returned (T : Table) (o : Outcome Memory) : Type 0 where
@@ -61,7 +65,7 @@ pub record Returned (T : Table) (o : Outcome Memory) : Type 0 where
   pub is : o ≡ ok state
   pub ruled : rule T state ≡ true
 
-module _ (T : Table) (good : Accepted T) (L : PlaceLaws T) (m page : Memory) (p : ℕ) (st : Started T m p) where
+module _ (T : Table) (good : Accepted T) (L : PlaceLaws T) (m page : Memory) (p : ℕ) (st : Started T m p) (passing : mayWait (stmtAt T (m (statementAt p))) ≡ false) where
   h : Ruled T m
   h = ruled T m (st .ruled)
 
@@ -79,40 +83,63 @@ module _ (T : Table) (good : Accepted T) (L : PlaceLaws T) (m page : Memory) (p 
     unfolding popped contextOf
     popped-is s c = let q : m (depthAt p) - 1 ≡ d = omega arith in rw q
 
+    strict : (x : ℕ) → worked T m p (suc d) (m (frameAt p)) (m (worksAt p)) x ≡ true → m (holderAt x) ≡ p
+    strict = rw e at (passing-holds T good L m h p a b (st .started) passing)
+
+    abbrev left : Memory
+    left = standing m p (callStatement m p (m (frameAt p)) + 1) (callerFrame m p (m (frameAt p))) (m (frameAt p)) (callerWorks m p (m (frameAt p))) d
+
+    left-ruled : Ruled T left
+    left-ruled = pop-kept T good L m h p a b chain-of strict
+
     local-return : rule T (popped T m page (contextOf m p) m (callStatement m p (m (frameAt p)))) ≡ true
-    local-return = rw (popped-is m (callStatement m p (m (frameAt p)))) (rules T _ (pop-kept T good L m h p a b chain-of))
+    local-return = rw (popped-is m (callStatement m p (m (frameAt p)))) (rules T _ left-ruled)
 
-    process-return : rule T (popped T m page (contextOf m p) (update m (holderAt (m (worksAt p))) 0) (callStatement m p (m (frameAt p)))) ≡ true
-    process-return =
-        let k = stands T good m p a b (h .process p a b) (st .started) in
+    -- what p works on outside the call
+    left-worked : (x : ℕ) → Worked T left p x → worked T m p d (callerFrame m p (m (frameAt p))) (callerWorks m p (m (frameAt p))) x ≡ true
+    left-worked x t =
+        let c : ℕ = callStatement m p (m (frameAt p)) + 1 in
+        let f : ℕ = callerFrame m p (m (frameAt p)) in
+        let w : ℕ = callerWorks m p (m (frameAt p)) in
         let u = h .most in
-        let w1 = k .some-works in
-        let n = update m (holderAt (m (worksAt p))) 0 in
-        let cs = set-carries m (m (worksAt p)) 6 0 w1 (omega arith) (λ z. omega arith) (λ z. omega arith) in
-        let g = cs .grows in
-        let b' = b in
-        rw (popped-is n (callStatement m p (m (frameAt p))))
-        (rules T _
-        (stand-kept n p (callStatement m p (m (frameAt p)) + 1) (callerFrame m p (m (frameAt p))) (m (frameAt p)) (callerWorks m p (m (frameAt p))) d a T good L
-        (holder-kept T good L m h (m (worksAt p)) 0 w1 (k .works) (omega arith)) (omega arith)
-        (chain-stays T good L m n cs p a b (h .process p a b)
-        (λ j l v. set-area m (m (worksAt p)) 6 0 w1 (omega arith) (λ z. omega arith) (λ z. omega arith) p j a (omega arith) v)
-        (popped-chain T good L m h p a b chain-of))))
+        let made = b in
+        let cs = stand-carries m p c f (m (frameAt p)) w d a in
+        let A = alike-stays T good L m left cs p a b (h .process p a b) (λ j l v. stand-area m p c f (m (frameAt p)) w d a p j a (omega arith) v) (popped-chain T good L m h p a b chain-of) in
+        rw (stand-depth m p c f (m (frameAt p)) w d, stand-frame m p c f (m (frameAt p)) w d, stand-works m p c f (m (frameAt p)) w d, A .working x) at t
 
-    by-statement : (q : ℕ) (s : Statement) → calls q s ≡ true → Returned T (returns T m page (contextOf m p) (callStatement m p (m (frameAt p))) s)
-    unfolding calls returns contextOf
-    by-statement q skip c = no-true c
-    by-statement q (assign i j) c = no-true c
-    by-statement q (localCall i j k) c = record { state = popped T m page (contextOf m p) m (callStatement m p (m (frameAt p))); is = refl; ruled = local-return }
-    by-statement q (processCall i j k l) c = record { state = popped T m page (contextOf m p) (update m (holderAt (m (worksAt p))) 0) (callStatement m p (m (frameAt p))); is = refl; ruled = process-return }
-    by-statement q (create i) c = no-true c
-    by-statement q (start i j k) c = no-true c
-    by-statement q (opener i) c = no-true c
-    by-statement q (arm i j) c = no-true c
-    by-statement q (endArms i) c = no-true c
-    by-statement q (write i j) c = no-true c
-    by-statement q blockEnd c = no-true c
-    by-statement q noStatement c = no-true c
+    process-return : worked T m p d (callerFrame m p (m (frameAt p))) (callerWorks m p (m (frameAt p))) (m (worksAt p)) ≡ false → rule T (popped T m page (contextOf m p) (update m (holderAt (m (worksAt p))) 0) (callStatement m p (m (frameAt p)))) ≡ true
+    process-return n =
+        let c : ℕ = callStatement m p (m (frameAt p)) + 1 in
+        let f : ℕ = callerFrame m p (m (frameAt p)) in
+        let w : ℕ = callerWorks m p (m (frameAt p)) in
+        let k = stands T good m p a b (h .process p a b) (st .started) in
+        let r1 = k .some-works in
+        let r2 = k .works in
+        let g = stand-carries m p c f (m (frameAt p)) w d a .grows in
+        let own = stand-holder m p c f (m (frameAt p)) w d a (m (worksAt p)) r1 ∙ strict (m (worksAt p)) (worked-first T m p (suc d) (m (frameAt p)) (m (worksAt p)) (m (worksAt p)) refl) in
+        rw (popped-is (update m (holderAt (m (worksAt p))) 0) (callStatement m p (m (frameAt p))), stand-set m p c f (m (frameAt p)) w d a (m (worksAt p)) 0 r1)
+        (rules T _
+        (give-kept T good L left left-ruled (m (worksAt p)) p r1 (omega arith) a
+        (λ q l z. sym (sym own ∙ z))
+        (λ s t. no-true (sym n ∙ left-worked (m (worksAt p)) t))))
+
+    by-statement : (q : ℕ) (s : Statement) → calls q s ≡ true → worksBy T m p d (m (frameAt p)) (m (worksAt p)) s ≡ true → Returned T (returns T m page (contextOf m p) (callStatement m p (m (frameAt p))) s)
+    unfolding calls worksBy returns contextOf
+    by-statement q skip c w = no-true c
+    by-statement q (assign i j) c w = no-true c
+    by-statement q (localCall i j k) c w = record { state = popped T m page (contextOf m p) m (callStatement m p (m (frameAt p))); is = refl; ruled = local-return }
+    by-statement q (processCall i j k l) c w = record { state = popped T m page (contextOf m p) (update m (holderAt (m (worksAt p))) 0) (callStatement m p (m (frameAt p))); is = refl; ruled = process-return (not-true _ w) }
+    by-statement q (create i) c w = no-true c
+    by-statement q (start i j k) c w = no-true c
+    by-statement q (opener i) c w = no-true c
+    by-statement q (arm i j) c w = no-true c
+    by-statement q (endArms i) c w = no-true c
+    by-statement q (write i j) c w = no-true c
+    by-statement q blockEnd c w = no-true c
+    by-statement q noStatement c w = no-true c
+
+    working-of : {d f w c top : ℕ} → Chained T m p (suc d) f w c top → worksBy T m p d f w (stmtAt T (callStatement m p f)) ≡ true
+    working-of (called k r) = k .by
 
     calling-of : {d f w c top : ℕ} → Chained T m p (suc d) f w c top → calls (calledBlock m p f) (stmtAt T (callStatement m p f)) ≡ true
     calling-of (called k r) = k .calling
@@ -120,4 +147,4 @@ module _ (T : Table) (good : Accepted T) (L : PlaceLaws T) (m page : Memory) (p 
     -- THE RETURN is not stuck and keeps the rule
     pub return-rule : Returned T (return T m page (contextOf m p))
     unfolding return contextOf
-    return-rule = by-statement (calledBlock m p (m (frameAt p))) (stmtAt T (callStatement m p (m (frameAt p)))) (calling-of chain-of)
+    return-rule = by-statement (calledBlock m p (m (frameAt p))) (stmtAt T (callStatement m p (m (frameAt p)))) (calling-of chain-of) (working-of chain-of)

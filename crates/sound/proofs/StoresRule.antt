@@ -1,6 +1,6 @@
 -- THE RULE is kept where a value is stored in a live variable. Assumes nothing.
 use Prim.Native.Nat.{ℕ, _+_, _/_, _%_, _≤_}
-use mathlib.Core.Path.{_≡_, refl}
+use mathlib.Core.Path.{_≡_, sym, _∙_}
 use mathlib.Core.Bool.{true}
 use mathlib.Core.List.{List}
 use native.Mathlib.Omega.{arith}
@@ -12,7 +12,7 @@ use Rattle.basics.proofs.Bools.{both-l, both-r, either-case}
 use Rattle.table.specs.Table.{Table}
 use Rattle.sizes.specs.Sizes.{moduleWords}
 use Rattle.machine.specs.Memory.{Memory, store}
-use Rattle.machine.specs.Layout.{location, statusAt, moduleAt, frameAt, depthAt, createdAt}
+use Rattle.machine.specs.Layout.{location, statusAt, moduleAt, frameAt, worksAt, depthAt, createdAt}
 use Rattle.machine.specs.Values.{partOfBlock}
 use Rattle.machine.specs.Rule.{isCreated, owns, lives, rule}
 use Rattle.verdict.specs.Accepted.{Accepted}
@@ -21,16 +21,17 @@ use Rattle.sound.specs.Ruled.{Process, Ruled, Carries}
 use Rattle.sound.proofs.Ruled.{ruled, rules, block-there, block-kind}
 use Rattle.sound.proofs.StoresBlocks.{module-plain, module-variables, module-fits}
 use Rattle.sound.proofs.StoresMemory.{location-of, area-before, area-after, area-other, area-record}
-use Rattle.sound.proofs.StoresChains.{created-low, created-high}
-use Rattle.sound.proofs.StoresProcesses.{chain-fits, process-keeps, base-fits, variables-same, chain-stays, process-same}
-use Rattle.sound.proofs.StoresValues.{module-kept, owns-in, store-chain}
+use Rattle.sound.proofs.StoresChains.{same-carries, created-low, created-high}
+use Rattle.sound.proofs.StoresProcesses.{chain-fits, process-keeps, base-fits, variables-same, chain-stays, alike-stays, holding-stays, process-alike}
+use Rattle.sound.proofs.Worked.{lives-there, held-same}
+use Rattle.sound.proofs.StoresValues.{module-kept, owns-in, store-alike, store-chain}
 use Rattle.sound.proofs.ValueBlocks.{in-block, block-in}
 
 -- the same processes, of the same modules
 pub store-carries : (m : Memory) (r k : ℕ) (ws : List ℕ) → 1 ≤ r → r ≤ 64 → k + length ws ≤ 256 → Carries m (store m (location r k) ws)
 store-carries m r k ws a b c =
     let e = area-record m r k ws 1 8 a b c in
-    record { grows = omega arith; modules = λ p l h. area-record m r k ws p 1 a b c }
+    record { grows = omega arith; modules = λ p l h. area-record m r k ws p 1 a b c; begun = λ p l h n e. n (sym (area-record m r k ws p 0 a b c) ∙ e) }
 
 module _ (T : Table) (ok : Accepted T) (L : PlaceLaws T) (m : Memory) (h : Ruled T m) where
   -- a store in an area changes no other process
@@ -47,9 +48,10 @@ module _ (T : Table) (ok : Accepted T) (L : PlaceLaws T) (m : Memory) (h : Ruled
             let g' : p ≤ m createdAt = omega arith in
             cases (eqb p r)
             (λ q. rw (eqb-true p r q) x)
-            (λ q. process-same T ok L m (store m (location r k) ws) (store-carries m r k ws a u c) p l g' (h .process p l g')
+            (λ q. process-alike T ok L m (store m (location r k) ws) (store-carries m r k ws a u c) p l g' (h .process p l g')
             (λ i z. area-record m r k ws p i a u c)
-            (λ j z. area-other m r k ws p j a l (eqb-false p r q) z c));
+            (λ j z. area-other m r k ws p j a l (eqb-false p r q) z c)
+            (λ x z. area-record m r k ws x 6 a u c));
       }
 
   -- a value is stored in a module variable of a created process
@@ -69,7 +71,10 @@ module _ (T : Table) (ok : Accepted T) (L : PlaceLaws T) (m : Memory) (h : Ruled
       (process-keeps T m (store m (location r k) ws) r x
       (λ i z. area-record m r k ws r i a u c) cs
       (λ i l. module-kept T ok L m r (m (moduleAt r)) τ k t y ws v cs a b i (module-plain T ok (m (moduleAt r)) t (block-kind T ok m r x) i l) (x .variables i l))
-      (λ s. chain-stays T ok L m (store m (location r k) ws) cs r a b x (λ j p q. area-after m r k ws j (omega arith)) (x .chain s)))
+      (λ s. chain-stays T ok L m (store m (location r k) ws) cs r a b x (λ j p q. area-after m r k ws j (omega arith)) (x .chain s))
+      (λ s. holding-stays T ok L m (store m (location r k) ws) cs r a b x s
+      (alike-stays T ok L m (store m (location r k) ws) cs r a b x (λ j p q. area-after m r k ws j (omega arith)) (x .chain s))
+      (λ y z w. held-same T m (store m (location r k) ws) r y (area-record m r k ws y 6 a u c) (area-record m r k ws r 5 a u c) (area-record m r k ws r 2 a u c))))
 
   -- a value is stored in a value parameter or local of one of its own calls
   pub store-own : (p τ k : ℕ) (ws : List ℕ) → 1 ≤ p → p ≤ m createdAt → m (statusAt p) ≡ 2 → owns T m p (m (depthAt p)) (m (frameAt p)) τ k ≡ true → IsValue T m τ ws → Ruled T (store m (location p k) ws)
@@ -87,20 +92,22 @@ module _ (T : Table) (ok : Accepted T) (L : PlaceLaws T) (m : Memory) (h : Ruled
       (process-keeps T m (store m (location p k) ws) p x
       (λ i z. area-record m p k ws p i a u c) cs
       (variables-same T ok L m (store m (location p k) ws) cs p a b x (λ j l. area-before m p k ws j (omega arith)))
-      (λ y. store-chain T ok L m p τ k ws v a b cs (x .chain s) e))
+      (λ y. store-chain T ok L m p τ k ws v a b cs (x .chain s) e)
+      (λ y. holding-stays T ok L m (store m (location p k) ws) cs p a b x s
+      (store-alike T ok L m p τ k ws v a b cs (x .chain s) e)
+      (λ t z w. held-same T m (store m (location p k) ws) p t (area-record m p k ws t 6 a u c) (area-record m p k ws p 5 a u c) (area-record m p k ws p 2 a u c))))
     where
       module-base : (p : ℕ) → 1 ≤ p → p ≤ m createdAt → moduleWords T (m (moduleAt p)) ≤ 256
-      module-base p a b = base-fits T ok L m m (record { grows = omega arith; modules = λ q l g. refl }) p a b (h .process p a b)
+      module-base p a b = base-fits T ok L m m (same-carries m) p a b (h .process p a b)
 
   -- THE STORE
-  pub store-kept : (p τ a : ℕ) (ws : List ℕ) → 1 ≤ p → p ≤ m createdAt → m (statusAt p) ≡ 2 → lives T m p (m (depthAt p)) (m (frameAt p)) τ a ≡ true → IsValue T m τ ws → Ruled T (store m a ws)
-  unfolding lives
+  pub store-kept : (p τ a : ℕ) (ws : List ℕ) → 1 ≤ p → p ≤ m createdAt → m (statusAt p) ≡ 2 → lives T m p (m (depthAt p)) (m (frameAt p)) (m (worksAt p)) τ a ≡ true → IsValue T m τ ws → Ruled T (store m a ws)
   store-kept p τ a ws l g s e v =
       rw (location-of a) at
-      (either-case (both (isCreated T m (a / 256 + 1)) (partOfBlock T (m (moduleAt (a / 256 + 1))) τ (a % 256))) (both (eqb (a / 256 + 1) p) (owns T m p (m (depthAt p)) (m (frameAt p)) τ (a % 256))) e
+      (either-case (both (isCreated T m (a / 256 + 1)) (partOfBlock T (m (moduleAt (a / 256 + 1))) τ (a % 256))) (both (eqb (a / 256 + 1) p) (owns T m p (m (depthAt p)) (m (frameAt p)) τ (a % 256))) (lives-there T m p l g (h .process p l g .chain s) τ a e)
       (λ x. store-module (a / 256 + 1) τ (a % 256) ws (created-low T m (a / 256 + 1) (both-l _ _ x)) (created-high T m (a / 256 + 1) (both-l _ _ x)) (both-r _ _ x) v)
       (λ x. rw (eqb-true (a / 256 + 1) p (both-l _ _ x)) (store-own p τ (a % 256) ws l g s (both-r _ _ x) v)))
 
-pub store-rule : (T : Table) → Accepted T → PlaceLaws T → (m : Memory) (p : ℕ) → Started T m p → (τ a : ℕ) (ws : List ℕ) → lives T m p (m (depthAt p)) (m (frameAt p)) τ a ≡ true → IsValue T m τ ws → rule T (store m a ws) ≡ true
+pub store-rule : (T : Table) → Accepted T → PlaceLaws T → (m : Memory) (p : ℕ) → Started T m p → (τ a : ℕ) (ws : List ℕ) → lives T m p (m (depthAt p)) (m (frameAt p)) (m (worksAt p)) τ a ≡ true → IsValue T m τ ws → rule T (store m a ws) ≡ true
 store-rule T ok L m p s τ a ws e v =
     rules T (store m a ws) (store-kept T ok L m (ruled T m (s .ruled)) p τ a ws (created-low T m p (s .created)) (created-high T m p (s .created)) (s .started) e v)

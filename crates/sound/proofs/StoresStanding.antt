@@ -1,6 +1,6 @@
 -- THE RULE is kept where a process stands elsewhere, on a chain of calls. Assumes nothing.
 use Prim.Native.Nat.{ℕ, _+_, _≤_, _<_}
-use mathlib.Core.Path.{_≡_, refl, _∙_}
+use mathlib.Core.Path.{_≡_, refl, sym, _∙_}
 use mathlib.Core.Bool.{true}
 use native.Mathlib.Omega.{arith}
 use lib.Dec.{eqb, ltb}
@@ -11,17 +11,18 @@ use Rattle.table.specs.Table.{Table}
 use Rattle.table.specs.Entries.{blockCount, stmtCount, firstStmt, stmtKind}
 use Rattle.nesting.specs.Nest.{stmtLimit}
 use Rattle.nesting.proofs.Promise.{begins, goes-on}
-use Rattle.machine.specs.Memory.{Memory}
-use Rattle.machine.specs.Layout.{location, recordAt, statementAt, frameAt, topAt, worksAt, depthAt, createdAt}
+use Rattle.machine.specs.Memory.{Memory, update}
+use Rattle.machine.specs.Layout.{location, recordAt, statementAt, frameAt, topAt, worksAt, holderAt, depthAt, createdAt}
 use Rattle.machine.specs.Entries.{stmtAt, statementOf}
 use Rattle.machine.specs.Calls.{standing}
-use Rattle.machine.specs.Rule.{nextFirst, calls}
+use Rattle.machine.specs.Rule.{nextFirst, calls, worked}
 use Rattle.machine.proofs.Memories.{update-at, update-other}
 use Rattle.verdict.specs.Accepted.{Accepted}
 use Rattle.sound.specs.Claims.{PlaceLaws, Small}
-use Rattle.sound.specs.Ruled.{Chained, Process, Ruled, Carries}
+use Rattle.sound.specs.Ruled.{Chained, held, Process, Ruled, Carries}
 use Rattle.sound.proofs.StoresMemory.{location-low, location-up, record-high, records-apart, words-apart, update-small}
-use Rattle.sound.proofs.StoresProcesses.{process-by, variables-same, chain-stays, process-same, base-fits}
+use Rattle.sound.proofs.StoresProcesses.{process-by, variables-same, chain-stays, alike-stays, process-alike, base-fits}
+use Rattle.sound.proofs.Worked.{worked-created}
 
 -- each block has a first statement, and after a statement of a block that is not its end stands another
 module _ (T : Table) (ok : Accepted T) (b : ℕ) (l : b < blockCount T) where
@@ -40,6 +41,21 @@ call-kind T q c e k =
     cases (ltb c (stmtCount T))
     (λ x. no-true (rw (x, k) at e))
     (λ x. no-true (rw x at e))
+
+-- two words are written in either order
+update-swap : (m : Memory) (i v j u : ℕ) → (i ≡ j → ⊥) → update (update m i v) j u ≡ update (update m j u) i v
+update-swap m i v j u n = λ k a. at a k
+  where
+    at : (a : ℕ) → update (update m i v) j u a ≡ update (update m j u) i v a
+    at a =
+        cases (eqb a i)
+        (λ e. let x : a ≡ i = eqb-true a i e in
+        update-other _ j u a (λ z. n (sym x ∙ z)) ∙ update-at m i v a x ∙ sym (update-at _ i v a x))
+        (λ e. let x = eqb-false a i e in
+        cases (eqb a j)
+        (λ g. let y : a ≡ j = eqb-true a j g in update-at _ j u a y ∙ sym (update-other _ i v a x ∙ update-at m j u a y))
+        (λ g. let y = eqb-false a j g in
+        update-other _ j u a y ∙ update-other m i v a x ∙ sym (update-other _ i v a x ∙ update-other m j u a y)))
 
 module _ (s : Memory) (p c f top w d : ℕ) where
   standing-else : (j : ℕ) → (j ≡ statementAt p → ⊥) → (j ≡ frameAt p → ⊥) → (j ≡ topAt p → ⊥) → (j ≡ worksAt p → ⊥) → (j ≡ depthAt p → ⊥) → standing s p c f top w d j ≡ s j
@@ -108,9 +124,30 @@ module _ (s : Memory) (p c f top w d : ℕ) where
     pub stand-carries : Carries s (standing s p c f top w d)
     stand-carries =
         let e = stand-same 1 8 (omega arith) (omega arith) (λ z. omega arith) (λ z. omega arith) (λ z. omega arith) (λ z. omega arith) (λ z. omega arith) in
-        record { grows = omega arith; modules = λ q b l. stand-same q 1 b (omega arith) (λ z. omega arith) (λ z. omega arith) (λ z. omega arith) (λ z. omega arith) (λ z. omega arith) }
+        record {
+          grows = omega arith;
+          modules = λ q b l. stand-same q 1 b (omega arith) (λ z. omega arith) (λ z. omega arith) (λ z. omega arith) (λ z. omega arith) (λ z. omega arith);
+          begun = λ q b l n e. n (sym (stand-same q 0 b (omega arith) (λ z. omega arith) (λ z. omega arith) (λ z. omega arith) (λ z. omega arith) (λ z. omega arith)) ∙ e);
+        }
 
-    module _ (T : Table) (ok : Accepted T) (L : PlaceLaws T) (h : Ruled T s) (b : p ≤ s createdAt) (k : Chained T s p d f w c top) where
+    pub stand-holder : (q : ℕ) → 1 ≤ q → standing s p c f top w d (holderAt q) ≡ s (holderAt q)
+    stand-holder q b = stand-same q 6 b (omega arith) (λ z. omega arith) (λ z. omega arith) (λ z. omega arith) (λ z. omega arith) (λ z. omega arith)
+
+    -- who holds the variables of r is set before or after
+    pub stand-set : (r v : ℕ) → 1 ≤ r → standing (update s (holderAt r) v) p c f top w d ≡ update (standing s p c f top w d) (holderAt r) v
+    unfolding standing
+    stand-set r v b =
+        let n : (k : ℕ) → k < 20 → (k ≡ 6 → ⊥) → holderAt r ≡ recordAt p k → ⊥ = λ k l g. cases (eqb r p) (λ e. rw (eqb-true r p e) (words-apart p 6 k (λ z. g (sym z)))) (λ e. records-apart r p 6 k b a (omega arith) l (eqb-false r p e)) in
+        rw (
+          update-swap s (holderAt r) v (statementAt p) c (n 2 (omega arith) (λ z. omega arith)),
+          update-swap _ (holderAt r) v (frameAt p) f (n 3 (omega arith) (λ z. omega arith)),
+          update-swap _ (holderAt r) v (topAt p) top (n 4 (omega arith) (λ z. omega arith)),
+          update-swap _ (holderAt r) v (worksAt p) w (n 5 (omega arith) (λ z. omega arith)),
+          update-swap _ (holderAt r) v (depthAt p) d (n 7 (omega arith) (λ z. omega arith)),
+        )
+
+    module _ (T : Table) (ok : Accepted T) (L : PlaceLaws T) (h : Ruled T s) (b : p ≤ s createdAt) (k : Chained T s p d f w c top)
+        (o : (x : ℕ) → worked T s p d f w x ≡ true → s (holderAt x) ≡ p) where
       stand-process : Process T (standing s p c f top w d) p
       stand-process =
           let x = h .process p a b in
@@ -128,8 +165,12 @@ module _ (s : Memory) (p c f top w d : ℕ) where
           (λ j l. let y = base-fits T ok L s (standing s p c f top w d) stand-carries p a b x in stand-area p j a (omega arith) (omega arith)))
           (λ z. rw (stand-depth, stand-frame, stand-works, stand-statement, stand-top)
           (chain-stays T ok L s (standing s p c f top w d) stand-carries p a b x (λ j l m. stand-area p j a (omega arith) m) k))
+          (λ z. rw (stand-depth, stand-frame, stand-works) (λ y e.
+          let A = alike-stays T ok L s (standing s p c f top w d) stand-carries p a b x (λ j l m. stand-area p j a (omega arith) m) k in
+          let t : worked T s p d f w y ≡ true = rw (A .working y) at e in
+          held (stand-holder y (worked-created T s p a b k y t .least) ∙ o y t)))
 
-      -- THE PROCESS STANDS on the chain k
+      -- THE PROCESS STANDS on the chain k, and holds what it works on
       pub stand-kept : Ruled T (standing s p c f top w d)
       stand-kept =
           let e8 = stand-same 1 8 (omega arith) (omega arith) (λ z. omega arith) (λ z. omega arith) (λ z. omega arith) (λ z. omega arith) (λ z. omega arith) in
@@ -144,7 +185,8 @@ module _ (s : Memory) (p c f top w d : ℕ) where
                 let y' : q ≤ s createdAt = omega arith in
                 cases (eqb q p)
                 (λ e. rw (eqb-true q p e) stand-process)
-                (λ e. process-same T ok L s (standing s p c f top w d) stand-carries q x y' (h .process q x y')
+                (λ e. process-alike T ok L s (standing s p c f top w d) stand-carries q x y' (h .process q x y')
                 (λ i l. stand-other q i x (omega arith) (eqb-false q p e))
-                (λ j l. stand-area q j x (omega arith) l));
+                (λ j l. stand-area q j x (omega arith) l)
+                (λ y c. stand-holder y (c .least)));
           }

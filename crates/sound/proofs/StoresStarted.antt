@@ -1,7 +1,7 @@
 -- THE RULE is kept where a process is started. Assumes nothing.
 use Prim.Native.Nat.{ℕ, _+_, _≤_, _<_}
-use mathlib.Core.Path.{_≡_, refl, _∙_}
-use mathlib.Core.Bool.{true}
+use mathlib.Core.Path.{_≡_, refl, sym, _∙_}
+use mathlib.Core.Bool.{true, false}
 use mathlib.Core.List.{List}
 use native.Mathlib.Omega.{arith}
 use native.Mathlib.Nat.{zero-add}
@@ -14,24 +14,28 @@ use Rattle.table.specs.Table.{Table}
 use Rattle.table.specs.Entries.{blockCount, varType, blockKind, firstVar, params, vars, firstStmt}
 use Rattle.sizes.specs.Sizes.{moduleWords}
 use Rattle.machine.specs.Memory.{Memory, store, update}
-use Rattle.machine.specs.Layout.{location, recordAt, statusAt, moduleAt, statementAt, holderAt, createdAt, failureAt}
+use Rattle.machine.specs.Layout.{location, recordAt, statusAt, moduleAt, statementAt, frameAt, topAt, worksAt, holderAt, depthAt, createdAt, failureAt}
 use Rattle.machine.specs.Variables.{firstWords, frameWords, offsetOf}
 use Rattle.machine.specs.Processes.{refers, started}
 use Rattle.machine.specs.Calls.{standing}
 use Rattle.machine.specs.Context.{blockOf}
 use Rattle.machine.specs.Values.{holds}
-use Rattle.machine.specs.Rule.{liesIn, rule}
+use Rattle.machine.specs.Entries.{stmtAt}
+use Rattle.machine.specs.Rule.{mayWait, liesIn, rule}
 use Rattle.machine.proofs.Memories.{update-at, store-at}
 use Rattle.verdict.specs.Accepted.{Accepted}
 use Rattle.sound.specs.Claims.{PlaceLaws, Started}
-use Rattle.sound.specs.Ruled.{Bottom, Chained, bottom, Process, Ruled, Carries, Fills}
+use Rattle.sound.specs.InUse.{Created}
+use Rattle.sound.specs.Ruled.{Bottom, Chained, bottom, Held, Worked, Process, Ruled, Carries, Fills}
+use Rattle.sound.specs.Ruled as records
 use Rattle.sound.proofs.Ruled.{ruled, rules, block-there, block-kind}
 use Rattle.sound.proofs.StoresBlocks.{module-plain, module-fits}
 use Rattle.sound.proofs.StoresMemory.{location-add, area-after, area-other, area-record}
 use Rattle.sound.proofs.StoresChains.{carries-keeps, created-low, created-high, value-same}
-use Rattle.sound.proofs.StoresProcesses.{process-by, process-keeps, variables-same, process-same, base-fits}
+use Rattle.sound.proofs.StoresProcesses.{process-by, process-keeps, variables-same, alike-stays, process-same, base-fits}
 use Rattle.sound.proofs.StoresRule.{store-carries, store-ruled}
-use Rattle.sound.proofs.StoresRecords.{set-unlike, set-word, set-other, set-area, goto-kept}
+use Rattle.sound.proofs.StoresRecords.{set-unlike, set-word, set-other, set-area, Holds, passing-holds, goto-kept}
+use Rattle.sound.proofs.Worked.{Alike, worked-bottom, worked-created, worked-begun, held-same}
 use Rattle.sound.proofs.StoresStanding.{block-begins, stand-word, stand-other, stand-same, stand-area, stand-depth, stand-works, stand-top, stand-frame, stand-statement}
 use Rattle.sound.proofs.StoresCalls.{fills-short}
 use Rattle.sound.proofs.StoresSteps.{area-block}
@@ -39,7 +43,7 @@ use Rattle.sound.proofs.ValueBlocks.{begins-at, begins-up, variable-in,
 
 -- only the record of process r is written, and its module stays
 module _ (T : Table) (good : Accepted T) (L : PlaceLaws T) (m n : Memory) (h : Ruled T m) (r : ℕ)
-    (count : n createdAt ≡ m createdAt) (failure : n failureAt ≡ m failureAt) (same-module : n (moduleAt r) ≡ m (moduleAt r))
+    (fresh : m (statusAt r) ≡ 1) (count : n createdAt ≡ m createdAt) (failure : n failureAt ≡ m failureAt) (same-module : n (moduleAt r) ≡ m (moduleAt r))
     (records : (q k : ℕ) → 1 ≤ q → k < 8 → (q ≡ r → ⊥) → n (recordAt q k) ≡ m (recordAt q k))
     (areas : (q j : ℕ) → 1 ≤ q → q ≤ 64 → j < 256 → n (location q j) ≡ m (location q j)) where
   pub rewritten-carries : Carries m n
@@ -47,7 +51,15 @@ module _ (T : Table) (good : Accepted T) (L : PlaceLaws T) (m n : Memory) (h : R
       record {
         grows = omega arith;
         modules = λ p a b. cases (eqb p r) (λ e. rw (eqb-true p r e) same-module) (λ e. records p 1 a (omega arith) (eqb-false p r e));
+        begun = λ p a b g z. cases (eqb p r) (λ e. let i : p ≡ r = eqb-true p r e in g (rw i fresh)) (λ e. g (sym (records p 0 a (omega arith) (eqb-false p r e)) ∙ z));
       }
+
+  -- no process works on r
+  rewritten-keeps : (p : ℕ) → 1 ≤ p → p ≤ m createdAt → (p ≡ r → ⊥) → m (statusAt p) ≡ 2 → (x : ℕ) → Created m x → Worked T m p x → Held T m p x → Held T n p x
+  rewritten-keeps p a b d s x c w =
+      cases (eqb x r)
+      (λ e. let i : x ≡ r = eqb-true x r e in absurd (worked-begun T m p s (h .process p a b .chain s) x w (rw i fresh)))
+      (λ e. held-same T m n p x (records x 6 (c .least) (omega arith) (eqb-false x r e)) (records p 5 a (omega arith) d) (records p 2 a (omega arith) d))
 
   pub rewritten : Process T n r → Ruled T n
   rewritten x =
@@ -62,7 +74,8 @@ module _ (T : Table) (good : Accepted T) (L : PlaceLaws T) (m n : Memory) (h : R
             cases (eqb p r)
             (λ e. rw (eqb-true p r e) x)
             (λ e. process-same T good L m n rewritten-carries p a b' (h .process p a b')
-            (λ i l. records p i a l (eqb-false p r e)) (λ j l. areas p j a (omega arith) l));
+            (λ i l. records p i a l (eqb-false p r e)) (λ j l. areas p j a (omega arith) l)
+            (rewritten-keeps p a b' (eqb-false p r e)));
       }
 
 module _ (T : Table) (good : Accepted T) (L : PlaceLaws T) (m : Memory) (h : Ruled T m) (p r μ : ℕ) (ws : List ℕ) (two : 2 ≤ r) (made : r ≤ m createdAt) (of-module : m (moduleAt r) ≡ μ) (not-started : m (statusAt r) ≡ 1) (F : Fills T m p μ ws) where
@@ -115,7 +128,10 @@ module _ (T : Table) (good : Accepted T) (L : PlaceLaws T) (m : Memory) (h : Rul
   passed-process =
       process-keeps T m passed r old (λ i l. area-record m r 0 ws r i one most fits) passed-carries
       (rw of-module (λ i l. passed-variables i l ((rw of-module at (old .variables)) i l)))
-      (λ z. absurd (omega arith))
+      (λ z. absurd (omega arith)) (λ z. absurd (omega arith))
+
+  passed-fresh : passed (statusAt r) ≡ 1
+  passed-fresh = area-record m r 0 ws r 0 one most fits ∙ not-started
 
   pub passed-ruled : Ruled T passed
   passed-ruled = store-ruled T good L m h r 0 ws one made fits passed-process
@@ -170,7 +186,7 @@ module _ (T : Table) (good : Accepted T) (L : PlaceLaws T) (m : Memory) (h : Rul
   begun-areas q j a b l = stand-area held r (firstStmt T μ) 0 (moduleWords T μ) r 0 one q j a b l ∙ held-area q j a b l
 
   begun-carries : Carries passed begun
-  begun-carries = rewritten-carries T good L passed begun passed-ruled r begun-count begun-failure begun-module begun-records begun-areas
+  begun-carries = rewritten-carries T good L passed begun passed-ruled r passed-fresh begun-count begun-failure begun-module begun-records begun-areas
 
   begun-is : begun (moduleAt r) ≡ μ
   begun-is = begun-module ∙ area-record m r 0 ws r 1 one most fits ∙ of-module
@@ -193,11 +209,24 @@ module _ (T : Table) (good : Accepted T) (L : PlaceLaws T) (m : Memory) (h : Rul
       (λ j l. let y = base-fits T good L passed begun begun-carries r one made' passed-process in begun-areas r j one most (omega arith)))
       (λ z. rw (stand-depth held r (firstStmt T μ) 0 (moduleWords T μ) r 0, stand-frame held r (firstStmt T μ) 0 (moduleWords T μ) r 0, stand-works held r (firstStmt T μ) 0 (moduleWords T μ) r 0, stand-statement held r (firstStmt T μ) 0 (moduleWords T μ) r 0, stand-top held r (firstStmt T μ) 0 (moduleWords T μ) r 0)
       begun-chain)
+      (λ z. rw (stand-depth held r (firstStmt T μ) 0 (moduleWords T μ) r 0, stand-frame held r (firstStmt T μ) 0 (moduleWords T μ) r 0, stand-works held r (firstStmt T μ) 0 (moduleWords T μ) r 0)
+      (λ x t. let i = worked-bottom T begun r 0 r x t in rw (← i) (records.held e6)))
+
+  started-carries : Carries m begun
+  started-carries =
+      let x = passed-carries in
+      let y = begun-carries in
+      let g = x .grows in
+      record {
+        grows = let f = y .grows in omega arith;
+        modules = λ q l k. y .modules q l (omega arith) ∙ x .modules q l k;
+        begun = λ q l k n. y .begun q l (omega arith) (x .begun q l k n);
+      }
 
   -- THE START
   pub started-kept : Ruled T (started T m r μ ws)
   unfolding started
-  started-kept = rewritten T good L passed begun passed-ruled r begun-count begun-failure begun-module begun-records begun-areas begun-process
+  started-kept = rewritten T good L passed begun passed-ruled r passed-fresh begun-count begun-failure begun-module begun-records begun-areas begun-process
 
   module _ (a : 1 ≤ p) (b : p ≤ m createdAt) (st : m (statusAt p) ≡ 2) where
     apart : p ≡ r → ⊥
@@ -215,16 +244,35 @@ module _ (T : Table) (good : Accepted T) (L : PlaceLaws T) (m : Memory) (h : Rul
     unfolding started
     same-count = begun-count ∙ area-record m r 0 ws 1 8 one most fits
 
-    pub start-kept : (c : ℕ) → liesIn T (blockOf m p) c ≡ true → Ruled T (update (started T m r μ ws) (statementAt p) c)
-    start-kept c l =
+    chain : Chained T m p (m (depthAt p)) (m (frameAt p)) (m (worksAt p)) (m (statementAt p)) (m (topAt p))
+    chain = h .process p a b .chain st
+
+    same-alike : Alike T m (started T m r μ ws) p (m (depthAt p)) (m (frameAt p)) (m (worksAt p))
+    unfolding started
+    same-alike =
+        alike-stays T good L m (started T m r μ ws) started-carries p a b (h .process p a b) (λ j y z. same-area j z) chain
+
+    started-holds : Holds T m p → Holds T (started T m r μ ws) p
+    unfolding started
+    started-holds o x t =
+        let w : Worked T m p x = rw (same-record 7 (omega arith), same-record 3 (omega arith), same-record 5 (omega arith), same-alike .working x) at t in
+        let c = worked-created T m p a b chain x w in
+        let d : x ≡ r → ⊥ = λ i. worked-begun T m p st chain x w (rw i not-started) in
+        begun-records x 6 (c .least) (omega arith) d ∙ area-record m r 0 ws x 6 one most fits ∙ o x w
+
+    pub start-kept : Holds T m p → (c : ℕ) → liesIn T (blockOf m p) c ≡ true → Ruled T (update (started T m r μ ws) (statementAt p) c)
+    start-kept o c l =
         let e8 = same-count in
         let z = area-block T good L m h p a b st (started T m r μ ws) same-record same-area in
-        goto-kept T good L (started T m r μ ws) started-kept p c a (omega arith) (same-record 0 (omega arith) ∙ st) (rw z l)
+        goto-kept T good L (started T m r μ ws) started-kept p c a (omega arith) (same-record 0 (omega arith) ∙ st) (started-holds o) (rw z l)
 
-pub start-rule : (T : Table) → Accepted T → PlaceLaws T → (m : Memory) (p : ℕ) → Started T m p → (r μ c : ℕ) (ws : List ℕ) → refers m μ r ≡ true → m (statusAt r) ≡ 1 → Fills T m p μ ws → liesIn T (blockOf m p) c ≡ true
+pub start-rule : (T : Table) → Accepted T → PlaceLaws T → (m : Memory) (p : ℕ) → Started T m p → mayWait (stmtAt T (m (statementAt p))) ≡ false → (r μ c : ℕ) (ws : List ℕ) → refers m μ r ≡ true → m (statusAt r) ≡ 1 → Fills T m p μ ws → liesIn T (blockOf m p) c ≡ true
     → rule T (update (started T m r μ ws) (statementAt p) c) ≡ true
 unfolding refers
-start-rule T good L m p s r μ c ws e n F l =
+start-rule T good L m p s y r μ c ws e n F l =
+    let h = ruled T m (s .ruled) in
+    let a = created-low T m p (s .created) in
+    let b = created-high T m p (s .created) in
     rules T _
-    (start-kept T good L m (ruled T m (s .ruled)) p r μ ws (leb-true 2 r (both-l _ _ (both-l _ _ e))) (leb-true r (m createdAt) (both-r _ _ (both-l _ _ e))) (eqb-true (m (moduleAt r)) μ (both-r _ _ e)) n F
-    (created-low T m p (s .created)) (created-high T m p (s .created)) (s .started) c l)
+    (start-kept T good L m h p r μ ws (leb-true 2 r (both-l _ _ (both-l _ _ e))) (leb-true r (m createdAt) (both-r _ _ (both-l _ _ e))) (eqb-true (m (moduleAt r)) μ (both-r _ _ e)) n F
+    a b (s .started) (passing-holds T good L m h p a b (s .started) y) c l)

@@ -7,8 +7,8 @@ use native.Mathlib.Omega.{arith}
 use native.Mathlib.Nat.{zero-add}
 use lib.Dec.{eqb, leb, ltb}
 use borrow.Author.Tests.{eqb-true, eqb-false, leb-true, ltb-true, ltb-false}
-use Rattle.basics.specs.Choice.{cases, both, either}
-use Rattle.basics.proofs.Bools.{no-true, both-l, both-r, either-l, either-r, either-case}
+use Rattle.basics.specs.Choice.{cases, both}
+use Rattle.basics.proofs.Bools.{no-true, both-l, both-r, either-case}
 use Rattle.table.specs.Table.{Table}
 use Rattle.table.specs.Entries.{blockCount, varMode, varType, firstVar}
 use Rattle.sizes.specs.Sizes.{wordsOf, moduleWords}
@@ -21,7 +21,8 @@ use Rattle.verdict.specs.Accepted.{Accepted}
 use Rattle.sound.specs.Claims.{IsValue, PlaceLaws}
 use Rattle.sound.specs.Ruled.{Framed, Chained, bottom, called, Carries}
 use Rattle.sound.proofs.StoresMemory.{location-add, area-before, area-after}
-use Rattle.sound.proofs.StoresChains.{Same, carries-keeps, chain-over, called-by, owns-same, frame-new, value-same, chain-same}
+use Rattle.sound.proofs.StoresChains.{Same, carries-keeps, chain-over, called-by, alike-same, frame-new, value-same, chain-same}
+use Rattle.sound.proofs.Worked.{Alike, alike-more}
 use Rattle.sound.proofs.ValueBlocks.{variables-apart, words-value, words-var, variable-type, in-block, InBlock, part-inside, block-in}
 
 module _ (T : Table) (ok : Accepted T) (L : PlaceLaws T) where
@@ -93,31 +94,25 @@ module _ (T : Table) (ok : Accepted T) (L : PlaceLaws T) where
     unfolding Same
     below-same base f l = λ j a b. area-before m p k ws j (omega arith)
 
-    store-owns : {d f w c top : ℕ} → Chained T m p d f w c top → owns T m p d f τ k ≡ true → (σ j : ℕ) → owns T m p d f σ j ≡ true → owns T (store m (location p k) ws) p d f σ j ≡ true
+    pub store-alike : {d f w c top : ℕ} → Chained T m p d f w c top → owns T m p d f τ k ≡ true → Alike T m (store m (location p k) ws) p d f w
     unfolding owns
-    store-owns (bottom b) e σ j g = no-true g
-    store-owns {d = suc d} {f = f} {top = top} (called q r) e σ j g =
+    store-alike (bottom b) e = no-true e
+    store-alike {d = suc d} {f = f} {w = w} {top = top} (called q r) e =
         either-case (both (leb (f + 4) k) (partOfBlock T (calledBlock m p f) τ (k - (f + 4)))) (owns T m p d (callerFrame m p f) τ k) e
         (λ y. let u = leb-true (f + 4) k (both-l _ _ y) in
-        more (link-before f 0 (omega arith)) (link-before f 3 (omega arith)) (owns-same T m (store m (location p k) ws) cs p r (below-same (moduleWords T (m (moduleAt p))) f (omega arith)) σ j))
-        (λ y. let z = owns-in m p r τ k y .1 in more (link-after f 0 z) (link-after f 3 z) (store-owns r y σ j))
-      where
-        more : store m (location p k) ws (linkAt p f 0) ≡ m (linkAt p f 0) → store m (location p k) ws (linkAt p f 3) ≡ m (linkAt p f 3)
-            → (owns T m p d (callerFrame m p f) σ j ≡ true → owns T (store m (location p k) ws) p d (callerFrame m p f) σ j ≡ true)
-            → either (both (leb (f + 4) j) (partOfBlock T (calledBlock (store m (location p k) ws) p f) σ (j - (f + 4)))) (owns T (store m (location p k) ws) p d (callerFrame (store m (location p k) ws) p f) σ j) ≡ true
-        more e0 e3 h =
-            either-case (both (leb (f + 4) j) (partOfBlock T (calledBlock m p f) σ (j - (f + 4)))) (owns T m p d (callerFrame m p f) σ j) g
-            (λ y. either-l _ _ (rw e3 y))
-            (λ y. either-r _ _ (rw e0 (h y)))
+        alike-more T m (store m (location p k) ws) p d f w (link-before f 0 (omega arith)) (link-before f 2 (omega arith)) (link-before f 3 (omega arith))
+        (alike-same T m (store m (location p k) ws) cs p r (below-same (moduleWords T (m (moduleAt p))) f (omega arith))))
+        (λ y. let z = owns-in m p r τ k y .1 in
+        alike-more T m (store m (location p k) ws) p d f w (link-after f 0 z) (link-after f 2 z) (link-after f 3 z) (store-alike r y))
 
     -- the frame that has the variable
     store-frame : {d f w c top q : ℕ} → Framed T m p d f w c top q → Chained T m p d (callerFrame m p f) (callerWorks m p f) (callStatement m p f) f → f + 4 ≤ k → partOfBlock T q τ (k - (f + 4)) ≡ true → Framed T (store m (location p k) ws) p d f w c top q
     store-frame {f = f} {q = q} r h l e =
         let x = in-block T q τ (k - (f + 4)) e in
         let j : f + 4 + (k - (f + 4)) ≡ k = omega arith in
-        frame-new T m (store m (location p k) ws) cs p r
-        (link-before f 0 (omega arith)) (link-before f 1 (omega arith))
-        (owns-same T m (store m (location p k) ws) cs p h (below-same (moduleWords T (m (moduleAt p))) f (omega arith)))
+        frame-new T m (store m (location p k) ws) cs p some made r h
+        (link-before f 0 (omega arith)) (link-before f 1 (omega arith)) (link-before f 2 (omega arith))
+        (alike-same T m (store m (location p k) ws) cs p h (below-same (moduleWords T (m (moduleAt p))) f (omega arith)))
         (λ i u n. rw j at (value-kept m p (f + 4) q τ (k - (f + 4)) (r .there) x ws v (rw j cs) some made i n (r .values i u n)))
         (λ i u n. rw j at (bound-kept m p (f + 4) q τ (k - (f + 4)) (r .there) x ws v (rw j cs) i n))
 
@@ -126,9 +121,9 @@ module _ (T : Table) (ok : Accepted T) (L : PlaceLaws T) where
     store-over {f = f} {q = q} r h e =
         let z = owns-in m p h τ k e .1 in
         let g = v .long in
-        frame-new T m (store m (location p k) ws) cs p r
-        (link-after f 0 z) (link-after f 1 z)
-        (store-owns h e)
+        frame-new T m (store m (location p k) ws) cs p some made r h
+        (link-after f 0 z) (link-after f 1 z) (link-after f 2 z)
+        (store-alike h e)
         (λ i u n. value-same T L m (store m (location p k) ws) cs p some made (varType T (firstVar T q + i)) (f + 4 + offsetOf T q (firstVar T q + i)) (λ j y. area-after m p k ws (f + 4 + offsetOf T q (firstVar T q + i) + j) (omega arith)) (r .values i u n))
         (λ i u n. area-after m p k ws (f + 4 + offsetOf T q (firstVar T q + i)) (omega arith))
 

@@ -19,7 +19,7 @@ use Rattle.machine.specs.Calls.{topAfter, pushed, return}
 use Rattle.machine.specs.Statements.{Effect, effect}
 use Rattle.machine.specs.Rule.{lives}
 use Rattle.machine.specs.Rule as state
-use Rattle.machine.specs.Entries.{stmtAt}
+use Rattle.machine.specs.Entries.{localCall, processCall, stmtAt}
 use Rattle.words.specs.Numbers.{intOf}
 use Rattle.words.specs.Devices.{isDevice}
 use Rattle.sound.specs.Claims.{IsValue, Small}
@@ -31,7 +31,7 @@ pub record SmallWords (ws : List ℕ) : Type 0 where
 -- at a stands a live variable of type τ for the calls of process p, or such a part of one; it lies in one area and holds a value of its type
 pub record Live (T : Table) (m : Memory) (p τ a : ℕ) : Type 0 where
   pub type : τ < 3 + typeCount T
-  pub alive : lives T m p (m (depthAt p)) (m (frameAt p)) τ a ≡ true
+  pub alive : lives T m p (m (depthAt p)) (m (frameAt p)) (m (worksAt p)) τ a ≡ true
   pub inside : fits T a τ ≡ true
   pub value : holds T m τ a ≡ true
 
@@ -79,32 +79,36 @@ pub record Pushable (T : Table) (m page : Memory) (p q : ℕ) (ws : List ℕ) : 
   pub deep : m (depthAt p) < 64
   pub calling : state.calls q (stmtAt T (m (statementAt p))) ≡ true
 
+-- process p stands at no when or cycle
+abbrev pub Passing : Table → Memory → ℕ → Type 0
+Passing T m p = state.mayWait (stmtAt T (m (statementAt p))) ≡ false
+
 -- what the statement of a started process p comes to: one constructor for each way to go on, or a listed failure
 pub data Performed (T : Table) (m page : Memory) (p : ℕ) : Outcome Effect → Type 0 where
   -- it goes on at another statement of its block, and holds the variables that it works on, or gives them up and waits
-  goes : (c : ℕ) → state.liesIn T (blockOf m p) c ≡ true → Performed T m page p (ok (effect 0 (update m (statementAt p) c) page))
+  goes : (c : ℕ) → Passing T m p → state.liesIn T (blockOf m p) c ≡ true → Performed T m page p (ok (effect 0 (update m (statementAt p) c) page))
   holds-on : (c : ℕ) → state.liesIn T (blockOf m p) c ≡ true → Performed T m page p (ok (effect 0 (update (update m (holderAt (m (worksAt p))) p) (statementAt p) c) page))
-  gives-up : Performed T m page p (ok (effect 1 (update m (holderAt (m (worksAt p))) 0) page))
+  gives-up : state.mayWait (stmtAt T (m (statementAt p))) ≡ true → Performed T m page p (ok (effect 1 (update m (holderAt (m (worksAt p))) 0) page))
   -- an assignment
-  assigns : (τ a : ℕ) (ws : List ℕ) → state.liesIn T (blockOf m p) (m (statementAt p) + 1) ≡ true → Live T m p τ a → IsValue T m τ ws → SmallWords ws
+  assigns : (τ a : ℕ) (ws : List ℕ) → Passing T m p → state.liesIn T (blockOf m p) (m (statementAt p) + 1) ≡ true → Live T m p τ a → IsValue T m τ ws → SmallWords ws
       → Performed T m page p (ok (effect 0 (update (store m a ws) (statementAt p) (m (statementAt p) + 1)) page))
   -- a local call; a process call that is served, or waits
-  calls : (q : ℕ) (ws : List ℕ) → owner T q ≡ owner T (blockOf m p) → Pushable T m page p q ws
+  calls : (q : ℕ) (ws : List ℕ) {c n : ℕ} → stmtAt T (m (statementAt p)) ≡ localCall q c n → owner T q ≡ owner T (blockOf m p) → Pushable T m page p q ws
       → Performed T m page p (ok (effect 0 (pushed T m page (contextOf m p) m q (m (worksAt p)) ws) page))
-  serves : (r q : ℕ) (ws : List ℕ) → refers m (owner T q) r ≡ true → (m (statusAt r) ≡ 1 → ⊥) → m (holderAt r) ≡ 0 → Pushable T m page p q ws
+  serves : (r q : ℕ) (ws : List ℕ) {i c n : ℕ} → stmtAt T (m (statementAt p)) ≡ processCall i q c n → refers m (owner T q) r ≡ true → (m (statusAt r) ≡ 1 → ⊥) → m (holderAt r) ≡ 0 → Pushable T m page p q ws
       → Performed T m page p (ok (effect 0 (pushed T m page (contextOf m p) (update m (holderAt r) p) q r ws) page))
   waits : Performed T m page p (ok (effect 1 m page))
   -- a creation, a start, a write
-  creates : (τ a : ℕ) → state.liesIn T (blockOf m p) (m (statementAt p) + 1) ≡ true → Live T m p τ a → typeKind T τ ≡ 3 → m createdAt < 64
+  creates : (τ a : ℕ) → Passing T m p → state.liesIn T (blockOf m p) (m (statementAt p) + 1) ≡ true → Live T m p τ a → typeKind T τ ≡ 3 → m createdAt < 64
       → Performed T m page p (ok (effect 0 (update (update (created m (m createdAt + 1) (typeP T τ)) a (m createdAt + 1)) (statementAt p) (m (statementAt p) + 1)) page))
-  starts : (r μ : ℕ) (ws : List ℕ) → state.liesIn T (blockOf m p) (m (statementAt p) + 1) ≡ true → refers m μ r ≡ true → m (statusAt r) ≡ 1 → μ < blockCount T → blockKind T μ ≡ 1
+  starts : (r μ : ℕ) (ws : List ℕ) → Passing T m p → state.liesIn T (blockOf m p) (m (statementAt p) + 1) ≡ true → refers m μ r ≡ true → m (statusAt r) ≡ 1 → μ < blockCount T → blockKind T μ ≡ 1
       → Bound T m p (params T μ) (firstVar T μ) ws → length ws ≤ 256
       → Performed T m page p (ok (effect 0 (update (started T m r μ ws) (statementAt p) (m (statementAt p) + 1)) page))
-  writes : (a v : ℕ) → state.liesIn T (blockOf m p) (m (statementAt p) + 1) ≡ true → a < 65536 → v < 65536 → isDevice (intOf a) ≡ true
+  writes : (a v : ℕ) → Passing T m p → state.liesIn T (blockOf m p) (m (statementAt p) + 1) ≡ true → a < 65536 → v < 65536 → isDevice (intOf a) ≡ true
       → Performed T m page p (ok (effect 0 (update m (statementAt p) (m (statementAt p) + 1)) (update page (deviceWord a) v)))
   -- the end of its own block, and of a call
-  ends : m (depthAt p) ≡ 0 → Performed T m page p (ok (effect 2 (update (update m (statusAt p) 3) (holderAt p) 0) page))
-  returns : (n : Memory) → (m (depthAt p) ≡ 0 → ⊥) → return T m page (contextOf m p) ≡ ok n → Small n → Performed T m page p (ok (effect 0 n page))
+  ends : Passing T m p → m (depthAt p) ≡ 0 → Performed T m page p (ok (effect 2 (update (update m (statusAt p) 3) (holderAt p) 0) page))
+  returns : (n : Memory) → Passing T m p → (m (depthAt p) ≡ 0 → ⊥) → return T m page (contextOf m p) ≡ ok n → Small n → Performed T m page p (ok (effect 0 n page))
   fails : (n : ℕ) → 16 ≤ n → n ≤ 24 → Performed T m page p (fail n)
 
 -- what the statements of block b use is in scope, by their kinds

@@ -15,7 +15,7 @@ use Rattle.machine.specs.Context.{blockOf}
 use Rattle.machine.specs.Values.{holds}
 use Rattle.sound.specs.Claims.{Keeps}
 use Rattle.machine.specs.Outcomes.{Outcome, ok, fail}
-use Rattle.machine.specs.Rule.{nextFirst, calls, lives, rule}
+use Rattle.machine.specs.Rule.{nextFirst, calls, mayWait, worked, worksBy, lives, rule}
 
 -- process p executes its own block: the bottom of its chain
 pub record Bottom (T : Table) (m : Memory) (p f w c top : ℕ) : Type 0 where
@@ -31,6 +31,7 @@ pub record Framed (T : Table) (m : Memory) (p d f w c top q : ℕ) : Type 0 wher
   pub room : f + 4 ≤ 256
   pub some-works : 1 ≤ w
   pub works : w ≤ m createdAt
+  pub begun : m (statusAt w) ≡ 1 → ⊥
   pub there : q < blockCount T
   pub procedure : blockKind T q ≡ 2
   pub owned : owner T q ≡ m (moduleAt w)
@@ -40,13 +41,24 @@ pub record Framed (T : Table) (m : Memory) (p d f w c top q : ℕ) : Type 0 wher
   pub to : c < nextFirst T q
   -- a value parameter or local holds a value of its type, a var parameter names a live variable of its type
   pub values : (i : ℕ) → i < vars T q → (varMode T (firstVar T q + i) ≡ 2 → ⊥) → holds T m (varType T (firstVar T q + i)) (location p (f + 4 + offsetOf T q (firstVar T q + i))) ≡ true
-  pub bound : (i : ℕ) → i < vars T q → varMode T (firstVar T q + i) ≡ 2 → lives T m p d (callerFrame m p f) (varType T (firstVar T q + i)) (m (location p (f + 4 + offsetOf T q (firstVar T q + i)))) ≡ true
+  pub bound : (i : ℕ) → i < vars T q → varMode T (firstVar T q + i) ≡ 2 → lives T m p d (callerFrame m p f) (callerWorks m p f) (varType T (firstVar T q + i)) (m (location p (f + 4 + offsetOf T q (firstVar T q + i)))) ≡ true
   pub calling : calls q (stmtAt T (callStatement m p f)) ≡ true
+  -- a local call works on what its caller works on, a process call on none of those that its process works on outside it
+  pub by : worksBy T m p d f w (stmtAt T (callStatement m p f)) ≡ true
 
 -- the d calls of process p that have not ended, the innermost first; below them its own block
 pub data Chained (T : Table) (m : Memory) (p : ℕ) : ℕ → ℕ → ℕ → ℕ → ℕ → Type 0 where
   bottom : {f w c top : ℕ} → Bottom T m p f w c top → Chained T m p 0 f w c top
   called : {d f w c top : ℕ} → Framed T m p d f w c top (calledBlock m p f) → Chained T m p d (callerFrame m p f) (callerWorks m p f) (callStatement m p f) f → Chained T m p (suc d) f w c top
+
+-- process p holds the variables of process r, or stands at a when or cycle and may have given up those that it works on
+pub data Held (T : Table) (m : Memory) (p r : ℕ) : Type 0 where
+  held : m (holderAt r) ≡ p → Held T m p r
+  given : r ≡ m (worksAt p) → mayWait (stmtAt T (m (statementAt p))) ≡ true → Held T m p r
+
+-- r is one of the processes that process p works on, in its own block or in one of its calls
+abbrev pub Worked : Table → Memory → ℕ → ℕ → Type 0
+Worked T m p r = worked T m p (m (depthAt p)) (m (frameAt p)) (m (worksAt p)) r ≡ true
 
 -- created process p
 pub record Process (T : Table) (m : Memory) (p : ℕ) : Type 0 where
@@ -59,6 +71,7 @@ pub record Process (T : Table) (m : Memory) (p : ℕ) : Type 0 where
   pub holder : m (holderAt p) ≤ m createdAt
   pub variables : (i : ℕ) → i < vars T (m (moduleAt p)) → holds T m (varType T (firstVar T (m (moduleAt p)) + i)) (location p (offsetOf T (m (moduleAt p)) (firstVar T (m (moduleAt p)) + i))) ≡ true
   pub chain : m (statusAt p) ≡ 2 → Chained T m p (m (depthAt p)) (m (frameAt p)) (m (worksAt p)) (m (statementAt p)) (m (topAt p))
+  pub holding : m (statusAt p) ≡ 2 → (r : ℕ) → Worked T m p r → Held T m p r
 
 pub record Ruled (T : Table) (m : Memory) : Type 0 where
   pub some : 1 ≤ m createdAt
@@ -76,17 +89,18 @@ pub record Standing (T : Table) (m : Memory) (p : ℕ) : Type 0 where
   pub to : m (statementAt p) < nextFirst T (blockOf m p)
   pub room : (m (depthAt p) ≡ 0 → ⊥) → m (frameAt p) + 4 ≤ 256
 
--- the processes of m are processes of n, of the same modules
+-- the processes of m are processes of n, of the same modules, and started ones stay so
 pub record Carries (m n : Memory) : Type 0 where
   pub grows : m createdAt ≤ n createdAt
   pub modules : (p : ℕ) → 1 ≤ p → p ≤ m createdAt → n (moduleAt p) ≡ m (moduleAt p)
+  pub begun : (p : ℕ) → 1 ≤ p → p ≤ m createdAt → (m (statusAt p) ≡ 1 → ⊥) → n (statusAt p) ≡ 1 → ⊥
 
 -- ws are the words of arguments that process p passes to the parameters of block b, one after the other: values of their types, and
 -- locations of live variables of them
 pub record Fills (T : Table) (m : Memory) (p b : ℕ) (ws : List ℕ) : Type 0 where
   pub long : length ws ≡ firstWords T b (params T b)
   pub values : (i : ℕ) → i < params T b → (varMode T (firstVar T b + i) ≡ 2 → ⊥) → (n : Memory) (a : ℕ) → Keeps m n → ((j : ℕ) → j < length ws → n (a + j) ≡ getD ws j 0) → holds T n (varType T (firstVar T b + i)) (a + firstWords T b i) ≡ true
-  pub places : (i : ℕ) → i < params T b → varMode T (firstVar T b + i) ≡ 2 → lives T m p (m (depthAt p)) (m (frameAt p)) (varType T (firstVar T b + i)) (getD ws (firstWords T b i) 0) ≡ true
+  pub places : (i : ℕ) → i < params T b → varMode T (firstVar T b + i) ≡ 2 → lives T m p (m (depthAt p)) (m (frameAt p)) (m (worksAt p)) (varType T (firstVar T b + i)) (getD ws (firstWords T b i) 0) ≡ true
 
 -- what a call comes to: a state that meets the rule, or the failure of a frame that does not fit
 pub data Calling (T : Table) : Outcome Memory → Type 0 where

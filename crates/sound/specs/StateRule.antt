@@ -1,19 +1,28 @@
 -- What the state rule is worth (01, Verdicts and other refusals: The state rule). States and pages are memories of words. Assumes nothing.
 use Prim.Native.Nat.{ℕ}
 use mathlib.Core.Path.{_≡_}
-use mathlib.Core.Bool.{true}
+use mathlib.Core.Bool.{true, false}
 use Rattle.table.specs.Table.{Table}
+use Rattle.table.specs.Entries.{owner}
 use Rattle.machine.specs.Memory.{Memory}
+use Rattle.machine.specs.Layout.{statusAt, moduleAt, statementAt, worksAt, calledBlock}
+use Rattle.machine.specs.Entries.{stmtAt}
 use Rattle.machine.specs.Step.{done, step}
 use Rattle.machine.specs.Run.{begin}
-use Rattle.machine.specs.Rule.{rule}
+use Rattle.machine.specs.Rule.{mayWait, rule}
 use Rattle.sound.specs.Claims.{Small, Sound}
-use Rattle.sound.specs.InUse.{ValuesHold}
+use Rattle.sound.specs.InUse.{Created, Call, ValuesHold}
 
 -- a state that begin and steps reach, of any processes and on any pages
 pub data Reachable (T : Table) : Memory → Type 0 where
   atBegin : Reachable T (begin T)
   byStep : {m page s d : Memory} {a : ℕ} (p : ℕ) → Reachable T m → Small page → step T m page p ≡ done a s d → Reachable T s
+
+-- process p is started, and stands at no when or cycle
+pub record Going (T : Table) (m : Memory) (p : ℕ) : Type 0 where
+  pub created : Created m p
+  pub started : m (statusAt p) ≡ 2
+  pub passing : mayWait (stmtAt T (m (statementAt p))) ≡ false
 
 pub record StateRule (T : Table) : Type 0 where
   -- it is met by every state that begin and steps reach
@@ -22,3 +31,7 @@ pub record StateRule (T : Table) : Type 0 where
   pub steps : (m page : Memory) (p : ℕ) → Small m → Small page → rule T m ≡ true → Sound T (step T m page p)
   -- in a state that meets it the variables in use hold values of their types, and a bound var parameter names a live variable of its type
   pub values : (m : Memory) → Small m → rule T m ≡ true → ValuesHold T m
+  -- two started processes that stand at no when or cycle work on different variables
+  pub apart : (m : Memory) → rule T m ≡ true → (p q : ℕ) → Going T m p → Going T m q → m (worksAt p) ≡ m (worksAt q) → p ≡ q
+  -- a process that works on its own variables is in calls of its own module's procedures only
+  pub own : (m : Memory) → rule T m ≡ true → (p : ℕ) → m (worksAt p) ≡ p → (d f : ℕ) → Call T m p d f → owner T (calledBlock m p f) ≡ m (moduleAt p)
