@@ -1,13 +1,13 @@
 -- The calls of a process and the processes of a state: the laws of each return. Assumes nothing.
 use Prim.Native.Nat.{ℕ, zero, suc, _+_, _-_, _*_, _≤_, _<_}
 use mathlib.Core.Path.{_≡_, refl, sym, _∙_}
-use mathlib.Core.Bool.{Bool, true, false}
+use mathlib.Core.Bool.{Bool, true, false, not}
 use lib.Dec.{eqb, ltb}
 use native.Mathlib.Omega.{arith}
 use native.Mathlib.Nat.{add-zero}
 use mir.Val.{Fits}
 use mir.Syntax.{w64}
-use borrow.Author.Tests.{eq-eqb, ne-eqb, le-leb, lt-leb, lt-ltb, le-ltb, eqb-true, leb-true}
+use borrow.Author.Tests.{eq-eqb, ne-eqb, le-leb, lt-leb, lt-ltb, le-ltb, eqb-true, eqb-false, leb-true}
 use Rattle.basics.specs.Choice.{pick, cases, both, either, Passed}
 use Rattle.basics.proofs.Bools.{both-l, both-r, both-i, both-false-l, both-false-r}
 use Rattle.basics.proofs.Passes.{passed-fail, passed-all}
@@ -17,12 +17,12 @@ use Rattle.sizes.specs.Sizes.{wordsOf, varOffset, moduleWords}
 use Rattle.sizes.proofs.Judging.{var-none, var-more}
 use Rattle.machine.specs.Memory.{Memory}
 use Rattle.machine.specs.Layout.{location, linkAt, statusAt, moduleAt, statementAt, frameAt, topAt, worksAt, holderAt, depthAt, createdAt, failureAt, callerFrame, callStatement, callerWorks, calledBlock}
-use Rattle.machine.specs.Entries.{Statement, statementOf, stmtAt}
+use Rattle.machine.specs.Entries.{waits, Statement, statementOf, stmtAt}
 use Rattle.machine.specs.Variables.{varWords, firstWords, frameWords, isModule, isProcedure}
 use Rattle.machine.specs.Step.{inRange}
-use Rattle.machine.specs.Rule.{nextFirst, liesIn, calls, isCreated, modulesHold, framesHold, frameOk, chain, moduleOk, startedOk, processOk, failureOk, rule}
+use Rattle.machine.specs.Rule.{nextFirst, liesIn, calls, mayWait, isCreated, worked, holdsOn, worksBy, modulesHold, framesHold, frameOk, chain, moduleOk, startedOk, processOk, failureOk, rule}
 use Rattle.rules.specs.Walks.{Words}
-use Rattle.rules.specs.Chains.{Sum, Summed, createdOf, frameFits, calledOk, callOk, baseOk, Left, runningOk, failureHolds, processRow, processesHold}
+use Rattle.rules.specs.Chains.{Sum, Summed, startedOf, frameFits, calledOk, callMade, callOk, baseOk, Left, runningOk, failureHolds, processRow, processesHold}
 use Rattle.rules.proofs.Parts.{first-none, first-more}
 
 -- two tests that hold together are one
@@ -53,39 +53,99 @@ pub lies-after : (T : Table) (b c k n : ℕ) → k ≡ firstStmt T b → k ≤ c
 unfolding liesIn both
 lies-after T b c k n e l h = rw (← e, le-leb k c l, ← h)
 
--- a statement that is no call
-module _ (q : ℕ) where
-  no-pick : (b : Bool) (x y : Statement) → calls q x ≡ false → calls q y ≡ false → calls q (pick b x y) ≡ false
-  no-pick true x y h g = h
-  no-pick false x y h g = g
+-- a statement that is no call, or no when or cycle
+no-pick : (g : Statement → Bool) (b : Bool) (x y : Statement) → g x ≡ false → g y ≡ false → g (pick b x y) ≡ false
+no-pick g true x y h k = h
+no-pick g false x y h k = k
 
-  no-call : (k a b c d l : ℕ) → (k ≡ 2 → ⊥) → (k ≡ 3 → ⊥) → calls q (statementOf k a b c d l) ≡ false
-  unfolding statementOf calls
-  no-call k a b c d l h g =
-      rw (ne-eqb k 2 h, ne-eqb k 3 g)
-      (no-pick (eqb k 0) _ _ refl (no-pick (eqb k 1) _ _ refl (no-pick (eqb k 4) _ _ refl (no-pick (eqb k 5) _ _ refl
-      (no-pick (eqb k 6) _ _ refl (no-pick (eqb k 7) _ _ refl (no-pick (eqb k 8) _ _ refl (no-pick (eqb k 9) _ _ refl
-      (no-pick (eqb k 10) _ _ refl (no-pick (eqb k 11) _ _ refl (no-pick (eqb k 12) _ _ refl (no-pick (eqb k 13) _ _ refl refl))))))))))))
+no-call : (q k a b c d l : ℕ) → (k ≡ 2 → ⊥) → (k ≡ 3 → ⊥) → calls q (statementOf k a b c d l) ≡ false
+unfolding statementOf calls
+no-call q k a b c d l h g =
+    rw (ne-eqb k 2 h, ne-eqb k 3 g)
+    (no-pick (calls q) (eqb k 0) _ _ refl (no-pick (calls q) (eqb k 1) _ _ refl (no-pick (calls q) (eqb k 4) _ _ refl
+    (no-pick (calls q) (eqb k 5) _ _ refl (no-pick (calls q) (eqb k 6) _ _ refl (no-pick (calls q) (eqb k 7) _ _ refl
+    (no-pick (calls q) (eqb k 8) _ _ refl (no-pick (calls q) (eqb k 9) _ _ refl (no-pick (calls q) (eqb k 10) _ _ refl
+    (no-pick (calls q) (eqb k 11) _ _ refl (no-pick (calls q) (eqb k 12) _ _ refl (no-pick (calls q) (eqb k 13) _ _ refl refl))))))))))))
 
-module _ (T : Table) (q c n : ℕ) (e : n ≡ stmtCount T) where
-  pub calls-beyond : n ≤ c → false ≡ calls q (stmtAt T c)
-  unfolding stmtAt calls
-  calls-beyond l = rw (← e, le-ltb c n l)
+no-wait : (k a b c d l : ℕ) → (k ≡ 8 → ⊥) → (k ≡ 9 → ⊥) → mayWait (statementOf k a b c d l) ≡ false
+unfolding statementOf mayWait waits
+no-wait k a b c d l h g =
+    rw (ne-eqb k 8 h, ne-eqb k 9 g)
+    (no-pick mayWait (eqb k 0) _ _ refl (no-pick mayWait (eqb k 1) _ _ refl (no-pick mayWait (eqb k 2) _ _ refl
+    (no-pick mayWait (eqb k 3) _ _ refl (no-pick mayWait (eqb k 4) _ _ refl (no-pick mayWait (eqb k 5) _ _ refl
+    (no-pick mayWait (eqb k 6) _ _ refl (no-pick mayWait (eqb k 7) _ _ refl (no-pick mayWait (eqb k 10) _ _ refl
+    (no-pick mayWait (eqb k 11) _ _ refl (no-pick mayWait (eqb k 12) _ _ refl (no-pick mayWait (eqb k 13) _ _ refl refl))))))))))))
+
+module _ (T : Table) (c n : ℕ) (e : n ≡ stmtCount T) where
+  pub wait-beyond : n ≤ c → false ≡ mayWait (stmtAt T c)
+  unfolding stmtAt mayWait
+  wait-beyond l = rw (← e, le-ltb c n l)
 
   module _ (l : c < n) (k : ℕ) (hk : k ≡ stmtKind T c) where
-    pub calls-local : (a : ℕ) → k ≡ 2 → a ≡ stmtA T c → eqb a q ≡ calls q (stmtAt T c)
-    unfolding stmtAt statementOf calls
-    calls-local a h g = rw (← e, lt-ltb c n l, ← hk, h, ← g)
+    pub wait-when : k ≡ 8 → true ≡ mayWait (stmtAt T c)
+    unfolding stmtAt statementOf mayWait waits
+    wait-when h = rw (← e, lt-ltb c n l, ← hk, h)
 
-    pub calls-process : (b : ℕ) → k ≡ 3 → b ≡ stmtB T c → eqb b q ≡ calls q (stmtAt T c)
-    unfolding stmtAt statementOf calls
-    calls-process b h g = rw (← e, lt-ltb c n l, ← hk, h, ← g)
+    wait-at : k ≡ 9 → true ≡ mayWait (stmtAt T c)
+    unfolding stmtAt statementOf mayWait waits
+    wait-at h = rw (← e, lt-ltb c n l, ← hk, h)
 
-    pub calls-none : (k ≡ 2 → ⊥) → (k ≡ 3 → ⊥) → false ≡ calls q (stmtAt T c)
+    wait-none : (k ≡ 8 → ⊥) → (k ≡ 9 → ⊥) → false ≡ mayWait (stmtAt T c)
     unfolding stmtAt
-    calls-none h g = rw (← e, lt-ltb c n l, ← hk) (sym (no-call q k (stmtA T c) (stmtB T c) (stmtC T c) (stmtD T c) (stmtLink T c) h g))
+    wait-none h g = rw (← e, lt-ltb c n l, ← hk) (sym (no-wait k (stmtA T c) (stmtB T c) (stmtC T c) (stmtD T c) (stmtLink T c) h g))
 
-pub ruleset calling = (calls-beyond, calls-local, calls-process, calls-none)
+    pub wait-cycle : (k ≡ 8 → ⊥) → eqb k 9 ≡ mayWait (stmtAt T c)
+    wait-cycle h = cases (eqb k 9) (λ g. g ∙ wait-at (eqb-true k 9 g)) (λ g. g ∙ wait-none h (eqb-false k 9 g))
+
+pub ruleset waiting = (wait-beyond, wait-when, wait-cycle)
+
+-- who holds what a process works on
+module _ (T : Table) (m : Memory) (p w h : ℕ) (hh : h ≡ m (holderAt w)) where
+  pub held-by : h ≡ p → true ≡ holdsOn T m p w
+  unfolding holdsOn either
+  held-by e = rw (← hh, eq-eqb h p e)
+
+  module _ (e : h ≡ p → ⊥) (v : ℕ) (hv : v ≡ m (worksAt p)) where
+    pub held-waits : (i : ℕ) (r : Bool) → w ≡ v → i ≡ m (statementAt p) → r ≡ mayWait (stmtAt T i) → r ≡ holdsOn T m p w
+    unfolding holdsOn either both
+    held-waits i r g hi z = rw (← hh, ne-eqb h p e, ← hv, eq-eqb w v g, ← hi) z
+
+    pub held-not : (w ≡ v → ⊥) → false ≡ holdsOn T m p w
+    unfolding holdsOn either both
+    held-not g = rw (← hh, ne-eqb h p e, ← hv, ne-eqb w v g)
+
+pub ruleset holding = (held-by, held-waits, held-not)
+
+-- the statement that made a call
+module _ (T : Table) (m : Memory) (p d f w q c n : ℕ) (e : n ≡ stmtCount T) where
+  pub made-beyond : n ≤ c → false ≡ callMade T m p d f w q c
+  unfolding callMade stmtAt calls both
+  made-beyond l = rw (← e, le-ltb c n l)
+
+  module _ (l : c < n) (k : ℕ) (hk : k ≡ stmtKind T c) where
+    module _ (h : k ≡ 2) (a : ℕ) (ha : a ≡ stmtA T c) where
+      pub local-other : (a ≡ q → ⊥) → false ≡ callMade T m p d f w q c
+      unfolding callMade stmtAt statementOf calls both
+      local-other g = rw (← e, lt-ltb c n l, ← hk, h, ← ha, ne-eqb a q g)
+
+      pub local-made : (v : ℕ) → a ≡ q → v ≡ m (location p (f + 2)) → eqb v w ≡ callMade T m p d f w q c
+      unfolding callMade stmtAt statementOf calls worksBy linkAt both
+      local-made v g hv = rw (← e, lt-ltb c n l, ← hk, h, ← ha, eq-eqb a q g, ← hv)
+
+    module _ (h : k ≡ 3) (b : ℕ) (hb : b ≡ stmtB T c) where
+      pub process-other : (b ≡ q → ⊥) → false ≡ callMade T m p d f w q c
+      unfolding callMade stmtAt statementOf calls both
+      process-other g = rw (← e, lt-ltb c n l, ← hk, h, ← hb, ne-eqb b q g)
+
+      pub process-made : (g v : ℕ) (r : Bool) → b ≡ q → v ≡ m (location p (f + 2)) → g ≡ m (location p f) → r ≡ worked T m p d g v w → not r ≡ callMade T m p d f w q c
+      unfolding callMade stmtAt statementOf calls worksBy linkAt both
+      process-made g v r x hv hg z = rw (← e, lt-ltb c n l, ← hk, h, ← hb, eq-eqb b q x, add-zero f, ← hg, ← hv, ← z)
+
+    pub made-none : (k ≡ 2 → ⊥) → (k ≡ 3 → ⊥) → false ≡ callMade T m p d f w q c
+    unfolding callMade stmtAt
+    made-none h g = rw (← e, lt-ltb c n l, ← hk) (sym (both-false-l _ _ (no-call q k (stmtA T c) (stmtB T c) (stmtC T c) (stmtD T c) (stmtLink T c) h g)))
+
+pub ruleset making = (made-beyond, local-other, local-made, process-other, process-made, made-none)
 
 -- ---- the words of a block's variables
 
@@ -130,27 +190,32 @@ pub ruleset sums = (frame-none, frame-more, frame-all, module-none, module-more,
 -- ---- frames
 
 module _ (m : Memory) (b w : ℕ) where
-  pub of-low : w < 1 → false ≡ createdOf m b w
-  unfolding createdOf inRange both
+  pub of-low : w < 1 → false ≡ startedOf m b w
+  unfolding startedOf inRange both
   of-low h = rw (lt-leb 1 w h)
 
   module _ (c : ℕ) (e : c ≡ m createdAt) (l : 1 ≤ w) where
-    pub of-high : c < w → false ≡ createdOf m b w
-    unfolding createdOf inRange both
+    pub of-high : c < w → false ≡ startedOf m b w
+    unfolding startedOf inRange both
     of-high h = rw (le-leb 1 w l, ← e, lt-leb w c h)
 
-    pub of-block : (k : ℕ) → w ≤ c → k ≡ m (moduleAt w) → eqb b k ≡ createdOf m b w
-    unfolding createdOf inRange both
-    of-block k h g = rw (le-leb 1 w l, ← e, le-leb w c h, ← g)
+    module _ (h : w ≤ c) (s : ℕ) (hs : s ≡ m (statusAt w)) where
+      pub of-fresh : s ≡ 1 → false ≡ startedOf m b w
+      unfolding startedOf inRange both
+      of-fresh g = rw (le-leb 1 w l, ← e, le-leb w c h, ← hs, eq-eqb s 1 g)
 
-pub ruleset members = (of-low, of-high, of-block)
+      pub of-block : (k : ℕ) → (s ≡ 1 → ⊥) → k ≡ m (moduleAt w) → eqb b k ≡ startedOf m b w
+      unfolding startedOf inRange both
+      of-block k g z = rw (le-leb 1 w l, ← e, le-leb w c h, ← hs, ne-eqb s 1 g, ← z)
+
+pub ruleset members = (of-low, of-high, of-fresh, of-block)
 
 module _ (T : Table) (m : Memory) (w q : ℕ) (x : Bool) (h : x ≡ isProcedure T q) where
   pub called-none : x ≡ false → false ≡ calledOk T m w q
   unfolding calledOk both
   called-none e = rw (← h, e)
 
-  pub called-some : (b : ℕ) (r : Bool) → x ≡ true → b ≡ owner T q → r ≡ createdOf m b w → r ≡ calledOk T m w q
+  pub called-some : (b : ℕ) (r : Bool) → x ≡ true → b ≡ owner T q → r ≡ startedOf m b w → r ≡ calledOk T m w q
   unfolding calledOk both
   called-some b r e g z = rw (← h, e, ← g) z
 
@@ -170,7 +235,7 @@ module _ (T : Table) (f top q : ℕ) where
 module _ (T : Table) (m : Memory) (f w c top q : ℕ) where
   -- the tests of a frame in the order of the code
   frame-tests : both (calledOk T m w q) (both (liesIn T q c) (frameFits T f top q)) ≡ frameOk T m f w c top q
-  unfolding calledOk createdOf frameFits frameOk isCreated
+  unfolding calledOk startedOf frameFits frameOk isCreated
   frame-tests =
       same-test _ _
       (λ e. let a = both-l _ _ e in let b = both-l _ _ (both-r _ _ e) in let d = both-r _ _ (both-r _ _ e) in
@@ -208,32 +273,50 @@ module _ (T : Table) (m : Memory) (p d f w c top q : ℕ) (hq : q ≡ m (locatio
   unfolding callOk both linkAt
   call-frame e = rw (← hq, ← h, e)
 
-  module _ (e : x ≡ true) (k : ℕ) (y : Bool) (hk : k ≡ m (location p (f + 1))) (g : y ≡ calls q (stmtAt T k)) where
-    pub call-other : y ≡ false → false ≡ callOk T m p d f w c top
-    unfolding callOk both linkAt
-    call-other z = rw (← hq, ← h, e, ← hk, ← g, z)
+  -- what it works on is a process
+  pub call-works : x ≡ true → 1 ≤ w
+  unfolding frameOk isCreated inRange
+  call-works e = leb-true 1 w (both-l _ _ (both-l _ _ (both-l _ _ (both-r _ _ (sym h ∙ e)))))
 
-    pub call-holds : (r : Bool) → y ≡ true → r ≡ framesHold T m p d f q → r ≡ callOk T m p d f w c top
+  module _ (e : x ≡ true) (z : Bool) (hz : z ≡ holdsOn T m p w) where
+    pub call-free : z ≡ false → false ≡ callOk T m p d f w c top
     unfolding callOk both linkAt
-    call-holds r z v = rw (← hq, ← h, e, ← hk, ← g, z) v
+    call-free u = rw (← hq, ← h, e, ← hz, u)
 
-pub ruleset onecall = (call-frame, call-other, call-holds)
+    module _ (u : z ≡ true) (k : ℕ) (y : Bool) (hk : k ≡ m (location p (f + 1))) (g : y ≡ callMade T m p d f w q k) where
+      pub call-other : y ≡ false → false ≡ callOk T m p d f w c top
+      unfolding callOk both linkAt
+      call-other v = rw (← hq, ← h, e, ← hz, u, ← hk, ← g, v)
+
+      pub call-holds : (r : Bool) → y ≡ true → r ≡ framesHold T m p d f q → r ≡ callOk T m p d f w c top
+      unfolding callOk both linkAt
+      call-holds r v s = rw (← hq, ← h, e, ← hz, u, ← hk, ← g, v) s
+
+pub ruleset onecall = (call-frame, call-free, call-other, call-holds)
 
 module _ (T : Table) (m : Memory) (p f w c top b : ℕ) (hb : b ≡ m (moduleAt p)) (x : Bool) (h : x ≡ both (eqb f 0) (eqb w p)) where
   pub base-calls : x ≡ false → false ≡ baseOk T m p f w c top
   unfolding baseOk
   base-calls e = sym (both-false-l _ _ (sym h ∙ e))
 
-  module _ (e : x ≡ true) (y : Bool) (g : y ≡ liesIn T b c) where
-    pub base-outside : y ≡ false → false ≡ baseOk T m p f w c top
-    unfolding baseOk
-    base-outside z = rw (← hb) (sym (both-false-r _ _ (both-false-l _ _ (sym g ∙ z))))
+  module _ (e : x ≡ true) (z : Bool) (hz : z ≡ holdsOn T m p p) where
+    base-held : z ≡ holdsOn T m p w
+    base-held = let u = eqb-true w p (both-r _ _ (sym h ∙ e)) in rw u hz
 
-    pub base-top : (k : ℕ) → y ≡ true → k ≡ moduleWords T b → eqb top k ≡ baseOk T m p f w c top
+    pub base-free : z ≡ false → false ≡ baseOk T m p f w c top
     unfolding baseOk
-    base-top k z v = rw (← hb, ← v) (sym (both-go _ _ (sym h ∙ e) ∙ both-go _ _ (sym g ∙ z)))
+    base-free v = sym (both-false-r _ _ (both-false-l _ _ (sym base-held ∙ v)))
 
-pub ruleset below = (base-calls, base-outside, base-top)
+    module _ (u : z ≡ true) (y : Bool) (g : y ≡ liesIn T b c) where
+      pub base-outside : y ≡ false → false ≡ baseOk T m p f w c top
+      unfolding baseOk
+      base-outside v = rw (← hb) (sym (both-false-r _ _ (both-false-r _ _ (both-false-l _ _ (sym g ∙ v)))))
+
+      pub base-top : (k : ℕ) → y ≡ true → k ≡ moduleWords T b → eqb top k ≡ baseOk T m p f w c top
+      unfolding baseOk
+      base-top k v s = rw (← hb, ← s) (sym (both-go _ _ (sym h ∙ e) ∙ both-go _ _ (sym base-held ∙ u) ∙ both-go _ _ (sym g ∙ v)))
+
+pub ruleset below = (base-calls, base-free, base-outside, base-top)
 
 -- ---- the chain
 
@@ -242,20 +325,20 @@ module _ (T : Table) (m : Memory) (p : ℕ) where
   unfolding chain baseOk
   chain-base f w c top =
       same-test _ _
-      (λ e. let e1 = both-r _ _ e in let e2 = both-r _ _ e1 in
-      both-i _ _ (both-i _ _ (both-l _ _ e) (both-l _ _ e1)) (both-i _ _ (both-r _ _ e2) (both-l _ _ e2)))
-      (λ e. let a = both-l _ _ e in let b = both-r _ _ e in
-      both-i _ _ (both-l _ _ a) (both-i _ _ (both-r _ _ a) (both-i _ _ (both-r _ _ b) (both-l _ _ b))))
+      (λ e. let e1 = both-r _ _ e in let h = both-l _ _ e1 in let e2 = both-r _ _ e1 in
+      both-i _ _ (both-i _ _ (both-l _ _ e) (both-l _ _ h)) (both-i _ _ (both-r _ _ h) (both-i _ _ (both-r _ _ e2) (both-l _ _ e2))))
+      (λ e. let a = both-l _ _ e in let b = both-r _ _ e in let d = both-r _ _ b in
+      both-i _ _ (both-l _ _ a) (both-i _ _ (both-i _ _ (both-r _ _ a) (both-l _ _ b)) (both-i _ _ (both-r _ _ d) (both-l _ _ d))))
 
   chain-call : (d f w c top : ℕ)
       → chain T m p (suc d) f w c top ≡ both (callOk T m p d f w c top) (chain T m p d (callerFrame m p f) (callerWorks m p f) (callStatement m p f) f)
-  unfolding chain callOk
+  unfolding chain callOk callMade
   chain-call d f w c top =
       same-test _ _
-      (λ e. let e1 = both-r _ _ e in let e2 = both-r _ _ e1 in
-      both-i _ _ (both-i _ _ (both-l _ _ e) (both-i _ _ (both-l _ _ e2) (both-l _ _ e1))) (both-r _ _ e2))
-      (λ e. let a = both-l _ _ e in
-      both-i _ _ (both-l _ _ a) (both-i _ _ (both-r _ _ (both-r _ _ a)) (both-i _ _ (both-l _ _ (both-r _ _ a)) (both-r _ _ e))))
+      (λ e. let e1 = both-r _ _ e in let e2 = both-r _ _ e1 in let e3 = both-r _ _ e2 in
+      both-i _ _ (both-i _ _ (both-l _ _ e) (both-i _ _ (both-l _ _ e3) (both-i _ _ (both-l _ _ e2) (both-l _ _ e1)))) (both-r _ _ e3))
+      (λ e. let a = both-l _ _ e in let a1 = both-r _ _ a in let a2 = both-r _ _ a1 in
+      both-i _ _ (both-l _ _ a) (both-i _ _ (both-r _ _ a2) (both-i _ _ (both-l _ _ a2) (both-i _ _ (both-l _ _ a1) (both-r _ _ e)))))
 
   -- each frame has four words, and begins where the one below it ends
   call-top : (d f w c top : ℕ) → callOk T m p d f w c top ≡ true → (f + 4 ≤ top) × (top ≤ 256)

@@ -3,6 +3,7 @@ use Prim.Native.Nat.{ℕ, suc, _+_, _-_, _/_, _%_, _≤_, _<_}
 use mathlib.Core.Path.{_≡_, refl, sym, _∙_}
 use mathlib.Core.Bool.{Bool, true, false}
 use mathlib.Core.List.{List}
+use lib.Dec.{eqb}
 use native.Mathlib.Omega.{arith}
 use native.Mathlib.Nat.{add-zero}
 use borrow.Author.Tests.{eq-eqb, ne-eqb, le-leb, lt-leb}
@@ -12,11 +13,10 @@ use Rattle.table.specs.Table.{Table}
 use Rattle.table.specs.Entries.{varMode, varType, firstVar, vars}
 use Rattle.sizes.proofs.Judging.{any-small}
 use Rattle.machine.specs.Memory.{Memory}
-use Rattle.machine.specs.Layout.{location, linkAt, moduleAt, createdAt}
+use Rattle.machine.specs.Layout.{location, linkAt, moduleAt}
 use Rattle.machine.specs.Variables.{varWords, firstWords}
 use Rattle.machine.specs.Values.{holds, partOfBlock}
-use Rattle.machine.specs.Step.{inRange}
-use Rattle.machine.specs.Rule.{isCreated, owns, lives, moduleHolds, modulesHold, frameHolds, framesHold}
+use Rattle.machine.specs.Rule.{owns, worked, lives, moduleHolds, modulesHold, frameHolds, framesHold}
 use Rattle.rules.specs.Walks.{Ready, Near, Words, Walked}
 use Rattle.rules.specs.Heads.{Head}
 use Rattle.rules.specs.Frames.{variableHolds, moduleRow, livesInModule, ownedIn, frameVariable, frameRow}
@@ -112,26 +112,44 @@ pub ruleset framewalks = (frames-none, frames-more, frames-fail, frames-all)
 
 -- ---- live variables
 
-module _ (T : Table) (m : Memory) (τ a : ℕ) where
-  module _ (c : Bool) (h : c ≡ inRange 1 (m createdAt) (a / 256 + 1)) where
-    pub in-none : c ≡ false → false ≡ livesInModule T m τ a
-    unfolding livesInModule both isCreated
+-- the search for what a process worked on goes from frame to frame
+module _ (T : Table) (m : Memory) (p r d f w n g v : ℕ) (h : worked T m p n g v r ≡ worked T m p d f w r) where
+  module _ (l : 0 < n) where
+    fewer : n ≡ suc (n - 1)
+    fewer = omega arith
+
+    pub worked-found : v ≡ r → true ≡ worked T m p d f w r
+    unfolding worked either
+    worked-found x = (rw (fewer, eq-eqb v r x) at h)
+
+    pub worked-next : (g' v' : ℕ) → (v ≡ r → ⊥) → v' ≡ m (location p (g + 2)) → g' ≡ m (location p g) → worked T m p (n - 1) g' v' r ≡ worked T m p d f w r
+    unfolding worked either linkAt
+    worked-next g' v' x hv hg = rw (hv, hg) (rw (fewer, ne-eqb v r x, add-zero g) at h)
+
+  pub worked-last : n ≤ 0 → eqb v r ≡ worked T m p d f w r
+  unfolding worked
+  worked-last l = let e : n ≡ 0 = omega arith in (rw e at h)
+
+module _ (T : Table) (m : Memory) (p d f w τ a : ℕ) where
+  module _ (c : Bool) (h : c ≡ worked T m p d f w (a / 256 + 1)) where
+    pub in-none : c ≡ false → false ≡ livesInModule T m p d f w τ a
+    unfolding livesInModule both
     in-none e = rw (← h, e)
 
-    pub in-some : (b : ℕ) (r : Bool) → c ≡ true → b ≡ m (moduleAt (a / 256 + 1)) → r ≡ partOfBlock T b τ (a % 256) → r ≡ livesInModule T m τ a
-    unfolding livesInModule both isCreated
+    pub in-some : (b : ℕ) (r : Bool) → c ≡ true → b ≡ m (moduleAt (a / 256 + 1)) → r ≡ partOfBlock T b τ (a % 256) → r ≡ livesInModule T m p d f w τ a
+    unfolding livesInModule both
     in-some b r e g z = rw (← h, e, ← g) z
 
-  module _ (p d f : ℕ) (c : Bool) (h : c ≡ livesInModule T m τ a) where
-    pub lives-module : c ≡ true → true ≡ lives T m p d f τ a
+  module _ (c : Bool) (h : c ≡ livesInModule T m p d f w τ a) where
+    pub lives-module : c ≡ true → true ≡ lives T m p d f w τ a
     unfolding lives either livesInModule
     lives-module e = rw (← h, e)
 
-    pub lives-frame : (r : Bool) → c ≡ false → a / 256 + 1 ≡ p → r ≡ owns T m p d f τ (a % 256) → r ≡ lives T m p d f τ a
+    pub lives-frame : (r : Bool) → c ≡ false → a / 256 + 1 ≡ p → r ≡ owns T m p d f τ (a % 256) → r ≡ lives T m p d f w τ a
     unfolding lives either livesInModule both
     lives-frame r e g z = rw (← h, e, eq-eqb (a / 256 + 1) p g) z
 
-    pub lives-none : c ≡ false → (a / 256 + 1 ≡ p → ⊥) → false ≡ lives T m p d f τ a
+    pub lives-none : c ≡ false → (a / 256 + 1 ≡ p → ⊥) → false ≡ lives T m p d f w τ a
     unfolding lives either livesInModule both
     lives-none e g = rw (← h, e, ne-eqb (a / 256 + 1) p g)
 
@@ -170,9 +188,9 @@ module _ (T : Table) (m : Memory) (p τ k : ℕ) where
 pub ruleset owning = (owns-begin, owns-found, owns-next, owns-none)
 
 module _ (T : Table) (m : Memory) (p d f v a mode : ℕ) (hm : mode ≡ varMode T v) (r : Bool) where
-  pub frame-bound : (x y g : ℕ) → mode ≡ 2 → x ≡ varType T v → y ≡ m (location p (f + 4 + a)) → g ≡ m (location p f) → r ≡ lives T m p d g x y → r ≡ frameVariable T m p d f v a
+  pub frame-bound : (x y g w : ℕ) → mode ≡ 2 → x ≡ varType T v → y ≡ m (location p (f + 4 + a)) → g ≡ m (location p f) → w ≡ m (location p (f + 2)) → r ≡ lives T m p d g w x y → r ≡ frameVariable T m p d f v a
   unfolding frameVariable linkAt
-  frame-bound x y g e hx hy hg h = rw (← hm, eq-eqb mode 2 e, ← hx, ← hy, add-zero f, ← hg) h
+  frame-bound x y g w e hx hy hg hw h = rw (← hm, eq-eqb mode 2 e, ← hx, ← hy, add-zero f, ← hg, ← hw) h
 
   pub frame-value : (mode ≡ 2 → ⊥) → r ≡ variableHolds T m p v (f + 4 + a) → r ≡ frameVariable T m p d f v a
   unfolding frameVariable

@@ -17,7 +17,6 @@ use Rattle.machine.specs.Memory.{Memory, memoryOf}
 use Rattle.machine.specs.Layout.{createdAt, moduleAt}
 use Rattle.machine.specs.Lent.{Lent}
 use Rattle.machine.specs.Processes.{refers}
-use Rattle.machine.specs.Step.{inRange}
 use Rattle.rules.specs.Walks.{Ready, Words, referenceHolds}
 
 -- beyond the last word all is 0
@@ -64,6 +63,3 @@ quotient-none k w e = rw e (sym (div-zero k))
 
 pub remainder-none : (k w : ℕ) → w ≡ 0 → k ≡ k % w
 remainder-none k w e = rw e (sym (mod-zero k))
-
-pub range-local : (x c p : ℕ) (r : Bool) → c ≡ x → r ≡ inRange 1 c p → r ≡ inRange 1 x p
-range-local x c p r e h = rw (← e) h

@@ -1,7 +1,7 @@
 -- The calls of a process and the processes of a state, as the passes of the state rule test them. Assumes nothing.
 use Prim.Native.Nat.{ℕ, _+_, _*_, _≤_}
 use mathlib.Core.Path.{_≡_}
-use mathlib.Core.Bool.{Bool, true}
+use mathlib.Core.Bool.{Bool, true, not}
 use lib.Dec.{eqb, leb}
 use Rattle.basics.specs.Choice.{pick, both, allBelow}
 use Rattle.table.specs.Table.{Table}
@@ -12,7 +12,7 @@ use Rattle.machine.specs.Layout.{moduleAt, statusAt, createdAt, failureAt, call
 use Rattle.machine.specs.Entries.{stmtAt}
 use Rattle.machine.specs.Variables.{frameWords, isProcedure}
 use Rattle.machine.specs.Step.{inRange}
-use Rattle.machine.specs.Rule.{liesIn, calls, framesHold, frameOk, chain, startedOk, processOk}
+use Rattle.machine.specs.Rule.{liesIn, calls, holdsOn, worksBy, framesHold, frameOk, chain, startedOk, processOk}
 
 -- r is v, the words of the variables of a block
 pub record Sum (v r : ℕ) : Type 0 where
@@ -24,9 +24,9 @@ pub record Summed (begin : ℕ → ℕ) (i k : ℕ) : Type 0 where
   pub is : k ≡ begin i
   pub small : k ≤ i * 200
 
--- w is a created process of block b
-unfoldable pub createdOf : Memory → ℕ → ℕ → Bool
-createdOf m b w = both (inRange 1 (m createdAt) w) (eqb b (m (moduleAt w)))
+-- w is a process of block b that has been started
+unfoldable pub startedOf : Memory → ℕ → ℕ → Bool
+startedOf m b w = both (both (inRange 1 (m createdAt) w) (not (eqb (m (statusAt w)) 1))) (eqb b (m (moduleAt w)))
 
 -- the frame of procedure q at f ends at top, within the area
 unfoldable pub frameFits : Table → ℕ → ℕ → ℕ → Bool
@@ -37,23 +37,29 @@ unfoldable pub failureHolds : Memory → Bool
 failureHolds m = pick (eqb (m failureAt) 0) true (inRange 16 24 (m failureAt))
 
 module _ (T : Table) (m : Memory) where
-  -- q is a procedure of the block of process w
+  -- q is a procedure of the block of process w, which has been started
   unfoldable pub calledOk : ℕ → ℕ → Bool
-  calledOk w q = both (isProcedure T q) (createdOf m (owner T q) w)
+  calledOk w q = both (isProcedure T q) (startedOf m (owner T q) w)
+
+  -- statement i calls procedure q and makes process p work on w
+  unfoldable pub callMade : ℕ → ℕ → ℕ → ℕ → ℕ → ℕ → Bool
+  callMade p d f w q i = both (calls q (stmtAt T i)) (worksBy T m p d f w (stmtAt T i))
 
   -- one call of a chain, the frame at f, d calls below it
   unfoldable pub callOk : ℕ → ℕ → ℕ → ℕ → ℕ → ℕ → Bool
   callOk p d f w c top =
       both (frameOk T m f w c top (calledBlock m p f))
-      (both (calls (calledBlock m p f) (stmtAt T (callStatement m p f)))
-      (framesHold T m p d f (calledBlock m p f)))
+      (both (holdsOn T m p w)
+      (both (callMade p d f w (calledBlock m p f) (callStatement m p f))
+      (framesHold T m p d f (calledBlock m p f))))
 
   -- what stands below the calls
   unfoldable pub baseOk : ℕ → ℕ → ℕ → ℕ → ℕ → Bool
   baseOk p f w c top =
       both (both (eqb f 0) (eqb w p))
+      (both (holdsOn T m p w)
       (both (liesIn T (m (moduleAt p)) c)
-      (eqb top (moduleWords T (m (moduleAt p)))))
+      (eqb top (moduleWords T (m (moduleAt p))))))
 
   -- the n calls that are left to test, the innermost of them with its frame at f: they hold where all hold
   pub record Left (p n f w c top : ℕ) : Type 0 where

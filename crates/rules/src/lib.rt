@@ -17,11 +17,11 @@ ghost use Rattle.machine.specs.Entries.{stmtAt};
 ghost use Rattle.machine.specs.Variables.{varWords, frameWords, isModule, isProcedure};
 ghost use Rattle.machine.specs.Step.{inRange};
 ghost use Rattle.machine.specs.Values.{holds, part, partOfBlock};
-ghost use Rattle.machine.specs.Rule.{nextFirst, liesIn, calls, owns, lives, modulesHold, framesHold, frameOk, startedOk, moduleOk, processOk, rule};
+ghost use Rattle.machine.specs.Rule.{nextFirst, liesIn, mayWait, owns, worked, lives, holdsOn, modulesHold, framesHold, frameOk, startedOk, moduleOk, processOk, rule};
 ghost use Rattle.rules.specs.Heads.{Heads, Tested, wordsHold, wordUpTo, wordRefers};
 ghost use Rattle.rules.specs.Jumps.{Jumps, Ends};
 ghost use Rattle.rules.specs.Frames.{variableHolds, livesInModule, ownedIn, frameVariable};
-ghost use Rattle.rules.specs.Chains.{Sum, createdOf, frameFits, calledOk, callOk, baseOk, runningOk, failureHolds, processesHold};
+ghost use Rattle.rules.specs.Chains.{Sum, startedOf, frameFits, calledOk, callMade, callOk, baseOk, runningOk, failureHolds, processesHold};
 ghost use Rattle.rules.specs.Walks.{Ready, Near, Words, simpleHolds, referenceHolds, fieldsHold, elementsHold, RecordAt, ArrayAt, fieldBegins, fieldsBegin, elementBegins, variableBegins};
 
 fn wide(x: u16) -> usize
@@ -543,30 +543,55 @@ fn modules_hold(
     true
 }
 
-fn is_created(state: &[u8], p: usize) -> bool
+// Process r is w, or one that process p worked on when it made one of its d calls, the innermost of which has its frame at f.
+fn has_worked(
+    c: &code::Slots,
+    state: &[u8],
+    p: usize,
+    d: usize,
+    f: usize,
+    w: usize,
+    r: usize,
+) -> bool
     requires { ⌜ Lent 17664 (now state) ⌝ }
-    ensures { λ r. ⌜ r ≡ inRange 1 (memoryOf (now (state .entry)) createdAt) p ⌝ }
+    requires { ⌜ (1 ≤ p) × ((p ≤ 64) × (f < 65536)) ⌝ }
+    ensures { λ x. ⌜ x ≡ worked (decoded (now (c .entry))) (memoryOf (now (state .entry))) p d f w r ⌝ }
 {
-    in_range(1, created(state), p)
+    let mut n = d;
+    let mut g = f;
+    let mut v = w;
+    while 0 < n {
+        if v == r {
+            return true;
+        }
+        v = area_word(state, p, g + 2);
+        g = area_word(state, p, g);
+        n -= 1;
+    }
+    v == r
 }
 
-// At location a, in the area of a created process, stands one of its module's variables of type y, or such a part of one.
+// At location a, in the area of a process that p worked on, stands one of its module's variables of type y, or such a part of one.
 fn lives_in_module(
     c: &code::Slots,
     sizes: &[u16],
     jumps: &[u16],
     state: &[u8],
+    p: usize,
+    d: usize,
+    f: usize,
+    w: usize,
     y: usize,
     a: usize,
 ) -> bool
     requires { ⌜ Ready (decoded (now c)) (now sizes) ⌝ }
     requires { ⌜ Jumps (decoded (now c)) (now jumps) ⌝ }
     requires { ⌜ Lent 17664 (now state) ⌝ }
-    requires { ⌜ a < 65536 ⌝ }
-    ensures { λ r. ⌜ r ≡ livesInModule (decoded (now (c .entry))) (memoryOf (now (state .entry))) y a ⌝ }
+    requires { ⌜ (1 ≤ p) × ((p ≤ 64) × ((f < 65536) × (a < 65536))) ⌝ }
+    ensures { λ r. ⌜ r ≡ livesInModule (decoded (now (c .entry))) (memoryOf (now (state .entry))) p d f w y a ⌝ }
 {
     let r = a / 256 + 1;
-    if is_created(state, r) {
+    if has_worked(c, state, p, d, f, w, r) {
         return part_of_block(c, sizes, jumps, record_word(state, r, 1), y, a % 256);
     }
     false
@@ -634,6 +659,7 @@ fn lives_at(
     p: usize,
     d: usize,
     f: usize,
+    w: usize,
     y: usize,
     a: usize,
 ) -> bool
@@ -641,9 +667,9 @@ fn lives_at(
     requires { ⌜ Jumps (decoded (now c)) (now jumps) ⌝ }
     requires { ⌜ Lent 17664 (now state) ⌝ }
     requires { ⌜ (1 ≤ p) × ((p ≤ 64) × ((f < 65536) × (a < 65536))) ⌝ }
-    ensures { λ r. ⌜ r ≡ lives (decoded (now (c .entry))) (memoryOf (now (state .entry))) p d f y a ⌝ }
+    ensures { λ r. ⌜ r ≡ lives (decoded (now (c .entry))) (memoryOf (now (state .entry))) p d f w y a ⌝ }
 {
-    if lives_in_module(c, sizes, jumps, state, y, a) {
+    if lives_in_module(c, sizes, jumps, state, p, d, f, w, y, a) {
         return true;
     }
     if a / 256 + 1 == p {
@@ -682,6 +708,7 @@ fn frame_variable_holds(
             p,
             d,
             area_word(state, p, f),
+            area_word(state, p, f + 2),
             code::var_type(c, v),
             a,
         );
@@ -763,17 +790,65 @@ fn is_module(c: &code::Slots, b: usize) -> bool
     false
 }
 
-// Statement i calls procedure q: a local call (kind 2), or one of another process (kind 3).
-fn calls_procedure(c: &code::Slots, q: usize, i: usize) -> bool
-    ensures { λ r. ⌜ r ≡ calls q (stmtAt (decoded (now (c .entry))) i) ⌝ }
+// Statement i is a when (kind 8) or a cycle (kind 9).
+fn may_wait(c: &code::Slots, i: usize) -> bool
+    ensures { λ r. ⌜ r ≡ mayWait (stmtAt (decoded (now (c .entry))) i) ⌝ }
 {
     if i < code::statements(c) {
         let kind = code::stmt_kind(c, i);
+        if kind == 8 {
+            return true;
+        }
+        return kind == 9;
+    }
+    false
+}
+
+// Process p holds the variables of process w, or stands at a when or cycle where it works on w.
+fn holds_on(c: &code::Slots, state: &[u8], p: usize, w: usize) -> bool
+    requires { ⌜ Lent 17664 (now state) ⌝ }
+    requires { ⌜ (1 ≤ p) × ((p ≤ 64) × ((1 ≤ w) × (w < 65536))) ⌝ }
+    ensures { λ r. ⌜ r ≡ holdsOn (decoded (now (c .entry))) (memoryOf (now (state .entry))) p w ⌝ }
+{
+    if record_word(state, w, 6) == p {
+        return true;
+    }
+    if w == record_word(state, p, 5) {
+        return may_wait(c, record_word(state, p, 2));
+    }
+    false
+}
+
+// Statement i calls procedure q, with its frame at f and d calls below it, and makes process p work on w: a local call (kind 2) on what it
+// worked on before, one of another process (kind 3) on none of those outside.
+fn call_made(
+    c: &code::Slots,
+    state: &[u8],
+    p: usize,
+    d: usize,
+    f: usize,
+    w: usize,
+    q: usize,
+    i: usize,
+) -> bool
+    requires { ⌜ Lent 17664 (now state) ⌝ }
+    requires { ⌜ (1 ≤ p) × ((p ≤ 64) × (f < 65536)) ⌝ }
+    ensures { λ r. ⌜ r ≡ callMade (decoded (now (c .entry))) (memoryOf (now (state .entry))) p d f w q i ⌝ }
+{
+    if i < code::statements(c) {
+        let kind = code::stmt_kind(c, i);
+        let v = area_word(state, p, f + 2);
         if kind == 2 {
-            return code::stmt_a(c, i) == q;
+            if code::stmt_a(c, i) == q {
+                return v == w;
+            }
+            return false;
         }
         if kind == 3 {
-            return code::stmt_b(c, i) == q;
+            if code::stmt_b(c, i) == q {
+                return !has_worked(c, state, p, d, area_word(state, p, f), v, w);
+            }
+            return false;
         }
         return false;
     }
@@ -813,13 +888,16 @@ fn module_words(c: &code::Slots, sizes: &[u16], b: usize) -> usize
     sum
 }
 
-// w is a created process of block b.
+// w is a process of block b that has been started.
 fn is_of(state: &[u8], b: usize, w: usize) -> bool
     requires { ⌜ Lent 17664 (now state) ⌝ }
-    ensures { λ r. ⌜ r ≡ createdOf (memoryOf (now (state .entry))) b w ⌝ }
+    ensures { λ r. ⌜ r ≡ startedOf (memoryOf (now (state .entry))) b w ⌝ }
 {
     if 1 <= w {
         if w <= created(state) {
+            if record_word(state, w, 0) == 1 {
+                return false;
+            }
             return b == record_word(state, w, 1);
         }
         return false;
@@ -827,7 +905,7 @@ fn is_of(state: &[u8], b: usize, w: usize) -> bool
     false
 }
 
-// q is a procedure of the block of the process w.
+// q is a procedure of the block of the process w, which has been started.
 fn called_ok(c: &code::Slots, state: &[u8], w: usize, q: usize) -> bool
     requires { ⌜ Lent 17664 (now state) ⌝ }
     ensures { λ r. ⌜ r ≡ calledOk (decoded (now (c .entry))) (memoryOf (now (state .entry))) w q ⌝ }
@@ -878,7 +956,8 @@ fn frame_ok(
     false
 }
 
-// The call with its frame at f, d calls below it: its frame, the statement that called, and its variables, which take longest.
+// The call with its frame at f, d calls below it: its frame, the holder of what it works on, the statement that called, and its variables,
+// which take longest.
 fn call_ok(
     c: &code::Slots,
     sizes: &[u16],
@@ -896,20 +975,23 @@ fn call_ok(
     requires { ⌜ Heads (decoded (now c)) (now heads) ⌝ }
     requires { ⌜ Jumps (decoded (now c)) (now jumps) ⌝ }
     requires { ⌜ Lent 17664 (now state) ⌝ }
-    requires { ⌜ (1 ≤ p) × ((p ≤ 64) × (f < 65536)) ⌝ }
+    requires { ⌜ (1 ≤ p) × ((p ≤ 64) × ((f < 65536) × (w < 65536))) ⌝ }
     ensures { λ r. ⌜ r ≡ callOk (decoded (now (c .entry))) (memoryOf (now (state .entry))) p d f w i top ⌝ }
 {
     let q = area_word(state, p, f + 3);
     if frame_ok(c, sizes, state, f, w, i, top, q) {
-        if calls_procedure(c, q, area_word(state, p, f + 1)) {
-            return frames_hold(c, sizes, heads, jumps, state, p, d, f, q);
+        if holds_on(c, state, p, w) {
+            if call_made(c, state, p, d, f, w, q, area_word(state, p, f + 1)) {
+                return frames_hold(c, sizes, heads, jumps, state, p, d, f, q);
+            }
+            return false;
         }
         return false;
     }
     false
 }
 
-// Below its calls process p stands at statement i of its own block, and works on itself.
+// Below its calls process p stands at statement i of its own block, and works on itself; it holds its variables, but where it waits.
 fn base_ok(
     c: &code::Slots,
     sizes: &[u16],
@@ -927,8 +1009,11 @@ fn base_ok(
 {
     let b = record_word(state, p, 1);
     if stands_alone(p, f, w) {
-        if lies_in(c, b, i) {
-            return top == module_words(c, sizes, b);
+        if holds_on(c, state, p, p) {
+            if lies_in(c, b, i) {
+                return top == module_words(c, sizes, b);
+            }
+            return false;
         }
         return false;
     }

@@ -9,8 +9,10 @@ base-ok-spec =
     (tie.spec
     (λ c κs. search needs)
     (λ c κs. search needs)
+    (λ c κs. (search needs, (search needs, (search needs, (search needs, search needs)))))
     (λ c κs. search needs)
     (λ c κs. search needs)
+    (λ c. search below)
     (λ c. search below)
     (λ c. search below)
     (λ c. search below))

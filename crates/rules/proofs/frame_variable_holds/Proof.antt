@@ -12,6 +12,8 @@ frame-variable-holds-spec =
     (λ c. search needs)
     (λ c κs. search needs)
     (λ c κs. search needs)
+    (λ c. search needs)
+    (λ c κs. (search needs, (search needs, (search needs, search needs))))
     (λ c κs. search needs)
     (λ c κs. (search needs, (search needs, (search needs, (search needs, (search needs, (search needs, search needs)))))))
     (λ c. search (frame-bound, frame-value))
