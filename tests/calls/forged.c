@@ -25,12 +25,12 @@
  *       y := 2; bump(y); third.pass(2, y)
  *     end. */
 
-enum { MAIN, BUMP, STORE, ADD, PASS };                         /* blocks */
-enum { PROGRAM = 1, FIRST, SECOND, THIRD, OTHER };             /* processes */
-enum { NEXT, N };                                              /* words of a store's area */
-enum { Y = 4, FRAME = 5 };                                     /* of the program's area: y, and the frame of its first call */
+enum { MAIN, BUMP, STORE, ADD, PASS };                                   /* blocks */
+enum { PROGRAM = 1, FIRST, SECOND, THIRD, OTHER };                       /* processes */
+enum { NEXT, N };                                                        /* words of a store's area */
+enum { Y = 4, FRAME = 5 };                                               /* of the program's: y, and the frame of its outermost call */
 enum { STATUS, MODULE, STATEMENT, FRAME_AT, TOP, WORKS, HOLDER, DEPTH }; /* words of a record */
-enum { CREATED = 1, STARTED, ENDED };                          /* status */
+enum { CREATED = 1, STARTED, ENDED };                                    /* status */
 
 static struct builder b;
 static struct run_state r, forged;
@@ -100,18 +100,18 @@ static size_t write_program(void)
 
 /* How many steps process 1 has made. The stores stand at their cycle, and have given up their variables. */
 enum moment {
-    OUTSIDE = 8, /* before y := 2 */
+    OUTSIDE = 8,  /* before y := 2 */
     BUMPING = 10, /* in bump */
     PASSING = 13, /* in third.pass, at its when */
-    ADDING = 19  /* in add, in first.pass, in second.pass, in third.pass */
+    ADDING = 19   /* in add, called in first.pass, called in second.pass, called in third.pass */
 };
 
-/* Words of program's calls as they are then: each has four links, then its variables. */
+/* Words of the frames of process 1: each frame has four links, then its variables. */
 enum {
     BUMP_Z = FRAME + 4,
-    PASS_X = FRAME + 5,                                   /* of third.pass: k stands before it */
-    SECOND_X = PASS_X + 6, FIRST_X = SECOND_X + 6,        /* of second.pass and first.pass, one frame further each */
-    ADD_X = FIRST_X + 5, ADD_WORKS = ADD_X - 2            /* of add: x, and what first.pass works on */
+    PASS_X = FRAME + 5,                            /* of third.pass: k stands before it */
+    SECOND_X = PASS_X + 6, FIRST_X = SECOND_X + 6, /* of second.pass and first.pass, a frame further each */
+    ADD_X = FIRST_X + 5, ADD_WORKS = ADD_X - 2     /* of add: x, and what first.pass works on */
 };
 
 static bool turn(uint8_t process, unsigned answer)
