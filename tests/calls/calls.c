@@ -21,6 +21,7 @@ int main(int argc, char **argv)
     empty_tests();
     edge_tests();
     state_tests();
+    forged_tests();
     story_tests();
     return failures > 0;
 }

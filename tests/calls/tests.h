@@ -7,6 +7,7 @@ void answer_tests(void);  /* answers.c: each answer of a step, the slices that a
 void empty_tests(void);   /* empty.c: zero bytes of table, an empty cartridge slot */
 void edge_tests(void);    /* edges.c: the edges of 01, each by its numbers */
 void state_tests(void);   /* states.c: states that are stale or damaged, looks, threads */
+void forged_tests(void);  /* forged.c: states that no run reaches, each with one fact of the rule broken */
 void story_tests(void);   /* stories.c: the three tests that a user asked for */
 
 #endif

@@ -487,6 +487,12 @@ static size_t word_at(size_t i)
     return word(before.state + 2 * i);
 }
 
+static void set_word(size_t i, uint32_t new)
+{
+    now.state[2 * i] = (uint8_t)new;
+    now.state[2 * i + 1] = (uint8_t)(new >> 8);
+}
+
 /* A word that the state rule reads, as a rule. */
 static size_t pick_word(void)
 {
@@ -500,8 +506,26 @@ static void damage(void)
         size_t at = pick_word();
         uint32_t old = (uint32_t)word_at(at), how = below(4);
         uint32_t new = how == 0 ? below(65536) : how == 1 ? below(70) : how == 2 ? old + below(5) - 2 : (uint32_t)word_at(pick_word());
-        now.state[2 * at] = (uint8_t)new;
-        now.state[2 * at + 1] = (uint8_t)(new >> 8);
+        set_word(at, new);
+    }
+    before = now;
+}
+
+/* Words that say who holds and works on what: the holder, status or statement of a process, what a call and its caller work on, and what a var
+ * parameter is bound to. */
+static void forge(void)
+{
+    uint32_t created = (uint32_t)word_at(16384 + 8), p = below(created), any = below(created);
+    for (int tries = 0; tries < 8 && word_at(16384 + 20 * p + 7) == 0; tries++) /* as a rule one that is in a call */
+        p = below(created);
+    size_t record = 16384 + 20 * p, other = 16384 + 20 * any, frame = 256 * p + word_at(record + 3);
+    switch (below(6)) {
+    case 0: set_word(other + 6, below(created + 1)); break;
+    case 1: set_word(record + 5, any + 1); break;
+    case 2: set_word(frame + 2, any + 1); break;
+    case 3: set_word(frame + 4 + below(3), 256 * any + below(6)); break;
+    case 4: set_word(other, 1 + below(3)); break;
+    default: set_word(record + 2, (uint32_t)word_at(record + 2) + below(5) - 2); break;
     }
     before = now;
 }
@@ -533,7 +557,7 @@ static bool run_alike(size_t n, size_t seen[2])
     return r == 0 ? looks_alike(n, 0) : bad("a run reaches a state that it refuses with %u", r);
 }
 
-static bool damaged(size_t *done)
+static bool damaged(size_t *done, void (*how)(void))
 {
     struct run x = make_run(ours, 0);
     size_t seen[2] = {0};
@@ -544,10 +568,12 @@ static bool damaged(size_t *done)
         size_t calls = below((uint32_t)d->calls + 1);
         is_ok = lend(&x, d, calls);
         struct lent *sound = room(sizeof now);
+        if (is_ok && run_lengths(d->length, STATE, PAGE, below(ROOM), ROOM) != 0) /* into the middle of a call */
+            is_ok = bad("a run from a state that a log reaches is refused");
         *sound = now;
         for (int round = 0; is_ok && round < 20; round++) {
             now = before = *sound;
-            damage();
+            how();
             is_ok = run_alike(d->length, seen);
         }
         free(sound);
@@ -587,7 +613,9 @@ int main(int argc, char **argv)
     }
     report("refusals", refusals(), count, "runs");
     done = 0;
-    is_ok = damaged(&done);
+    is_ok = damaged(&done, damage);
     report("damaged", is_ok, done, "states");
+    is_ok = damaged(&done, forge);
+    report("forged", is_ok, done, "states");
     return failures > 0;
 }
