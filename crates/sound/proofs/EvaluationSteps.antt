@@ -39,7 +39,8 @@ use Rattle.sound.proofs.Ruled.{ruled, stands, contexts}
 use Rattle.sound.proofs.StoresMemory.{update-small, store-small}
 use Rattle.sound.proofs.StoresStanding.{stand-small}
 use Rattle.sound.proofs.StoresChains.{created-low, created-high, created-i}
-use Rattle.sound.proofs.StoresRecords.{goto-rule, end-rule, fail-rule}
+use Rattle.sound.proofs.StoresRecords.{goto-rule, fail-rule}
+use Rattle.sound.proofs.StoresHolders.{end-rule}
 use Rattle.sound.proofs.StoresReturns.{return-rule}
 use Rattle.sound.proofs.StoresSteps.{assign-rule, enter-rule, wait-rule}
 use Rattle.sound.proofs.StoresPushes.{local-call-rule, process-call-rule}
@@ -189,7 +190,7 @@ module _ (T : Table) (acc : Accepted T) (inner : scoped T ≡ true) (L : PlaceLa
       kept 0 _ _ (regular (omega arith)) (goto-rule T acc L m p (m (statementAt p) + 1) S n on)
       (update-small m (statementAt p) (m (statementAt p) + 1) ms (lies-small T W (blockOf m p) (m (statementAt p) + 1) on)) (update-small page _ v ps y)
   performed-kept alone _ (ends y d) =
-      kept 2 _ page (regular (omega arith)) (end-rule T acc L m p S y d)
+      kept 2 _ page (regular (omega arith)) (end-rule T acc L m p S y)
       (update-small _ (holderAt p) 0 (update-small m (statusAt p) 3 ms (omega arith)) (omega arith)) ps
   performed-kept alone _ (returns n y d e v) = return-kept n y d e v
   performed-kept alone _ (fails n l h) = failed n l h

@@ -44,6 +44,7 @@ pub mod StoresBlocks
 pub mod StoresCalls
 pub mod StoresChains
 pub mod StoresCreated
+pub mod StoresHolders
 pub mod StoresMemory
 pub mod StoresProcesses
 pub mod StoresPushes

@@ -25,7 +25,8 @@ use Rattle.sound.specs.Ruled.{Chained, Worked, Ruled, Carries, Fills, Ca
 use Rattle.sound.proofs.Ruled.{ruled, rules, stands}
 use Rattle.sound.proofs.StoresChains.{Same, carries-keeps, created-low, created-high, alike-same}
 use Rattle.sound.proofs.StoresProcesses.{chain-fits, base-fits}
-use Rattle.sound.proofs.StoresRecords.{set-unlike, set-other, set-area, set-carries, Holds, passing-holds, holder-worked, take-kept}
+use Rattle.sound.proofs.StoresRecords.{set-unlike, set-other, set-area, set-carries, Holds, passing-holds}
+use Rattle.sound.proofs.StoresHolders.{holder-worked, take-kept}
 use Rattle.sound.proofs.Worked.{Alike, worked-first, worked-created, worked-begun, lives-alike}
 use Rattle.sound.proofs.StoresCalls.{chain-depth, fills-short, frameOf, push-kept}
 

@@ -20,7 +20,8 @@ use Rattle.sound.specs.Ruled.{Chained, bottom, called, Worked, Process, 
 use Rattle.sound.proofs.Ruled.{ruled, rules, block-there, stands}
 use Rattle.sound.proofs.StoresChains.{created-low, created-high}
 use Rattle.sound.proofs.StoresProcesses.{alike-stays}
-use Rattle.sound.proofs.StoresRecords.{passing-holds, give-kept}
+use Rattle.sound.proofs.StoresRecords.{passing-holds}
+use Rattle.sound.proofs.StoresHolders.{give-kept}
 use Rattle.sound.proofs.StoresStanding.{block-goes, call-kind, stand-depth, stand-frame, stand-works, stand-area, stand-carries, stand-holder, stand-set, stand-kept}
 use Rattle.sound.proofs.Worked.{worked-first, worked-outer}
 

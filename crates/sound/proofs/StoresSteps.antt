@@ -29,7 +29,8 @@ use Rattle.sound.proofs.StoresChains.{created-low, created-high, chain-
 use Rattle.sound.proofs.StoresProcesses.{chain-fits, alike-stays}
 use Rattle.sound.proofs.StoresValues.{owns-in, store-alike}
 use Rattle.sound.proofs.StoresRule.{store-carries, store-kept}
-use Rattle.sound.proofs.StoresRecords.{set-unlike, set-other, set-area, Holds, passing-holds, holder-worked, goto-kept, take-kept, give-kept}
+use Rattle.sound.proofs.StoresRecords.{set-unlike, set-other, set-area, Holds, passing-holds, goto-kept}
+use Rattle.sound.proofs.StoresHolders.{holder-worked, take-kept, give-kept}
 use Rattle.sound.proofs.Worked.{Alike, worked-created, lives-there}
 use Rattle.sound.proofs.ValueBlocks.{block-in}
 
