@@ -133,6 +133,33 @@ fn processes_hold(
     true
 }
 
+// The same, where nothing is found of the types yet. The table has few: the chains are short.
+fn few_hold(c: &code::Slots, sizes: &[u16], state: &[u8], n: usize) -> bool
+    requires { ⌜ Ready (decoded (now c)) (now sizes) ⌝ }
+    requires { ⌜ Lent 17664 (now state) ⌝ }
+    requires { ⌜ (memoryOf (now state) createdAt ≤ 64) × ((3 ≤ n) × (n ≤ 16)) ⌝ }
+    ensures { λ r. ⌜ r ≡ processesHold (decoded (now (c .entry))) (memoryOf (now (state .entry))) ⌝ }
+{
+    let mut heads = [0u16; 16];
+    heads::find_heads(c, &mut heads[..], n);
+    let jumps = [0u16; 1];
+    processes_hold(c, sizes, &heads[..n], &jumps[..0], state)
+}
+
+// The same. It has many, and heads and jumps are found for those below n.
+fn many_hold(c: &code::Slots, sizes: &[u16], state: &[u8], n: usize) -> bool
+    requires { ⌜ Ready (decoded (now c)) (now sizes) ⌝ }
+    requires { ⌜ Lent 17664 (now state) ⌝ }
+    requires { ⌜ (memoryOf (now state) createdAt ≤ 64) × ((3 ≤ n) × (n ≤ 258)) ⌝ }
+    ensures { λ r. ⌜ r ≡ processesHold (decoded (now (c .entry))) (memoryOf (now (state .entry))) ⌝ }
+{
+    let mut heads = [0u16; 258];
+    heads::find_heads(c, &mut heads[..], n);
+    let mut jumps = [0u16; 258];
+    jumps::find_jumps(c, &mut jumps[..], n);
+    processes_hold(c, sizes, &heads[..n], &jumps[..n], state)
+}
+
 // The words in use, as the control records have it.
 fn words_in_use(state: &[u8]) -> usize
     requires { ⌜ Lent 17664 (now state) ⌝ }
@@ -148,34 +175,7 @@ fn words_in_use(state: &[u8]) -> usize
     sum
 }
 
-// So, in a table of few types: their heads are found, and their chains are short.
-fn few_hold(c: &code::Slots, sizes: &[u16], state: &[u8], n: usize) -> bool
-    requires { ⌜ Ready (decoded (now c)) (now sizes) ⌝ }
-    requires { ⌜ Lent 17664 (now state) ⌝ }
-    requires { ⌜ (memoryOf (now state) createdAt ≤ 64) × ((3 ≤ n) × (n ≤ 16)) ⌝ }
-    ensures { λ r. ⌜ r ≡ processesHold (decoded (now (c .entry))) (memoryOf (now (state .entry))) ⌝ }
-{
-    let mut heads = [0u16; 16];
-    heads::find_heads(c, &mut heads[..], n);
-    let jumps = [0u16; 1];
-    processes_hold(c, sizes, &heads[..n], &jumps[..0], state)
-}
-
-// So, where heads and jumps are found for the types below n.
-fn many_hold(c: &code::Slots, sizes: &[u16], state: &[u8], n: usize) -> bool
-    requires { ⌜ Ready (decoded (now c)) (now sizes) ⌝ }
-    requires { ⌜ Lent 17664 (now state) ⌝ }
-    requires { ⌜ (memoryOf (now state) createdAt ≤ 64) × ((3 ≤ n) × (n ≤ 258)) ⌝ }
-    ensures { λ r. ⌜ r ≡ processesHold (decoded (now (c .entry))) (memoryOf (now (state .entry))) ⌝ }
-{
-    let mut heads = [0u16; 258];
-    heads::find_heads(c, &mut heads[..], n);
-    let mut jumps = [0u16; 258];
-    jumps::find_jumps(c, &mut jumps[..], n);
-    processes_hold(c, sizes, &heads[..n], &jumps[..n], state)
-}
-
-// How many types are worth finding: all, but for less words in use than types only the standard ones.
+// How many types are worth it: all; only the standard ones where fewer words are in use than there are types.
 fn worth_finding(state: &[u8], n: usize) -> usize
     requires { ⌜ Lent 17664 (now state) ⌝ }
     requires { ⌜ (memoryOf (now state) createdAt ≤ 64) × ((3 ≤ n) × (n ≤ 258)) ⌝ }
@@ -187,6 +187,7 @@ fn worth_finding(state: &[u8], n: usize) -> usize
     3
 }
 
+// The same, by either way.
 fn all_hold(c: &code::Slots, sizes: &[u16], state: &[u8]) -> bool
     requires { ⌜ Ready (decoded (now c)) (now sizes) ⌝ }
     requires { ⌜ Lent 17664 (now state) ⌝ }
