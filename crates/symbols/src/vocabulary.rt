@@ -110,32 +110,14 @@ fn special_length(a: u8, b: u8) -> usize
 {
     match a {
         b'<' => {
-            if b == b'=' {
-                return 2;
-            }
             if b == b'>' {
                 return 2;
             }
-            1
+            if b == b'=' { 2 } else { 1 }
         }
-        b'>' => {
-            if b == b'=' {
-                return 2;
-            }
-            1
-        }
-        b':' => {
-            if b == b'=' {
-                return 2;
-            }
-            1
-        }
-        b'.' => {
-            if b == b'.' {
-                return 2;
-            }
-            1
-        }
+        b'>' => if b == b'=' { 2 } else { 1 },
+        b':' => if b == b'=' { 2 } else { 1 },
+        b'.' => if b == b'.' { 2 } else { 1 },
         b'(' => 1,
         b')' => 1,
         b'*' => 1,
