@@ -6,7 +6,8 @@ use native.Mathlib.Omega.{arith}
 use native.Mathlib.Nat.{not-suc-le-zero}
 use lib.Dec.{T, eqb}
 use borrow.Author.Tests.{eqb-true, eqb-false, leb-true}
-use Rattle.basics.specs.Choice.{pick, cases, both, either, between, allBelow}
+use Rattle.basics.specs.Choice.{pick, both, either, between, allBelow}
+use Rattle.basics.specs.Cases.{cases}
 
 pub no-true {ℓ} : {A : Type ℓ} → false ≡ true → A
 no-true e = absurd (subst T (sym e) tt)

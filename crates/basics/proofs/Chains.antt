@@ -6,8 +6,10 @@ use native.Mathlib.Omega.{arith}
 use native.Mathlib.Numerals.{add-one}
 use lib.Dec.{leb, eqb}
 use borrow.Author.Tests.{eqb-true, leb-true, leb-false}
-use Rattle.basics.specs.Choice.{cases, both, allBelow}
-use Rattle.basics.specs.Chain.{free, carried, chained, Chain}
+use Rattle.basics.specs.Cases.{cases}
+use Rattle.basics.specs.Choice.{both, allBelow}
+use Rattle.basics.specs.Chain.{free, carried, chained}
+use Rattle.basics.specs.Loops.{Chain}
 use Rattle.basics.proofs.Bools.{both-l, both-r, both-i, both-false-l, all-at, all-fail}
 
 module _ (step : ℕ → ℕ → ℕ) (test : ℕ → ℕ → Bool) where

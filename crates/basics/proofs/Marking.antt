@@ -8,8 +8,9 @@ use lib.Dec.{eqb, ltb}
 use borrow.Author.Tests.{eq-eqb, lt-ltb, le-ltb, ltb-true, ltb-false, eqb-true, eqb-false}
 use native.Mathlib.Numerals.{add-one}
 use native.Mathlib.Omega.{arith}
-use Rattle.basics.specs.Choice.{cases}
-use Rattle.basics.specs.Marks.{occurs, gather, marked, Seen}
+use Rattle.basics.specs.Cases.{cases}
+use Rattle.basics.specs.Marks.{occurs, gather}
+use Rattle.basics.specs.Loops.{marked, Seen}
 
 module _ (x : ℕ) (seen : List ℕ) where
   pub mark-far : length seen ≤ x → seen ≡ marked x seen

@@ -4,7 +4,8 @@ use mathlib.Core.Path.{_≡_, refl, sym, _∙_}
 use mathlib.Core.Bool.{Bool, true, false}
 use native.Mathlib.Numerals.{add-one}
 use native.Mathlib.Omega.{arith}
-use Rattle.basics.specs.Choice.{allBelow, Passed}
+use Rattle.basics.specs.Choice.{allBelow}
+use Rattle.basics.specs.Loops.{Passed}
 use Rattle.basics.proofs.Bools.{both-i, all-fail}
 
 module _ (f : ℕ → Bool) where

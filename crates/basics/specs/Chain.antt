@@ -1,5 +1,5 @@
+-- Trusted: public promises are said with these definitions.
 -- Items that take numbers one after the other: each begins at the next free number, and in the end none is left. Assumes nothing.
-use mathlib.Core.Path.{_≡_}
 use mathlib.Core.Bool.{Bool, true}
 use Prim.Native.Nat.{ℕ, zero, suc, _+_}
 use lib.Dec.{eqb}
@@ -17,11 +17,6 @@ carried step test m = allBelow m (λ i. test i (free step i))
 -- each of m items passes its test at the number that is free, and in the end `total` is
 unfoldable pub chained : (ℕ → ℕ → ℕ) → (ℕ → ℕ → Bool) → ℕ → ℕ → Bool
 chained step test m total = both (carried step test m) (eqb (free step m) total)
-
--- what a loop over the items has found so far
-pub record Chain (step : ℕ → ℕ → ℕ) (test : ℕ → ℕ → Bool) (i j : ℕ) : Type 0 where
-  pub is : j ≡ free step i
-  pub passed : allBelow i (λ k. test k (free step k)) ≡ true
 
 -- items that take `count i` numbers from `first i` on, where they take any
 unfoldable pub stepTake : (ℕ → Bool) → (ℕ → ℕ) → (ℕ → ℕ) → ℕ → ℕ → ℕ

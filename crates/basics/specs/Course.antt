@@ -1,3 +1,4 @@
+-- Trusted: public promises are said with these definitions.
 -- Recursion on all smaller numbers. Assumes nothing.
 use Prim.Native.Nat.{ℕ, zero, suc}
 use lib.Dec.{eqb}

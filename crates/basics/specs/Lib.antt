@@ -1,4 +1,6 @@
 pub mod Choice
+pub mod Loops
+pub mod Cases
 pub mod Course
 pub mod Chain
 pub mod Holds

@@ -1,7 +1,7 @@
 // What every crate's definitions and laws share, in specs/ and proofs/; and the marks that count occurrences.
 ghost use mathlib.Core.Path.{_≡_};
 ghost use Rattle.basics.specs.Choice.{between};
-ghost use Rattle.basics.specs.Marks.{marked};
+ghost use Rattle.basics.specs.Loops.{marked};
 
 // x is from a to b.
 pub fn between(a: usize, b: usize, x: usize) -> bool

@@ -8,13 +8,14 @@ use borrow.Author.Tests.{eqb-true, ne-eqb, leb-true, ltb-true, lt-ltb}
 use lib.Dec.{eqb, ltb}
 use mir.Val.{Fits}
 use mir.Syntax.{w64}
-use Rattle.basics.specs.Choice.{pick, cases}
+use Rattle.basics.specs.Choice.{pick}
+use Rattle.basics.specs.Cases.{cases}
 use Rattle.basics.proofs.Bools.{both-l}
 use Rattle.table.specs.Table.{Table}
 use Rattle.table.specs.Entries.{stmtCount, stmtKind, stmtA, stmtB, stmtC, stmtD, stmtLink}
 use Rattle.machine.specs.Memory.{Memory, memoryOf, update}
 use Rattle.machine.specs.Layout.{location, frameAt, worksAt, holderAt, depthAt, linkAt}
-use Rattle.machine.specs.Lent.{Lent, Changed}
+use Rattle.machine.specs.Lent.{State, Becomes}
 use Rattle.machine.specs.Outcomes.{ok, stuck}
 use Rattle.machine.specs.Entries.{Statement, noStatement, statementOf, stmtAt}
 use Rattle.machine.specs.Context as machine
@@ -89,8 +90,8 @@ unfolding stmtAt
 stmt-there T c l = rw (lt-ltb c (stmtCount T) l)
 
 popped-works : (T : Table) (m : List ℕ) (page : Memory) (p c : ℕ) (s1 : List ℕ)
-    → Changed 17664 s1 (popped T (memoryOf m) page (contextOf (memoryOf m) p) (update (memoryOf m) (holderAt (memoryOf m (worksAt p))) 0) c)
-    → Changed 17664 s1 (popped T (memoryOf m) page (contextOf (memoryOf m) p) (update (memoryOf m) (holderAt (contextOf (memoryOf m) p .works)) 0) c)
+    → Becomes s1 (popped T (memoryOf m) page (contextOf (memoryOf m) p) (update (memoryOf m) (holderAt (memoryOf m (worksAt p))) 0) c)
+    → Becomes s1 (popped T (memoryOf m) page (contextOf (memoryOf m) p) (update (memoryOf m) (holderAt (contextOf (memoryOf m) p .works)) 0) c)
 unfolding contextOf
 popped-works T m page p c s1 g = g
 
@@ -101,7 +102,7 @@ module _ (t m p : List ℕ) (x : Context) (h : Standing t m p x) (k : stmtKind (
   end-is = performs-block-end (decoded t) (memoryOf m) (memoryOf p) (contextIn x) (h .unstuck) k
 
   pub ends-process : (w : ℕ) (s1 : List ℕ) → w ≡ memoryOf m (depthAt (x .process)) → w ≡ 0
-      → Changed 17664 s1 (ended (memoryOf m) (x .process)) → Stepped 2 s1 p (carried (decoded t) (memoryOf m) (memoryOf p) (contextIn x))
+      → Becomes s1 (ended (memoryOf m) (x .process)) → Stepped 2 s1 p (carried (decoded t) (memoryOf m) (memoryOf p) (contextIn x))
   ends-process w s1 hw e c =
       stand-done t m p x h 2 s1 (ended (memoryOf m) (x .process))
       (end-is ∙ ends-at (decoded t) (memoryOf m) (memoryOf p) x (sym hw ∙ e)) c
@@ -109,7 +110,7 @@ module _ (t m p : List ℕ) (x : Context) (h : Standing t m p x) (k : stmtKind (
   pub ends-call : (w : ℕ) → w ≡ memoryOf m (depthAt (x .process)) → (w ≡ 0 → ⊥) → memoryOf m (depthAt (x .process)) ≡ 0 → ⊥
   ends-call w hw n e = n (hw ∙ e)
 
-  pub ending-lent : Lent 17664 m
+  pub ending-lent : State m
   ending-lent = stand-lent t m p x h
 
   pub ending-low : 1 ≤ x .process
@@ -164,7 +165,7 @@ module _ (t m p : List ℕ) (x : Context) (h : Standing t m p x) (k : stmtKind (
       of-kind = ap (returns (decoded t) (memoryOf m) (memoryOf p) (contextIn x) c) (stmt-there (decoded t) c return-there)
 
       pub return-process : (i : ℕ) (s1 : List ℕ) → i ≡ stmtKind (decoded t) c → i ≡ 3
-          → ((T : Table) (page : Memory) → Changed 17664 s1 (popped T (memoryOf m) page (contextOf (memoryOf m) (x .process)) (update (memoryOf m) (holderAt (memoryOf m (worksAt (x .process)))) 0) c))
+          → ((T : Table) (page : Memory) → Becomes s1 (popped T (memoryOf m) page (contextOf (memoryOf m) (x .process)) (update (memoryOf m) (holderAt (memoryOf m (worksAt (x .process)))) 0) c))
           → Stepped 0 s1 p (carried (decoded t) (memoryOf m) (memoryOf p) (contextIn x))
       return-process i s1 hi e g =
           let d = of-kind ∙ by-process (decoded t) (memoryOf m) (memoryOf p) (contextIn x) c _ _ _ _ _ _ (sym hi ∙ e) in
@@ -172,7 +173,7 @@ module _ (t m p : List ℕ) (x : Context) (h : Standing t m p x) (k : stmtKind (
           (rw (h .here) (popped-works (decoded t) m (memoryOf p) (x .process) c s1 (g (decoded t) (memoryOf p))))
 
       pub return-local : (i : ℕ) (s1 : List ℕ) → i ≡ stmtKind (decoded t) c → (i ≡ 3 → ⊥)
-          → ((T : Table) (page : Memory) → Changed 17664 s1 (popped T (memoryOf m) page (contextOf (memoryOf m) (x .process)) (memoryOf m) c))
+          → ((T : Table) (page : Memory) → Becomes s1 (popped T (memoryOf m) page (contextOf (memoryOf m) (x .process)) (memoryOf m) c))
           → Stepped 0 s1 p (carried (decoded t) (memoryOf m) (memoryOf p) (contextIn x))
       return-local i s1 hi e g =
           let u = kept _ _ of-kind return-unstuck in

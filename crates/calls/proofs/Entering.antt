@@ -11,11 +11,11 @@ use Rattle.basics.proofs.Bools.{both-l}
 use Rattle.table.specs.Table.{Table}
 use Rattle.table.specs.Entries.{blockCount, stmtCount, stmtKind, stmtA, stmtC, stmtD}
 use Rattle.typing.proofs.Promise.{local-call}
-use Rattle.words.specs.Outcomes.{failureNumber}
+use Rattle.words.specs.Values.{failureNumber}
 use Rattle.words.specs.declared.values.Failure.{Failure}
 use Rattle.machine.specs.Memory.{Memory, memoryOf, update}
 use Rattle.machine.specs.Layout.{failureAt, frameAt, topAt, worksAt}
-use Rattle.machine.specs.Lent.{Lent, Changed}
+use Rattle.machine.specs.Lent.{State, Becomes}
 use Rattle.machine.specs.Outcomes.{Outcome, ok, fail, stuck, andThen, need}
 use Rattle.machine.specs.Entries.{stmtAt}
 use Rattle.machine.specs.Variables.{frameWords, isProcedure}
@@ -40,7 +40,7 @@ use Rattle.calls.proofs.Passing.{need-through, need-is, kept}
 -- ---- what a statement has left
 
 module _ (t m p : List ℕ) (x : Context) (h : Standing t m p x) where
-  pub stand-lent : Lent 17664 m
+  pub stand-lent : State m
   stand-lent = record { long = h .ready .state }
 
   pub stand-low : 1 ≤ x .process
@@ -54,13 +54,13 @@ module _ (t m p : List ℕ) (x : Context) (h : Standing t m p x) where
   stand-there = statement-there (decoded t) (memoryOf m) (memoryOf p) (contextIn x) (h .unstuck)
 
   pub stand-fail : (n r : ℕ) (s1 : List ℕ) → perform (decoded t) (memoryOf m) (memoryOf p) (contextIn x) (stmtAt (decoded t) (x .statement)) ≡ fail n
-      → r ≡ n → Changed 17664 s1 (update (memoryOf m) failureAt n) → Stepped r s1 p (carried (decoded t) (memoryOf m) (memoryOf p) (contextIn x))
+      → r ≡ n → Becomes s1 (update (memoryOf m) failureAt n) → Stepped r s1 p (carried (decoded t) (memoryOf m) (memoryOf p) (contextIn x))
   unfolding contextIn
   stand-fail n r s1 e k c = stepped-fail (decoded t) m p s1 p (contextIn x) n r e k c (h .ready .page)
 
   pub stand-done : (a : ℕ) (s1 : List ℕ) (m1 : Memory)
       → perform (decoded t) (memoryOf m) (memoryOf p) (contextIn x) (stmtAt (decoded t) (x .statement)) ≡ ok (effect a m1 (memoryOf p))
-      → Changed 17664 s1 m1 → Stepped a s1 p (carried (decoded t) (memoryOf m) (memoryOf p) (contextIn x))
+      → Becomes s1 m1 → Stepped a s1 p (carried (decoded t) (memoryOf m) (memoryOf p) (contextIn x))
   unfolding contextIn
   stand-done a s1 m1 e c = stepped (decoded t) m p s1 p (contextIn x) a m1 (memoryOf p) e c (record { long = h .ready .page; is = refl })
 
@@ -108,7 +108,7 @@ module _ (t m p : List ℕ) (x : Context) (q : ℕ) (st : Memory) (r : ℕ) (l :
   pub entering-framing : Framing t q
   entering-framing = stand-framing t m p x (h .standing) q (h .there)
 
-  pub entering-lent : Lent 17664 m
+  pub entering-lent : State m
   entering-lent = stand-lent t m p x (h .standing)
 
   pub entering-low : 1 ≤ x .process
@@ -122,7 +122,7 @@ module _ (t m p : List ℕ) (x : Context) (q : ℕ) (st : Memory) (r : ℕ) (l :
 
   module _ (size : ℕ) (hs : Counted (decoded t) q size) (b : Bool)
       (hb : b ≡ ltb 256 (memoryOf m (topAt (x .process)) + 4 + size)) where
-    pub entering-over : b ≡ true → (a : ℕ) (s1 : List ℕ) → a ≡ 22 → Changed 17664 s1 (update (memoryOf m) failureAt 22)
+    pub entering-over : b ≡ true → (a : ℕ) (s1 : List ℕ) → a ≡ 22 → Becomes s1 (update (memoryOf m) failureAt 22)
         → Stepped a s1 p (carried (decoded t) (memoryOf m) (memoryOf p) (contextIn x))
     entering-over e a s1 k c =
         let g = ltb-true 256 (memoryOf m (topAt (x .process)) + 4 + size) (sym hb ∙ e) in
@@ -164,7 +164,7 @@ module _ (t m p : List ℕ) (x : Context) (q : ℕ) (st : Memory) (r : ℕ) (l :
       entering-held = h .room few
 
       pub entering-done : (s1 : List ℕ)
-          → Changed 17664 s1 (pushed (decoded t) (memoryOf m) (memoryOf p) (contextOf (memoryOf m) (x .process)) st q r (take n l))
+          → Becomes s1 (pushed (decoded t) (memoryOf m) (memoryOf p) (contextOf (memoryOf m) (x .process)) st q r (take n l))
           → Stepped 0 s1 p (carried (decoded t) (memoryOf m) (memoryOf p) (contextIn x))
       entering-done s1 c =
           let d = call-done (decoded t) (memoryOf m) (memoryOf p) st (x .process) q r (h .words) call-unstuck fits-under in
@@ -175,7 +175,7 @@ module _ (t m p : List ℕ) (x : Context) (q : ℕ) (l : List ℕ) (n : ℕ)
     (h : Entering t m p x q (memoryOf m) (x .works) l n) (size : ℕ) (hs : Counted (decoded t) q size) (b : Bool)
     (hb : b ≡ ltb 256 (memoryOf m (topAt (x .process)) + 4 + size)) (e : b ≡ false) where
   pub entering-local : (s1 : List ℕ)
-      → ((page : Memory) → Changed 17664 s1 (pushed (decoded t) (memoryOf m) page (contextOf (memoryOf m) (x .process)) (memoryOf m) q (memoryOf m (worksAt (x .process))) (take n l)))
+      → ((page : Memory) → Becomes s1 (pushed (decoded t) (memoryOf m) page (contextOf (memoryOf m) (x .process)) (memoryOf m) q (memoryOf m (worksAt (x .process))) (take n l)))
       → Stepped 0 s1 p (carried (decoded t) (memoryOf m) (memoryOf p) (contextIn x))
   entering-local s1 c =
       entering-done t m p x q (memoryOf m) (x .works) l n h size hs b hb e s1
@@ -203,7 +203,7 @@ module _ (t m p : List ℕ) (x : Context) (q c d : ℕ) (st : Memory) (r : ℕ)
   pub invoking-ready : Ready t m p x
   invoking-ready = h .standing .ready
 
-  pub invoking-lent : Lent 17664 m
+  pub invoking-lent : State m
   invoking-lent = stand-lent t m p x (h .standing)
 
   pub invoking-calling : Calling (decoded t) (memoryOf m) (memoryOf p) (contextIn x) q c d
@@ -227,7 +227,7 @@ module _ (t m p : List ℕ) (x : Context) (q c d : ℕ) (st : Memory) (r : ℕ)
 
   module _ (l₀ l : List ℕ) (g : Gathered) (a : Adds g l₀ 0 l (arguments (decoded t) (memoryOf m) (memoryOf p) (contextIn x) q c d)) where
     pub invoking-fails : (k : Failure) (w : ℕ) (s1 : List ℕ) → g ≡ gathered.Fail k → w ≡ failureNumber k
-        → Changed 17664 s1 (update (memoryOf m) failureAt (failureNumber k))
+        → Becomes s1 (update (memoryOf m) failureAt (failureNumber k))
         → Stepped w s1 p (carried (decoded t) (memoryOf m) (memoryOf p) (contextIn x))
     invoking-fails k w s1 e v i =
         stand-fail t m p x (h .standing) (failureNumber k) w s1 (h .performs ∙ invoked-fail _ _ _ _ _ _ _ _ _ (rw e at a)) v i

@@ -7,7 +7,7 @@ use lib.Dec.{eqb}
 use native.Mathlib.Omega.{arith}
 use Rattle.table.specs.Table.{Table}
 use Rattle.table.specs.Entries.{firstVar, params}
-use Rattle.words.specs.Outcomes.{failureNumber}
+use Rattle.words.specs.Values.{failureNumber}
 use Rattle.words.specs.declared.values.Failure.{Failure}
 use Rattle.machine.specs.Memory.{Memory}
 use Rattle.machine.specs.Outcomes.{Outcome, ok, fail, stuck, andThen}

@@ -7,7 +7,8 @@ use lib.ListN.{length}
 use lib.Dec.{eqb, ltb}
 use native.Mathlib.Omega.{arith}
 use borrow.Author.Tests.{eqb-true, ltb-true, ltb-false}
-use Rattle.basics.specs.Choice.{pick, cases, both}
+use Rattle.basics.specs.Choice.{pick, both}
+use Rattle.basics.specs.Cases.{cases}
 use Rattle.basics.proofs.Bools.{both-r}
 use Rattle.table.specs.Table.{Table}
 use Rattle.table.specs.Entries.{varCount, argCount, nodeCount, varMode, varType, argNode, nodeKind, nodeP}
@@ -16,16 +17,17 @@ use Rattle.types.specs.Match.{matches}
 use Rattle.sizes.specs.Sizes.{wordsOf}
 use Rattle.numbers.proofs.OperandPromise.{arg-node}
 use Rattle.words.specs.Outcomes as words
-use Rattle.words.specs.Outcomes.{failureNumber, outcomeOf}
+use Rattle.words.specs.Values.{failureNumber, outcomeOf}
 use Rattle.words.specs.declared.values.Failure.{Failure}
 use Rattle.words.specs.declared.values.Value.{Value}
 use Rattle.words.specs.declared.values.Value.the-variants as value
 use Rattle.machine.specs.Memory.{Memory, memoryOf, wordsAt}
-use Rattle.machine.specs.Lent.{Lent}
+use Rattle.machine.specs.Lent.{State}
 use Rattle.machine.specs.Outcomes.{Outcome, ok, fail, stuck, andThen, need, Operand, place, value, placed, valued, onPlace, onValue, wordOf}
 use Rattle.machine.specs.Context as machine
 use Rattle.machine.specs.Operands.{operand}
 use Rattle.machine.specs.Calls.{valueArgument, varArgument, argument}
+use Rattle.machine.specs.Layout.{locations}
 use Rattle.code.specs.Code.{decoded}
 use Rattle.operands.specs.declared.Context.{Context}
 use Rattle.operands.specs.declared.Place.{Place}
@@ -156,7 +158,7 @@ module _ (T : Table) (m page : Memory) (x : machine.Context) (v i : ℕ) (g : ar
 pub other-kind : (k r a : ℕ) → k ≡ r → (k ≡ a → ⊥) → r ≡ a → ⊥
 other-kind k r a e n q = n (e ∙ q)
 
-pub lent-state : (t m p : List ℕ) (x : Context) → Ready t m p x → Lent 17664 m
+pub lent-state : (t m p : List ℕ) (x : Context) → Ready t m p x → State m
 lent-state t m p x h = record { long = h .state }
 
 module _ (t m p : List ℕ) (x : Context) (h : Ready t m p x) where
@@ -203,7 +205,7 @@ module _ (t m p : List ℕ) (x : Context) (h : Ready t m p x) where
         copy-fails e g = value-failed (out t m p x n) (failureNumber e) (got-failed t m p x h n copy-retrieval a ha b hb e g)
 
         module _ (i w : ℕ) (hi : b ≡ place.At i) (hw : w ≡ wordsOf (decoded t) (typeOf (decoded t) n)) where
-          pub copy-room : i + w ≤ 16384
+          pub copy-room : i + w ≤ locations
           copy-room = rw hw (fits-high (decoded t) i (typeOf (decoded t) n) (got-fits t m p x h n copy-retrieval a ha b hb i hi))
 
           pub copy-returns : (l : List ℕ) (count : ℕ) (q : List ℕ) (r : ℕ) → Appended l count (wordsAt (memoryOf m) i w) q r → Added l count q r (valueOf (out t m p x n))

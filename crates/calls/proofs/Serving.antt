@@ -10,14 +10,14 @@ use lib.Dec.{eqb, ltb}
 use Rattle.basics.specs.Choice.{both}
 use Rattle.table.specs.Table.{Table}
 use Rattle.table.specs.Entries.{nodeCount, owner, stmtKind, stmtA, stmtB, stmtC, stmtD}
-use Rattle.numbers.specs.Sorts.{Variable}
+use Rattle.numbers.specs.Nodes.{Variable}
 use Rattle.numbers.proofs.OperandPromise.{call-variable, call-procedure}
 use Rattle.typing.proofs.Promise.{called-arguments}
-use Rattle.words.specs.Outcomes.{failureNumber}
+use Rattle.words.specs.Values.{failureNumber}
 use Rattle.words.specs.declared.values.Failure.{Failure}
 use Rattle.machine.specs.Memory.{Memory, memoryOf, update}
 use Rattle.machine.specs.Layout.{statusAt, topAt, holderAt, failureAt}
-use Rattle.machine.specs.Lent.{Lent, Changed}
+use Rattle.machine.specs.Lent.{State, Becomes}
 use Rattle.machine.specs.Outcomes.{Outcome, ok}
 use Rattle.machine.specs.Entries.{stmtAt}
 use Rattle.machine.specs.Variables.{isProcedure}
@@ -58,7 +58,7 @@ module _ (t m p : List ℕ) (x : Context) (q r : ℕ) (l : List ℕ) (n : ℕ)
     (h : Entering t m p x q (update (memoryOf m) (holderAt r) (x .process)) r l n) (size : ℕ) (hs : Counted (decoded t) q size) (b : Bool)
     (hb : b ≡ ltb 256 (memoryOf m (topAt (x .process)) + 4 + size)) (e : b ≡ false) where
   pub entering-process : (s1 : List ℕ)
-      → ((page : Memory) → Changed 17664 s1 (pushed (decoded t) (memoryOf m) page (contextOf (memoryOf m) (x .process)) (update (memoryOf m) (holderAt r) (x .process)) q r (take n l)))
+      → ((page : Memory) → Becomes s1 (pushed (decoded t) (memoryOf m) page (contextOf (memoryOf m) (x .process)) (update (memoryOf m) (holderAt r) (x .process)) q r (take n l)))
       → Stepped 0 s1 p (carried (decoded t) (memoryOf m) (memoryOf p) (contextIn x))
   entering-process s1 c =
       entering-done t m p x q (update (memoryOf m) (holderAt r) (x .process)) r l n h size hs b hb e s1 (c (memoryOf p))
@@ -75,7 +75,7 @@ unfolding served contextIn
 served-free T m page x q c d r e = rw e
 
 module _ (t m p : List ℕ) (x : Context) (r : ℕ) (h : Serving t m p x r) where
-  pub serving-lent : Lent 17664 m
+  pub serving-lent : State m
   serving-lent = stand-lent t m p x (h .standing)
 
   pub serving-low : 1 ≤ r
@@ -153,7 +153,7 @@ module _ (t m p : List ℕ) (x : Context) (h : Standing t m p x)
 
   module _ (l : Reference) (hl : referred l ≡ referenceOf (decoded t) (memoryOf m) (operand (decoded t) (memoryOf m) (memoryOf p) (contextIn x) a)) where
     pub process-fails : (e : Failure) (w : ℕ) (s1 : List ℕ) → l ≡ reference.Fail e → w ≡ failureNumber e
-        → Changed 17664 s1 (update (memoryOf m) failureAt (failureNumber e))
+        → Becomes s1 (update (memoryOf m) failureAt (failureNumber e))
         → Stepped w s1 p (carried (decoded t) (memoryOf m) (memoryOf p) (contextIn x))
     process-fails e w s1 g v c =
         stand-fail t m p x h (failureNumber e) w s1

@@ -7,12 +7,12 @@ use native.Mathlib.Omega.{arith}
 use borrow.Author.Tests.{ne-eqb, ltb-true, ltb-false, leb-true}
 use lib.ListN.{length, take}
 use lib.Dec.{leb, ltb}
-use Rattle.basics.specs.Choice.{cases}
+use Rattle.basics.specs.Cases.{cases}
 use Rattle.table.specs.Table.{Table}
 use Rattle.table.specs.Entries.{typeCount, nodeCount, blockCount, typeKind, typeP, varType, blockKind, firstVar, params, vars, stmtCount, stmtKind, stmtA, stmtC, stmtD}
 use Rattle.types.specs.Types.{typeOf}
 use Rattle.numbers.specs.Ranges.{inRange}
-use Rattle.numbers.specs.Sorts.{Variable}
+use Rattle.numbers.specs.Nodes.{Variable}
 use Rattle.numbers.proofs.OperandPromise.{start-variable}
 use Rattle.numbers.proofs.BlockPromise.{mode-local}
 use Rattle.numbers.proofs.TypePromise.{process-module}
@@ -21,11 +21,11 @@ use Rattle.typing.proofs.Promise.{module-param, started-variable, started-argum
 use Rattle.sizes.specs.Sizes.{wordsOf, varOffset, moduleWords}
 use Rattle.sizes.proofs.Sums.{sum-same}
 use Rattle.sizes.proofs.Promise.{module-most}
-use Rattle.words.specs.Outcomes.{failureNumber}
+use Rattle.words.specs.Values.{failureNumber}
 use Rattle.words.specs.declared.values.Failure.{Failure}
 use Rattle.machine.specs.Memory.{Memory, memoryOf, update}
 use Rattle.machine.specs.Layout.{statusAt, statementAt, failureAt}
-use Rattle.machine.specs.Lent.{Lent, Changed}
+use Rattle.machine.specs.Lent.{State, Becomes}
 use Rattle.machine.specs.Outcomes.{Outcome, ok, fail, stuck, andThen, need, failWhere}
 use Rattle.machine.specs.Entries.{stmtAt}
 use Rattle.machine.specs.Variables.{varWords, firstWords, frameWords}
@@ -73,7 +73,7 @@ module _ (t m p : List ℕ) (x : Context) (r b : ℕ) (l : List ℕ) (n : ℕ) (
   pub beginning-framing : Framing t b
   beginning-framing = stand-framing t m p x (h .standing) b (h .there)
 
-  pub beginning-lent : Lent 17664 m
+  pub beginning-lent : State m
   beginning-lent = stand-lent t m p x (h .standing)
 
   pub beginning-words : (size : ℕ) → size ≤ 457 → (n ≤ 256) × ((n ≤ length l) × (size < 65536))
@@ -83,7 +83,7 @@ module _ (t m p : List ℕ) (x : Context) (r b : ℕ) (l : List ℕ) (n : ℕ) (
   beginning-size size c = let e = c .is in let q = h .exact in let u = h .most in omega arith
 
   pub beginning-done : (s1 : List ℕ) (c : ℕ) → c ≡ x .statement + 1
-      → Changed 17664 s1 (update (started (decoded t) (memoryOf m) r b (take n l)) (statementAt (x .process)) c)
+      → Becomes s1 (update (started (decoded t) (memoryOf m) r b (take n l)) (statementAt (x .process)) c)
       → Stepped 0 s1 p (carried (decoded t) (memoryOf m) (memoryOf p) (contextIn x))
   beginning-done s1 c e i = stand-done t m p x (h .standing) 0 s1 _ (h .performs) (rw e at i)
 
@@ -112,7 +112,7 @@ unfolding begun andThen
 begun-ok T m page x v r o ws e = rw e
 
 module _ (t m p : List ℕ) (x : Context) (r : ℕ) (h : Starting t m p x r) where
-  pub starting-lent : Lent 17664 m
+  pub starting-lent : State m
   starting-lent = stand-lent t m p x (h .standing)
 
   pub starting-low : 1 ≤ r
@@ -125,7 +125,7 @@ module _ (t m p : List ℕ) (x : Context) (r : ℕ) (h : Starting t m p x r) whe
   starting-ready = h .standing .ready
 
   module _ (w : ℕ) (hw : w ≡ memoryOf m (statusAt r)) where
-    pub starting-twice : (a : ℕ) (s1 : List ℕ) → (w ≡ 1 → ⊥) → a ≡ 20 → Changed 17664 s1 (update (memoryOf m) failureAt 20)
+    pub starting-twice : (a : ℕ) (s1 : List ℕ) → (w ≡ 1 → ⊥) → a ≡ 20 → Becomes s1 (update (memoryOf m) failureAt 20)
         → Stepped a s1 p (carried (decoded t) (memoryOf m) (memoryOf p) (contextIn x))
     starting-twice a s1 n e c =
         stand-fail t m p x (h .standing) 20 a s1 (h .performs ∙ start-twice _ _ _ _ _ _ _ r (λ q. n (hw ∙ q))) e c
@@ -166,7 +166,7 @@ module _ (t m p : List ℕ) (x : Context) (r : ℕ) (h : Starting t m p x r) whe
 
     module _ (l₀ l : List ℕ) (g : Gathered) (i : Adds g l₀ 0 l (arguments (decoded t) (memoryOf m) (memoryOf p) (contextIn x) b c d)) where
       pub start-fails : (k : Failure) (w : ℕ) (s1 : List ℕ) → g ≡ gathered.Fail k → w ≡ failureNumber k
-          → Changed 17664 s1 (update (memoryOf m) failureAt (failureNumber k))
+          → Becomes s1 (update (memoryOf m) failureAt (failureNumber k))
           → Stepped w s1 p (carried (decoded t) (memoryOf m) (memoryOf p) (contextIn x))
       start-fails k w s1 q v j =
           stand-fail t m p x (h .standing) (failureNumber k) w s1 (begin-is ∙ begun-fail _ _ _ _ _ _ _ _ (rw q at i)) v j
@@ -229,7 +229,7 @@ module _ (t m p : List ℕ) (x : Context) (h : Standing t m p x)
 
   module _ (l : Reference) (hl : referred l ≡ referenceOf (decoded t) (memoryOf m) (operand (decoded t) (memoryOf m) (memoryOf p) (contextIn x) a)) where
     pub start-refuses : (e : Failure) (w : ℕ) (s1 : List ℕ) → l ≡ reference.Fail e → w ≡ failureNumber e
-        → Changed 17664 s1 (update (memoryOf m) failureAt (failureNumber e))
+        → Becomes s1 (update (memoryOf m) failureAt (failureNumber e))
         → Stepped w s1 p (carried (decoded t) (memoryOf m) (memoryOf p) (contextIn x))
     start-refuses e w s1 g v c =
         stand-fail t m p x h (failureNumber e) w s1

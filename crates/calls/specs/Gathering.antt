@@ -1,3 +1,4 @@
+-- Inner: for code and proofs only; no public promise is said with these definitions.
 -- The words of arguments, gathered in a buffer of 256 words (11.3, 12). Assumes nothing.
 use Prim.Native.Nat.{ℕ, _+_, _-_, _≤_, min}
 use mathlib.Core.Path.{_≡_}
@@ -5,9 +6,9 @@ use mathlib.Core.List.{List, [], _∷_, _++_}
 use lib.ListN.{length, take}
 use Rattle.table.specs.Table.{Table}
 use Rattle.table.specs.Entries.{argNode, nodeCount}
-use Rattle.numbers.specs.Sorts.{Variable, Expression}
+use Rattle.numbers.specs.Nodes.{Variable, Expression}
 use Rattle.typing.proofs.Promise.{Suits, Arguments}
-use Rattle.words.specs.Outcomes.{failureNumber}
+use Rattle.words.specs.Values.{failureNumber}
 use Rattle.machine.specs.Memory.{Memory}
 use Rattle.machine.specs.Outcomes.{Outcome, ok, fail, stuck, andThen, Operand, onPlace, onValue}
 use Rattle.machine.specs.Context.{Context}

@@ -10,7 +10,7 @@ ghost use lib.Dec.{ltb};
 ghost use Rattle.table.specs.Entries.{stmtKind};
 ghost use Rattle.machine.specs.Memory.{memoryOf};
 ghost use Rattle.machine.specs.Layout.{topAt, depthAt};
-ghost use Rattle.machine.specs.Lent.{Lent};
+ghost use Rattle.machine.specs.Lent.{State};
 ghost use Rattle.code.specs.Code.{decoded};
 ghost use Rattle.operands.specs.Ready.{contextIn};
 ghost use Rattle.effects.specs.Effects.{carried, Stepped, Standing};
@@ -18,11 +18,11 @@ ghost use Rattle.calls.specs.Entering.{Invoking, Entering};
 
 // A frame with variables of `size` words does not fit the area of process p.
 pub fn is_over(state: &[u8], p: usize, size: usize) -> bool
-    requires { ⌜ Lent 17664 (now state) ⌝ }
+    requires { ⌜ State (now state) ⌝ }
     requires { ⌜ (1 ≤ p) × ((p ≤ 64) × (size ≤ 457)) ⌝ }
     ensures { λ r. ⌜ r ≡ ltb 256 (memoryOf (now (state .entry)) (topAt p) + 4 + size) ⌝ }
 {
-    let top = machine::record_word(state, p, 4);
+    let top = machine::record_word(state, p, machine::TOP);
     256 < top as usize + 4 + size
 }
 
@@ -107,7 +107,7 @@ pub fn block_end(c: &code::Slots, state: &mut [u8], page: &[u8], x: Context) -> 
     requires { ⌜ stmtKind (decoded (now c)) (x .statement) ≡ 13 ⌝ }
     ensures { λ r. ⌜ Stepped r (now (state .exit)) (now (page .entry)) (carried (decoded (now (c .entry))) (memoryOf (now (state .entry))) (memoryOf (now (page .entry))) (contextIn x)) ⌝ }
 {
-    let depth = machine::record_word(state, x.process, 7);
+    let depth = machine::record_word(state, x.process, machine::DEPTH);
     if depth == 0 {
         frames::end_process(state, x.process);
         return 2;

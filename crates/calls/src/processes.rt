@@ -13,7 +13,7 @@ ghost use Prim.Native.Nat.{_<_, _≤_};
 ghost use Rattle.table.specs.Entries.{stmtKind};
 ghost use Rattle.machine.specs.Memory.{memoryOf, update};
 ghost use Rattle.machine.specs.Layout.{statusAt, holderAt};
-ghost use Rattle.machine.specs.Lent.{Lent};
+ghost use Rattle.machine.specs.Lent.{State};
 ghost use Rattle.code.specs.Code.{decoded};
 ghost use Rattle.operands.specs.Ready.{contextIn};
 ghost use Rattle.effects.specs.Effects.{carried, Stepped, Standing};
@@ -23,14 +23,14 @@ ghost use Rattle.calls.specs.Serving.{Serving, Starting, Beginning};
 
 // Process r can serve a call when it is started and nobody holds its variables.
 fn is_free(state: &[u8], r: usize) -> bool
-    requires { ⌜ Lent 17664 (now state) ⌝ }
+    requires { ⌜ State (now state) ⌝ }
     requires { ⌜ (1 ≤ r) × (r ≤ 64) ⌝ }
     ensures { λ b. ⌜ b ≡ free (memoryOf (now (state .entry))) r ⌝ }
 {
-    if machine::record_word(state, r, 0) == 1 {
+    if machine::record_word(state, r, machine::STATUS) == 1 {
         return false;
     }
-    machine::record_word(state, r, 6) == 0
+    machine::record_word(state, r, machine::HOLDER) == 0
 }
 
 // The frame of a call of procedure q of process r, whose arguments are the first n words of the buffer (01, A step).
@@ -164,7 +164,7 @@ fn start_once(c: &code::Slots, state: &mut [u8], page: &[u8], x: Context, r: usi
     requires { ⌜ Starting (now c) (now state) (now page) x r ⌝ }
     ensures { λ a. ⌜ Stepped a (now (state .exit)) (now (page .entry)) (carried (decoded (now (c .entry))) (memoryOf (now (state .entry))) (memoryOf (now (page .entry))) (contextIn x)) ⌝ }
 {
-    let status = machine::record_word(state, r, 0);
+    let status = machine::record_word(state, r, machine::STATUS);
     if status == 1 {
         return start_created(c, state, page, x, r);
     }

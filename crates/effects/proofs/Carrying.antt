@@ -10,8 +10,8 @@ use Rattle.basics.specs.Choice.{pick}
 use Rattle.table.specs.Table.{Table}
 use Rattle.table.specs.Entries.{stmtCount, stmtKind, stmtA, stmtB, stmtC, stmtD, stmtLink}
 use Rattle.machine.specs.Memory.{Memory, memoryOf, update}
-use Rattle.machine.specs.Layout.{failureAt}
-use Rattle.machine.specs.Lent.{Changed}
+use Rattle.machine.specs.Layout.{failureAt, pageWords, pageSize}
+use Rattle.machine.specs.Lent.{Changed, Becomes}
 use Rattle.machine.specs.Outcomes.{ok, fail, stuck}
 use Rattle.machine.specs.Entries.{Statement, if, while, when, cycle, noStatement, statementOf, stmtAt}
 use Rattle.machine.specs.Context.{Context}
@@ -102,7 +102,7 @@ module _ (T : Table) (m page : Memory) (x : Context) (g : perform T m page x (st
 module _ (T : Table) (s d s1 d1 : List ℕ) (x : Context) where
   pub stepped : (a : ℕ) (m page : Memory)
       → perform T (memoryOf s) (memoryOf d) x (stmtAt T (x .statement)) ≡ ok (effect a m page)
-      → Changed 17664 s1 m → Changed 4096 d1 page → Stepped a s1 d1 (carried T (memoryOf s) (memoryOf d) x)
+      → Becomes s1 m → Changed pageWords d1 page → Stepped a s1 d1 (carried T (memoryOf s) (memoryOf d) x)
   unfolding carried settled
   stepped a m page e i j =
       record {
@@ -112,7 +112,7 @@ module _ (T : Table) (s d s1 d1 : List ℕ) (x : Context) where
       }
 
   pub stepped-fail : (n r : ℕ) → perform T (memoryOf s) (memoryOf d) x (stmtAt T (x .statement)) ≡ fail n
-      → r ≡ n → Changed 17664 s1 (update (memoryOf s) failureAt n) → length d ≡ 8192
+      → r ≡ n → Becomes s1 (update (memoryOf s) failureAt n) → length d ≡ pageSize
       → Stepped r s1 d (carried T (memoryOf s) (memoryOf d) x)
   unfolding carried settled
   stepped-fail n r e k i j =
@@ -122,6 +122,6 @@ module _ (T : Table) (s d s1 d1 : List ℕ) (x : Context) where
         is = rw (e, k, i .is);
       }
 
-pub marked : (n r v : ℕ) (s s1 : List ℕ) → r ≡ n → v ≡ r → Changed 17664 s1 (update (memoryOf s) failureAt v)
-    → Changed 17664 s1 (update (memoryOf s) failureAt n)
+pub marked : (n r v : ℕ) (s s1 : List ℕ) → r ≡ n → v ≡ r → Becomes s1 (update (memoryOf s) failureAt v)
+    → Becomes s1 (update (memoryOf s) failureAt n)
 marked n r v s s1 e k i = rw (k, e) at i

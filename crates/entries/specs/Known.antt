@@ -1,3 +1,4 @@
+-- Trusted: public promises are said with these definitions.
 -- Refusal 3: 'unknown kind, mode or operator, or an unused field not 0' (01, Verdicts and The table). Assumes nothing.
 use Prim.Native.Nat.{ℕ, _+_}
 use mathlib.Core.Bool.{Bool, true}

@@ -9,7 +9,7 @@ use Rattle.table.specs.Reading.{Field}
 use Rattle.sizes.specs.Sizes.{moduleWords}
 use Rattle.machine.specs.Memory.{Memory, memoryOf, update}
 use Rattle.machine.specs.Layout.{location, recordAt, frameAt, worksAt, holderAt, linkAt}
-use Rattle.machine.specs.Lent.{Changed}
+use Rattle.machine.specs.Lent.{Becomes}
 use Rattle.machine.specs.Variables.{frameWords}
 use Rattle.machine.specs.Context.{contextOf}
 use Rattle.machine.specs.Calls.{frame, topAfter, pushed, popped}
@@ -86,38 +86,38 @@ called-kept m w v p f = record {
 
 module _ (T : Table) (s : List ℕ) (p q : ℕ) (ws : List ℕ) where
   pub pushes-local : (s1 : List ℕ) (works c size : ℕ) → works ≡ memoryOf s (worksAt p) → Field (firstStmt T q) c
-      → size ≡ frameWords T q → Changed 17664 s1 (entered (memoryOf s) p q works c size ws) → (page : Memory)
-      → Changed 17664 s1 (pushed T (memoryOf s) page (contextOf (memoryOf s) p) (memoryOf s) q (memoryOf s (worksAt p)) ws)
+      → size ≡ frameWords T q → Becomes s1 (entered (memoryOf s) p q works c size ws) → (page : Memory)
+      → Becomes s1 (pushed T (memoryOf s) page (contextOf (memoryOf s) p) (memoryOf s) q (memoryOf s (worksAt p)) ws)
   pushes-local s1 works c size i j k h page =
       rw (i, j .is, k, local-push T (memoryOf s) page p q (memoryOf s (worksAt p)) ws) at h
 
   pub pushes-process : (s1 s2 : List ℕ) (r c size : ℕ) → Field (firstStmt T q) c → size ≡ frameWords T q
-      → Changed 17664 s1 (update (memoryOf s) (holderAt r) p) → Changed 17664 s2 (entered (memoryOf s1) p q r c size ws)
+      → Becomes s1 (update (memoryOf s) (holderAt r) p) → Becomes s2 (entered (memoryOf s1) p q r c size ws)
       → (page : Memory)
-      → Changed 17664 s2 (pushed T (memoryOf s) page (contextOf (memoryOf s) p) (update (memoryOf s) (holderAt r) p) q r ws)
+      → Becomes s2 (pushed T (memoryOf s) page (contextOf (memoryOf s) p) (update (memoryOf s) (holderAt r) p) q r ws)
   pushes-process s1 s2 r c size j k g h page =
       rw (g .is, j .is, k, process-push T (memoryOf s) page p q r p ws) at h
 
 -- the frame fits, or the process is in a call, after a hold
-pub fits-held : (s s1 : List ℕ) (r v p n : ℕ) → Fits (memoryOf s) p n → Changed 17664 s1 (update (memoryOf s) (holderAt r) v)
+pub fits-held : (s s1 : List ℕ) (r v p n : ℕ) → Fits (memoryOf s) p n → Becomes s1 (update (memoryOf s) (holderAt r) v)
     → Fits (memoryOf s1) p n
 fits-held s s1 r v p n f c = rw (c .is) (fits-kept (memoryOf s) r v p n f)
 
-pub called-held : (s s1 : List ℕ) (w v p : ℕ) → Called (memoryOf s) p → Changed 17664 s1 (update (memoryOf s) (holderAt w) v)
+pub called-held : (s s1 : List ℕ) (w v p : ℕ) → Called (memoryOf s) p → Becomes s1 (update (memoryOf s) (holderAt w) v)
     → Called (memoryOf s1) p
 called-held s s1 w v p f c = rw (c .is) (called-kept (memoryOf s) w v p f)
 
-pub pops-local : (s s1 : List ℕ) (p c : ℕ) → Changed 17664 s1 (left (memoryOf s) p c) → (T : Table) (page : Memory)
-    → Changed 17664 s1 (popped T (memoryOf s) page (contextOf (memoryOf s) p) (memoryOf s) c)
+pub pops-local : (s s1 : List ℕ) (p c : ℕ) → Becomes s1 (left (memoryOf s) p c) → (T : Table) (page : Memory)
+    → Becomes s1 (popped T (memoryOf s) page (contextOf (memoryOf s) p) (memoryOf s) c)
 pops-local s s1 p c h T page = rw (local-pop T (memoryOf s) page p c) at h
 
 pub pops-process : (s s1 s2 : List ℕ) (p c w : ℕ) → Called (memoryOf s) p → w ≡ memoryOf s (worksAt p)
-    → Changed 17664 s1 (update (memoryOf s) (holderAt w) 0) → Changed 17664 s2 (left (memoryOf s1) p c) → (T : Table) (page : Memory)
-    → Changed 17664 s2
+    → Becomes s1 (update (memoryOf s) (holderAt w) 0) → Becomes s2 (left (memoryOf s1) p c) → (T : Table) (page : Memory)
+    → Becomes s2
     (popped T (memoryOf s) page (contextOf (memoryOf s) p) (update (memoryOf s) (holderAt (memoryOf s (worksAt p))) 0) c)
 pops-process s s1 s2 p c w f e g h T page =
     rw (← e) (rw (g .is, process-pop T (memoryOf s) page p w 0 c f) at h)
 
 pub starts-done : (T : Table) (s s1 ws : List ℕ) (r b c size : ℕ) → Field (firstStmt T b) c → size ≡ moduleWords T b
-    → Changed 17664 s1 (begun (memoryOf s) r c size ws) → Changed 17664 s1 (started T (memoryOf s) r b ws)
+    → Becomes s1 (begun (memoryOf s) r c size ws) → Becomes s1 (started T (memoryOf s) r b ws)
 starts-done T s s1 ws r b c size j k h = rw (j .is, k, starts T (memoryOf s) r b ws) at h

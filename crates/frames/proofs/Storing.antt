@@ -8,7 +8,7 @@ use borrow.Author.Needs.{needs}
 use lib.ListN.{length, getD, take}
 use lib.Seq.{take-suc, length-take-le}
 use Rattle.machine.specs.Memory.{Memory, memoryOf, update, store, clear, wordsAt}
-use Rattle.machine.specs.Lent.{Lent, Changed}
+use Rattle.machine.specs.Lent.{Lent, Changed, State, Becomes}
 use Rattle.machine.specs.Places.{SameOrApart, same, before, after}
 use Rattle.machine.proofs.Memories.{length-words, store-below, store-above}
 use Rattle.machine.proofs.Copies.{store-words, store-none, store-more, clear-none, clear-more, words-more}
@@ -21,17 +21,17 @@ still-lent n s m c = record { long = c .long }
 -- the loop that writes a buffer
 pub record Storing (m : Memory) (a n : ℕ) (b s : List ℕ) (k : ℕ) : Type 0 where
   pub upto : k ≤ n
-  pub is : Changed 17664 s (store m a (take k b))
+  pub is : Becomes s (store m a (take k b))
 
 module _ (s₀ : List ℕ) (a n : ℕ) (b : List ℕ) where
-  pub stores-none : Lent 17664 s₀ → Storing (memoryOf s₀) a n b s₀ 0
+  pub stores-none : State s₀ → Storing (memoryOf s₀) a n b s₀ 0
   stores-none l = record { upto = omega arith; is = record { long = l .long; is = sym (store-none (memoryOf s₀) a) } }
 
-  pub stores-lent : (s : List ℕ) (k : ℕ) → Storing (memoryOf s₀) a n b s k → Lent 17664 s
+  pub stores-lent : (s : List ℕ) (k : ℕ) → Storing (memoryOf s₀) a n b s k → State s
   stores-lent s k l = record { long = l .is .long }
 
   pub stores-more : (s r : List ℕ) (k : ℕ) → n ≤ length b → Storing (memoryOf s₀) a n b s k → k < n
-      → Changed 17664 r (update (memoryOf s) (a + k) (getD b k 0)) → Storing (memoryOf s₀) a n b r (k + 1)
+      → Becomes r (update (memoryOf s) (a + k) (getD b k 0)) → Storing (memoryOf s₀) a n b r (k + 1)
   stores-more s r k g l h c = record {
     upto = omega arith;
     is = record { long = c .long; is = c .is ∙ rw (l .is .is, add-one k, take-suc b k 0 below) (sym more) };
@@ -48,20 +48,20 @@ module _ (s₀ : List ℕ) (a n : ℕ) (b : List ℕ) where
           ≡ update (store (memoryOf s₀) a (take k b)) (a + k) (getD b k 0)
       more = rw long at (store-more (memoryOf s₀) a (take k b) (getD b k 0))
 
-  pub stores-all : (s : List ℕ) (k : ℕ) → Storing (memoryOf s₀) a n b s k → n ≤ k → Changed 17664 s (store (memoryOf s₀) a (take n b))
+  pub stores-all : (s : List ℕ) (k : ℕ) → Storing (memoryOf s₀) a n b s k → n ≤ k → Becomes s (store (memoryOf s₀) a (take n b))
   stores-all s k l h = let e : k ≡ n = omega (arith, l .upto) in rw e at (l .is)
 
 -- the loop that copies from one location to another
 pub record Moving (m : Memory) (from to n : ℕ) (s : List ℕ) (k : ℕ) : Type 0 where
   pub upto : k ≤ n
-  pub is : Changed 17664 s (store m to (wordsAt m from k))
+  pub is : Becomes s (store m to (wordsAt m from k))
 
 module _ (s₀ : List ℕ) (from to n : ℕ) where
-  pub moves-none : Lent 17664 s₀ → Moving (memoryOf s₀) from to n s₀ 0
+  pub moves-none : State s₀ → Moving (memoryOf s₀) from to n s₀ 0
   unfolding wordsAt
   moves-none l = record { upto = omega arith; is = record { long = l .long; is = sym (store-none (memoryOf s₀) to) } }
 
-  pub moves-lent : (s : List ℕ) (k : ℕ) → Moving (memoryOf s₀) from to n s k → Lent 17664 s
+  pub moves-lent : (s : List ℕ) (k : ℕ) → Moving (memoryOf s₀) from to n s k → State s
   moves-lent s k l = record { long = l .is .long }
 
   -- what is still to be read is as it was
@@ -71,7 +71,7 @@ module _ (s₀ : List ℕ) (from to n : ℕ) where
   unread c k (after l) h = store-above (memoryOf s₀) to _ (from + k) (omega (arith, length-words (memoryOf s₀) from k))
 
   pub moves-more : (s r : List ℕ) (k w : ℕ) → Direct from to n → Moving (memoryOf s₀) from to n s k → k < n → w ≡ memoryOf s (from + k)
-      → Changed 17664 r (update (memoryOf s) (to + k) w) → Moving (memoryOf s₀) from to n r (k + 1)
+      → Becomes r (update (memoryOf s) (to + k) w) → Moving (memoryOf s₀) from to n r (k + 1)
   moves-more s r k w d l h v c = record {
     upto = omega arith;
     is = record { long = c .long; is = c .is ∙ rw (v, l .is .is, unread _ k (d .apart) h, words-more (memoryOf s₀) from k) (sym more) };
@@ -82,33 +82,33 @@ module _ (s₀ : List ℕ) (from to n : ℕ) where
           ≡ update (store (memoryOf s₀) to (wordsAt (memoryOf s₀) from k)) (to + k) (memoryOf s₀ (from + k))
       more = rw (length-words (memoryOf s₀) from k) at (store-more (memoryOf s₀) to (wordsAt (memoryOf s₀) from k) (memoryOf s₀ (from + k)))
 
-  pub moves-all : (s : List ℕ) (k : ℕ) → Moving (memoryOf s₀) from to n s k → n ≤ k → Changed 17664 s (store (memoryOf s₀) to (wordsAt (memoryOf s₀) from n))
+  pub moves-all : (s : List ℕ) (k : ℕ) → Moving (memoryOf s₀) from to n s k → n ≤ k → Becomes s (store (memoryOf s₀) to (wordsAt (memoryOf s₀) from n))
   moves-all s k l h = let e : k ≡ n = omega (arith, l .upto) in rw e at (l .is)
 
 -- words that are copied to where they stand
-pub moves-itself : (s : List ℕ) (from to n : ℕ) → Lent 17664 s → from ≡ to → Changed 17664 s (store (memoryOf s) to (wordsAt (memoryOf s) from n))
+pub moves-itself : (s : List ℕ) (from to n : ℕ) → State s → from ≡ to → Becomes s (store (memoryOf s) to (wordsAt (memoryOf s) from n))
 moves-itself s from to n l e = record { long = l .long; is = sym (rw e (store-words (memoryOf s) to n)) }
 
 -- the loop that clears
 pub record Clearing (m : Memory) (a n : ℕ) (s : List ℕ) (k : ℕ) : Type 0 where
   pub upto : k ≤ n
-  pub is : Changed 17664 s (clear m a k)
+  pub is : Becomes s (clear m a k)
 
 module _ (s₀ : List ℕ) (a n : ℕ) where
-  pub clears-none : Lent 17664 s₀ → Clearing (memoryOf s₀) a n s₀ 0
+  pub clears-none : State s₀ → Clearing (memoryOf s₀) a n s₀ 0
   clears-none l = record { upto = omega arith; is = record { long = l .long; is = sym (clear-none (memoryOf s₀) a) } }
 
-  pub clears-lent : (s : List ℕ) (k : ℕ) → Clearing (memoryOf s₀) a n s k → Lent 17664 s
+  pub clears-lent : (s : List ℕ) (k : ℕ) → Clearing (memoryOf s₀) a n s k → State s
   clears-lent s k l = record { long = l .is .long }
 
   pub clears-more : (s r : List ℕ) (k : ℕ) → Clearing (memoryOf s₀) a n s k → k < n
-      → Changed 17664 r (update (memoryOf s) (a + k) 0) → Clearing (memoryOf s₀) a n r (k + 1)
+      → Becomes r (update (memoryOf s) (a + k) 0) → Clearing (memoryOf s₀) a n r (k + 1)
   clears-more s r k l h c = record {
     upto = omega arith;
     is = record { long = c .long; is = c .is ∙ rw (l .is .is) (sym (clear-more (memoryOf s₀) a k)) };
   }
 
-  pub clears-all : (s : List ℕ) (k : ℕ) → Clearing (memoryOf s₀) a n s k → n ≤ k → Changed 17664 s (clear (memoryOf s₀) a n)
+  pub clears-all : (s : List ℕ) (k : ℕ) → Clearing (memoryOf s₀) a n s k → n ≤ k → Becomes s (clear (memoryOf s₀) a n)
   clears-all s k l h = let e : k ≡ n = omega (arith, l .upto) in rw e at (l .is)
 
 pub ruleset copies = (moves-none, moves-lent, moves-more, moves-all, stores-none, stores-lent, stores-more, stores-all, clears-none, clears-lent, clears-more, clears-all, needs)

@@ -7,10 +7,10 @@ use borrow.Author.Tests.{eqb-true, eqb-false, ltb-true, ltb-false}
 use lib.Dec.{eqb, ltb}
 use lib.ListN.{length, replicate, take, length-replicate, getD-replicate}
 use lib.Seq.{length-take-le}
-use Rattle.basics.specs.Choice.{cases}
+use Rattle.basics.specs.Cases.{cases}
 use Rattle.machine.specs.Memory.{Memory, memoryOf, update, store, clear}
-use Rattle.machine.specs.Layout.{location, recordAt, statusAt, moduleAt, statementAt, frameAt, topAt, worksAt, holderAt, depthAt, createdAt, linkAt}
-use Rattle.machine.specs.Lent.{Changed}
+use Rattle.machine.specs.Layout.{location, recordAt, statusAt, moduleAt, statementAt, frameAt, topAt, worksAt, holderAt, depthAt, createdAt, linkAt, stateWords}
+use Rattle.machine.specs.Lent.{Becomes}
 use Rattle.machine.specs.Calls.{standing}
 use Rattle.machine.specs.Processes.{created}
 use Rattle.machine.proofs.Memories.{update-same, update-other, store-below, store-above, store-at, clear-below, clear-above, clear-at}
@@ -89,20 +89,20 @@ store-zeros m a n = fun-ext at
 -- ---- flat laws: what the code has done
 
 module _ (s : List ℕ) (p : ℕ) where
-  pub puts : (s1 s2 s3 : List ℕ) (a b c : ℕ) → Changed 17664 s1 (update (memoryOf s) (statementAt p) a)
-      → Changed 17664 s2 (update (memoryOf s1) (frameAt p) b) → Changed 17664 s3 (update (memoryOf s2) (topAt p) c)
-      → Changed 17664 s3 (placed (memoryOf s) p a b c)
+  pub puts : (s1 s2 s3 : List ℕ) (a b c : ℕ) → Becomes s1 (update (memoryOf s) (statementAt p) a)
+      → Becomes s2 (update (memoryOf s1) (frameAt p) b) → Becomes s3 (update (memoryOf s2) (topAt p) c)
+      → Becomes s3 (placed (memoryOf s) p a b c)
   unfolding placed
   puts s1 s2 s3 a b c c1 c2 c3 = record { long = c3 .long; is = rw (c3 .is, c2 .is, c1 .is) }
 
-  pub stood : (s3 s4 s5 : List ℕ) (a b c d e : ℕ) → Changed 17664 s3 (placed (memoryOf s) p a b c)
-      → Changed 17664 s4 (update (memoryOf s3) (worksAt p) d) → Changed 17664 s5 (update (memoryOf s4) (depthAt p) e)
-      → Changed 17664 s5 (standing (memoryOf s) p a b c d e)
+  pub stood : (s3 s4 s5 : List ℕ) (a b c d e : ℕ) → Becomes s3 (placed (memoryOf s) p a b c)
+      → Becomes s4 (update (memoryOf s3) (worksAt p) d) → Becomes s5 (update (memoryOf s4) (depthAt p) e)
+      → Becomes s5 (standing (memoryOf s) p a b c d e)
   unfolding standing placed
   stood s3 s4 s5 a b c d e c3 c4 c5 = record { long = c5 .long; is = rw (c5 .is, c4 .is, c3 .is) }
 
-  pub ends : (s1 s2 : List ℕ) → Changed 17664 s1 (update (memoryOf s) (statusAt p) 3)
-      → Changed 17664 s2 (update (memoryOf s1) (holderAt p) 0) → Changed 17664 s2 (ended (memoryOf s) p)
+  pub ends : (s1 s2 : List ℕ) → Becomes s1 (update (memoryOf s) (statusAt p) 3)
+      → Becomes s2 (update (memoryOf s1) (holderAt p) 0) → Becomes s2 (ended (memoryOf s) p)
   unfolding ended
   ends s1 s2 c1 c2 = record { long = c2 .long; is = rw (c2 .is, c1 .is) }
 
@@ -133,10 +133,10 @@ store-four m a x y z q =
         ≡ store (update (update (update (update m a x) (a + 1) y) (a + 2) z) (a + 3) q) (a + 3 + 1) []
     fourth = store-cons (update (update (update m a x) (a + 1) y) (a + 2) z) (a + 3) q []
 
-pub links : (s s1 s2 s3 s4 : List ℕ) (p f x y z q : ℕ) → Changed 17664 s1 (update (memoryOf s) (location p f) x)
-    → Changed 17664 s2 (update (memoryOf s1) (location p (f + 1)) y) → Changed 17664 s3 (update (memoryOf s2) (location p (f + 2)) z)
-    → Changed 17664 s4 (update (memoryOf s3) (location p (f + 3)) q)
-    → Changed 17664 s4 (store (memoryOf s) (location p f) (linked x y z q []))
+pub links : (s s1 s2 s3 s4 : List ℕ) (p f x y z q : ℕ) → Becomes s1 (update (memoryOf s) (location p f) x)
+    → Becomes s2 (update (memoryOf s1) (location p (f + 1)) y) → Becomes s3 (update (memoryOf s2) (location p (f + 2)) z)
+    → Becomes s4 (update (memoryOf s3) (location p (f + 3)) q)
+    → Becomes s4 (store (memoryOf s) (location p f) (linked x y z q []))
 links s s1 s2 s3 s4 p f x y z q c1 c2 c3 c4 = record {
   long = c4 .long;
   is =
@@ -151,22 +151,22 @@ store-padded m a n ws =
     store-append m a ws (replicate (n - length ws) 0)
     ∙ store-zeros (store m a ws) (a + length ws) (n - length ws)
 
-pub pads : (s s1 s2 b : List ℕ) (size n at : ℕ) → n ≤ length b → Changed 17664 s1 (store (memoryOf s) at (take n b))
-    → Changed 17664 s2 (clear (memoryOf s1) (at + n) (size - n))
-    → Changed 17664 s2 (store (memoryOf s) at (padded (take n b) size))
+pub pads : (s s1 s2 b : List ℕ) (size n at : ℕ) → n ≤ length b → Becomes s1 (store (memoryOf s) at (take n b))
+    → Becomes s2 (clear (memoryOf s1) (at + n) (size - n))
+    → Becomes s2 (store (memoryOf s) at (padded (take n b) size))
 pads s s1 s2 b size n at h c1 c2 =
     let long : length (take n b) ≡ n = length-take-le n b h in
     let whole = rw long at (store-padded (memoryOf s) at size (take n b)) in
     record { long = c2 .long; is = c2 .is ∙ rw (c1 .is) (sym whole) }
 
 pub links-back : (s s1 : List ℕ) (p f x y z q : ℕ) → x ≡ memoryOf s (frameAt p) → y ≡ memoryOf s (statementAt p)
-    → z ≡ memoryOf s (worksAt p) → Changed 17664 s1 (store (memoryOf s) (location p f) (linked x y z q []))
-    → Changed 17664 s1 (framed (memoryOf s) p f q [])
+    → z ≡ memoryOf s (worksAt p) → Becomes s1 (store (memoryOf s) (location p f) (linked x y z q []))
+    → Becomes s1 (framed (memoryOf s) p f q [])
 unfolding framed
 links-back s s1 p f x y z q i j k c = rw (← i, ← j, ← k) c
 
-pub frames : (s s1 s2 ws : List ℕ) (p f q at : ℕ) → at ≡ location p f → Changed 17664 s1 (framed (memoryOf s) p f q [])
-    → Changed 17664 s2 (store (memoryOf s1) (at + 4) ws) → Changed 17664 s2 (framed (memoryOf s) p f q ws)
+pub frames : (s s1 s2 ws : List ℕ) (p f q at : ℕ) → at ≡ location p f → Becomes s1 (framed (memoryOf s) p f q [])
+    → Becomes s2 (store (memoryOf s1) (at + 4) ws) → Becomes s2 (framed (memoryOf s) p f q ws)
 unfolding framed linked
 frames s s1 s2 ws p f q at e c1 c2 = record { long = c2 .long; is = c2 .is ∙ rw (c1 .is, e) (sym whole) }
   where
@@ -177,52 +177,52 @@ frames s s1 s2 ws p f q at e c1 c2 = record { long = c2 .long; is = c2 .is ∙ r
     whole = store-append (memoryOf s) (location p f) four ws
 
 pub enters : (s s1 s2 ws : List ℕ) (p q r c size top depth : ℕ) → top ≡ memoryOf s (topAt p) → depth ≡ memoryOf s (depthAt p)
-    → Changed 17664 s1 (framed (memoryOf s) p top q (padded ws size))
-    → Changed 17664 s2 (standing (memoryOf s1) p c top (top + 4 + size) r (depth + 1))
-    → Changed 17664 s2 (entered (memoryOf s) p q r c size ws)
+    → Becomes s1 (framed (memoryOf s) p top q (padded ws size))
+    → Becomes s2 (standing (memoryOf s1) p c top (top + 4 + size) r (depth + 1))
+    → Becomes s2 (entered (memoryOf s) p q r c size ws)
 unfolding entered
 enters s s1 s2 ws p q r c size top depth i j c1 c2 =
     record { long = c2 .long; is = rw (← i, ← j) (c2 .is ∙ rw (c1 .is)) }
 
 pub leaves : (s s1 : List ℕ) (p c f depth caller works : ℕ) → f ≡ memoryOf s (frameAt p) → depth ≡ memoryOf s (depthAt p)
     → caller ≡ memoryOf s (location p f) → works ≡ memoryOf s (location p (f + 2))
-    → Changed 17664 s1 (standing (memoryOf s) p (c + 1) caller f works (depth - 1)) → Changed 17664 s1 (left (memoryOf s) p c)
+    → Becomes s1 (standing (memoryOf s) p (c + 1) caller f works (depth - 1)) → Becomes s1 (left (memoryOf s) p c)
 unfolding left linkAt
 leaves s s1 p c f depth caller works i j k l h = let z : f + 0 ≡ f = omega arith in rw (← i, ← j, z, ← k, ← l) h
 
-pub wipes : (s s1 s2 : List ℕ) (n a b : ℕ) → a ≡ location n 0 → b ≡ recordAt n 0 → Changed 17664 s1 (clear (memoryOf s) a 256)
-    → Changed 17664 s2 (clear (memoryOf s1) b 20) → Changed 17664 s2 (wiped (memoryOf s) n)
+pub wipes : (s s1 s2 : List ℕ) (n a b : ℕ) → a ≡ location n 0 → b ≡ recordAt n 0 → Becomes s1 (clear (memoryOf s) a 256)
+    → Becomes s2 (clear (memoryOf s1) b 20) → Becomes s2 (wiped (memoryOf s) n)
 unfolding wiped
 wipes s s1 s2 n a b i j c1 c2 = record { long = c2 .long; is = rw (c2 .is, c1 .is, i, j) }
 
-pub creates : (s s1 s2 s3 s4 : List ℕ) (n μ : ℕ) → Changed 17664 s1 (wiped (memoryOf s) n)
-    → Changed 17664 s2 (update (memoryOf s1) (statusAt n) 1) → Changed 17664 s3 (update (memoryOf s2) (moduleAt n) μ)
-    → Changed 17664 s4 (update (memoryOf s3) createdAt n) → Changed 17664 s4 (created (memoryOf s) n μ)
+pub creates : (s s1 s2 s3 s4 : List ℕ) (n μ : ℕ) → Becomes s1 (wiped (memoryOf s) n)
+    → Becomes s2 (update (memoryOf s1) (statusAt n) 1) → Becomes s3 (update (memoryOf s2) (moduleAt n) μ)
+    → Becomes s4 (update (memoryOf s3) createdAt n) → Becomes s4 (created (memoryOf s) n μ)
 unfolding created wiped
 creates s s1 s2 s3 s4 n μ c1 c2 c3 c4 = record { long = c4 .long; is = rw (c4 .is, c3 .is, c2 .is, c1 .is) }
 
-pub gives : (s s1 s2 s3 ws : List ℕ) (r at : ℕ) → at ≡ location r 0 → Changed 17664 s1 (store (memoryOf s) at ws)
-    → Changed 17664 s2 (update (memoryOf s1) (statusAt r) 2) → Changed 17664 s3 (update (memoryOf s2) (holderAt r) r)
-    → Changed 17664 s3 (given (memoryOf s) r ws)
+pub gives : (s s1 s2 s3 ws : List ℕ) (r at : ℕ) → at ≡ location r 0 → Becomes s1 (store (memoryOf s) at ws)
+    → Becomes s2 (update (memoryOf s1) (statusAt r) 2) → Becomes s3 (update (memoryOf s2) (holderAt r) r)
+    → Becomes s3 (given (memoryOf s) r ws)
 unfolding given
 gives s s1 s2 s3 ws r at i c1 c2 c3 = record { long = c3 .long; is = rw (c3 .is, c2 .is, c1 .is, i) }
 
-pub begins : (s s1 s2 ws : List ℕ) (r c size : ℕ) → Changed 17664 s1 (given (memoryOf s) r ws)
-    → Changed 17664 s2 (standing (memoryOf s1) r c 0 size r 0) → Changed 17664 s2 (begun (memoryOf s) r c size ws)
+pub begins : (s s1 s2 ws : List ℕ) (r c size : ℕ) → Becomes s1 (given (memoryOf s) r ws)
+    → Becomes s2 (standing (memoryOf s1) r c 0 size r 0) → Becomes s2 (begun (memoryOf s) r c size ws)
 unfolding begun
 begins s s1 s2 ws r c size c1 c2 = record { long = c2 .long; is = c2 .is ∙ rw (c1 .is) }
 
 -- the record of a process lies in the state
-pub record-room : (n b : ℕ) → 1 ≤ n → n ≤ 64 → b ≡ recordAt n 0 → b + 20 ≤ 17664
+pub record-room : (n b : ℕ) → 1 ≤ n → n ≤ 64 → b ≡ recordAt n 0 → b + 20 ≤ stateWords
 unfolding recordAt
 record-room n b h k e = omega arith
 
 -- ---- one write after another
 
 module _ (s1 s2 : List ℕ) (m : Memory) (i v : ℕ) where
-  pub then-update : Changed 17664 s1 m → Changed 17664 s2 (update (memoryOf s1) i v) → Changed 17664 s2 (update m i v)
+  pub then-update : Becomes s1 m → Becomes s2 (update (memoryOf s1) i v) → Becomes s2 (update m i v)
   then-update c1 c2 = record { long = c2 .long; is = rw (c2 .is, c1 .is) }
 
-  pub then-updates : (s3 : List ℕ) (j u : ℕ) → Changed 17664 s1 m → Changed 17664 s2 (update (memoryOf s1) i v)
-      → Changed 17664 s3 (update (memoryOf s2) j u) → Changed 17664 s3 (update (update m i v) j u)
+  pub then-updates : (s3 : List ℕ) (j u : ℕ) → Becomes s1 m → Becomes s2 (update (memoryOf s1) i v)
+      → Becomes s3 (update (memoryOf s2) j u) → Becomes s3 (update (update m i v) j u)
   then-updates s3 j u c1 c2 c3 = record { long = c3 .long; is = rw (c3 .is, c2 .is, c1 .is) }

@@ -1,17 +1,18 @@
+-- Inner: for code and proofs only; no public promise is said with these definitions.
 -- What statements write, in the numbers that their code has at hand; proofs/Meanings.antt carries them to the definitions of `machine`.
 -- Assumes nothing.
 use Prim.Native.Nat.{ℕ, _+_, _-_, _≤_, _<_}
 use mathlib.Core.List.{List, _∷_, _++_}
 use lib.ListN.{length, replicate}
 use Rattle.machine.specs.Memory.{Memory, update, store, clear}
-use Rattle.machine.specs.Layout.{location, recordAt, statusAt, statementAt, frameAt, topAt, worksAt, holderAt, depthAt, callerFrame, callerWorks}
+use Rattle.machine.specs.Layout.{location, recordAt, statusAt, statementAt, frameAt, topAt, worksAt, holderAt, depthAt, callerFrame, callerWorks, stateWords}
 use Rattle.machine.specs.Places.{SameOrApart}
 use Rattle.machine.specs.Calls.{standing}
 
 -- n words of a state from one location on can be copied to another, one after the other
 pub record Direct (from to n : ℕ) : Type 0 where
-  pub source : from + n ≤ 17664
-  pub target : to + n ≤ 17664
+  pub source : from + n ≤ stateWords
+  pub target : to + n ≤ stateWords
   pub apart : SameOrApart from to n
 
 -- process p is at a statement, its innermost frame and its first free word are these

@@ -7,8 +7,8 @@ ghost use Rattle.table.specs.Table.{Table};
 ghost use Rattle.sizes.specs.Sizes.{moduleWords};
 ghost use Rattle.code.specs.Code.{decoded};
 ghost use Rattle.machine.specs.Memory.{Memory, memoryOf, update, store, clear, wordsAt};
-ghost use Rattle.machine.specs.Layout.{location, statementAt, worksAt, holderAt, failureAt};
-ghost use Rattle.machine.specs.Lent.{Lent, Changed};
+ghost use Rattle.machine.specs.Layout.{location, statementAt, worksAt, holderAt, failureAt, stateWords};
+ghost use Rattle.machine.specs.Lent.{State, Becomes};
 ghost use Rattle.machine.specs.Variables.{frameWords};
 ghost use Rattle.machine.specs.Context.{contextOf};
 ghost use Rattle.machine.specs.Calls.{standing, pushed, popped};
@@ -17,36 +17,36 @@ ghost use Rattle.frames.specs.Frames.{Direct, placed, padded, linked, fr
 
 // The first n words of the buffer, to the words from `at` on.
 pub fn copy_words(state: &mut [u8], at: usize, n: usize, words: &[u16])
-    requires { ⌜ Lent 17664 (now state) ⌝ }
-    requires { ⌜ (at + n ≤ 17664) × (n ≤ length (now words)) ⌝ }
-    ensures { λ _. ⌜ Changed 17664 (now (state .exit)) (store (memoryOf (now (state .entry))) at (take n (now (words .entry)))) ⌝ }
+    requires { ⌜ State (now state) ⌝ }
+    requires { ⌜ (at + n ≤ stateWords) × (n ≤ length (now words)) ⌝ }
+    ensures { λ _. ⌜ Becomes (now (state .exit)) (store (memoryOf (now (state .entry))) at (take n (now (words .entry)))) ⌝ }
 {
     let mut k: usize = 0;
     while k < n {
-        machine::set_word(state, 17664, at + k, words[k]);
+        machine::set_word(state, machine::STATE_WORDS, at + k, words[k]);
         k += 1;
     }
 }
 
 // The n words from `from` on, to `to`, one after the other: no word is read after another was stored in its place (02, d).
 fn copy_across(state: &mut [u8], from: usize, to: usize, n: usize)
-    requires { ⌜ Lent 17664 (now state) ⌝ }
+    requires { ⌜ State (now state) ⌝ }
     requires { ⌜ Direct from to n ⌝ }
-    ensures { λ _. ⌜ Changed 17664 (now (state .exit)) (store (memoryOf (now (state .entry))) to (wordsAt (memoryOf (now (state .entry))) from n)) ⌝ }
+    ensures { λ _. ⌜ Becomes (now (state .exit)) (store (memoryOf (now (state .entry))) to (wordsAt (memoryOf (now (state .entry))) from n)) ⌝ }
 {
     let mut k = 0;
     while k < n {
-        let w = machine::word_of(state, 17664, from + k);
-        machine::set_word(state, 17664, to + k, w);
+        let w = machine::word_of(state, machine::STATE_WORDS, from + k);
+        machine::set_word(state, machine::STATE_WORDS, to + k, w);
         k += 1;
     }
 }
 
 // The n words from `from` on, to `to`, directly: the two are the same words, and there is nothing to do, or share none.
 pub fn move_words(state: &mut [u8], from: usize, to: usize, n: usize)
-    requires { ⌜ Lent 17664 (now state) ⌝ }
+    requires { ⌜ State (now state) ⌝ }
     requires { ⌜ Direct from to n ⌝ }
-    ensures { λ _. ⌜ Changed 17664 (now (state .exit)) (store (memoryOf (now (state .entry))) to (wordsAt (memoryOf (now (state .entry))) from n)) ⌝ }
+    ensures { λ _. ⌜ Becomes (now (state .exit)) (store (memoryOf (now (state .entry))) to (wordsAt (memoryOf (now (state .entry))) from n)) ⌝ }
 {
     if from == to {
         return;
@@ -56,61 +56,61 @@ pub fn move_words(state: &mut [u8], from: usize, to: usize, n: usize)
 
 // Makes the n words from `at` on 0.
 pub fn clear_words(state: &mut [u8], at: usize, n: usize)
-    requires { ⌜ Lent 17664 (now state) ⌝ }
-    requires { ⌜ at + n ≤ 17664 ⌝ }
-    ensures { λ _. ⌜ Changed 17664 (now (state .exit)) (clear (memoryOf (now (state .entry))) at n) ⌝ }
+    requires { ⌜ State (now state) ⌝ }
+    requires { ⌜ at + n ≤ stateWords ⌝ }
+    ensures { λ _. ⌜ Becomes (now (state .exit)) (clear (memoryOf (now (state .entry))) at n) ⌝ }
 {
     let mut k: usize = 0;
     while k < n {
-        machine::set_word(state, 17664, at + k, 0);
+        machine::set_word(state, machine::STATE_WORDS, at + k, 0);
         k += 1;
     }
 }
 
 // Process p goes on at statement c.
 pub fn go_to(state: &mut [u8], p: usize, c: u16)
-    requires { ⌜ Lent 17664 (now state) ⌝ }
+    requires { ⌜ State (now state) ⌝ }
     requires { ⌜ (1 ≤ p) × (p ≤ 64) ⌝ }
-    ensures { λ _. ⌜ Changed 17664 (now (state .exit)) (update (memoryOf (now (state .entry))) (statementAt p) c) ⌝ }
+    ensures { λ _. ⌜ Becomes (now (state .exit)) (update (memoryOf (now (state .entry))) (statementAt p) c) ⌝ }
 {
-    machine::set_record_word(state, p, 2, c);
+    machine::set_record_word(state, p, machine::STATEMENT, c);
 }
 
 // Process v holds the variables of process w; 0 for none.
 pub fn hold(state: &mut [u8], w: usize, v: u16)
-    requires { ⌜ Lent 17664 (now state) ⌝ }
+    requires { ⌜ State (now state) ⌝ }
     requires { ⌜ (1 ≤ w) × (w ≤ 64) ⌝ }
-    ensures { λ _. ⌜ Changed 17664 (now (state .exit)) (update (memoryOf (now (state .entry))) (holderAt w) v) ⌝ }
+    ensures { λ _. ⌜ Becomes (now (state .exit)) (update (memoryOf (now (state .entry))) (holderAt w) v) ⌝ }
 {
-    machine::set_record_word(state, w, 6, v);
+    machine::set_record_word(state, w, machine::HOLDER, v);
 }
 
 // The run has failed by number n.
 pub fn mark_failure(state: &mut [u8], n: u16)
-    requires { ⌜ Lent 17664 (now state) ⌝ }
-    ensures { λ _. ⌜ Changed 17664 (now (state .exit)) (update (memoryOf (now (state .entry))) failureAt n) ⌝ }
+    requires { ⌜ State (now state) ⌝ }
+    ensures { λ _. ⌜ Becomes (now (state .exit)) (update (memoryOf (now (state .entry))) failureAt n) ⌝ }
 {
-    machine::set_record_word(state, 1, 9, n);
+    machine::set_record_word(state, 1, machine::FAILURE, n);
 }
 
 // Process p has ended.
 pub fn end_process(state: &mut [u8], p: usize)
-    requires { ⌜ Lent 17664 (now state) ⌝ }
+    requires { ⌜ State (now state) ⌝ }
     requires { ⌜ (1 ≤ p) × (p ≤ 64) ⌝ }
-    ensures { λ _. ⌜ Changed 17664 (now (state .exit)) (ended (memoryOf (now (state .entry))) p) ⌝ }
+    ensures { λ _. ⌜ Becomes (now (state .exit)) (ended (memoryOf (now (state .entry))) p) ⌝ }
 {
-    machine::set_record_word(state, p, 0, 3);
+    machine::set_record_word(state, p, machine::STATUS, 3);
     hold(state, p, 0);
 }
 
 fn place(state: &mut [u8], p: usize, statement: u16, frame: u16, top: u16)
-    requires { ⌜ Lent 17664 (now state) ⌝ }
+    requires { ⌜ State (now state) ⌝ }
     requires { ⌜ (1 ≤ p) × (p ≤ 64) ⌝ }
-    ensures { λ _. ⌜ Changed 17664 (now (state .exit)) (placed (memoryOf (now (state .entry))) p statement frame top) ⌝ }
+    ensures { λ _. ⌜ Becomes (now (state .exit)) (placed (memoryOf (now (state .entry))) p statement frame top) ⌝ }
 {
     go_to(state, p, statement);
-    machine::set_record_word(state, p, 3, frame);
-    machine::set_record_word(state, p, 4, top);
+    machine::set_record_word(state, p, machine::FRAME, frame);
+    machine::set_record_word(state, p, machine::TOP, top);
 }
 
 // Where process p stands.
@@ -123,20 +123,20 @@ pub fn stand(
     works: u16,
     depth: u16,
 )
-    requires { ⌜ Lent 17664 (now state) ⌝ }
+    requires { ⌜ State (now state) ⌝ }
     requires { ⌜ (1 ≤ p) × (p ≤ 64) ⌝ }
-    ensures { λ _. ⌜ Changed 17664 (now (state .exit)) (standing (memoryOf (now (state .entry))) p statement frame top works depth) ⌝ }
+    ensures { λ _. ⌜ Becomes (now (state .exit)) (standing (memoryOf (now (state .entry))) p statement frame top works depth) ⌝ }
 {
     place(state, p, statement, frame, top);
-    machine::set_record_word(state, p, 5, works);
-    machine::set_record_word(state, p, 7, depth);
+    machine::set_record_word(state, p, machine::WORKS, works);
+    machine::set_record_word(state, p, machine::DEPTH, depth);
 }
 
 // The links of a frame at f in the area of process p.
 fn link(state: &mut [u8], p: usize, f: usize, frame: u16, statement: u16, works: u16, q: u16)
-    requires { ⌜ Lent 17664 (now state) ⌝ }
+    requires { ⌜ State (now state) ⌝ }
     requires { ⌜ (1 ≤ p) × ((p ≤ 64) × (f + 4 ≤ 256)) ⌝ }
-    ensures { λ _. ⌜ Changed 17664 (now (state .exit)) (store (memoryOf (now (state .entry))) (location p f) (linked frame statement works q [])) ⌝ }
+    ensures { λ _. ⌜ Becomes (now (state .exit)) (store (memoryOf (now (state .entry))) (location p f) (linked frame statement works q [])) ⌝ }
 {
     machine::set_area_word(state, p, f, frame);
     machine::set_area_word(state, p, f + 1, statement);
@@ -146,9 +146,9 @@ fn link(state: &mut [u8], p: usize, f: usize, frame: u16, statement: u16, works:
 
 // The first n words of the buffer, then zeros: `size` words from `at` on.
 fn pad(state: &mut [u8], at: usize, size: usize, n: usize, words: &[u16])
-    requires { ⌜ Lent 17664 (now state) ⌝ }
-    requires { ⌜ (at + size ≤ 17664) × ((n ≤ size) × (n ≤ length (now words))) ⌝ }
-    ensures { λ _. ⌜ Changed 17664 (now (state .exit)) (store (memoryOf (now (state .entry))) at (padded (take n (now (words .entry))) size)) ⌝ }
+    requires { ⌜ State (now state) ⌝ }
+    requires { ⌜ (at + size ≤ stateWords) × ((n ≤ size) × (n ≤ length (now words))) ⌝ }
+    ensures { λ _. ⌜ Becomes (now (state .exit)) (store (memoryOf (now (state .entry))) at (padded (take n (now (words .entry))) size)) ⌝ }
 {
     copy_words(state, at, n, words);
     clear_words(state, at + n, size - n);
@@ -156,22 +156,22 @@ fn pad(state: &mut [u8], at: usize, size: usize, n: usize, words: &[u16])
 
 // The links of a frame for procedure q at f: where process p stands.
 fn link_back(state: &mut [u8], p: usize, f: usize, q: u16)
-    requires { ⌜ Lent 17664 (now state) ⌝ }
+    requires { ⌜ State (now state) ⌝ }
     requires { ⌜ (1 ≤ p) × ((p ≤ 64) × (f + 4 ≤ 256)) ⌝ }
-    ensures { λ _. ⌜ Changed 17664 (now (state .exit)) (framed (memoryOf (now (state .entry))) p f q []) ⌝ }
+    ensures { λ _. ⌜ Becomes (now (state .exit)) (framed (memoryOf (now (state .entry))) p f q []) ⌝ }
 {
-    let frame = machine::record_word(state, p, 3);
-    let statement = machine::record_word(state, p, 2);
-    let works = machine::record_word(state, p, 5);
+    let frame = machine::record_word(state, p, machine::FRAME);
+    let statement = machine::record_word(state, p, machine::STATEMENT);
+    let works = machine::record_word(state, p, machine::WORKS);
     link(state, p, f, frame, statement, works, q);
 }
 
 // The frame of a call: the links, the argument words, zeros.
 fn put_frame(state: &mut [u8], p: usize, f: usize, q: u16, size: usize, n: usize, words: &[u16])
-    requires { ⌜ Lent 17664 (now state) ⌝ }
+    requires { ⌜ State (now state) ⌝ }
     requires { ⌜ (1 ≤ p) × ((p ≤ 64) × (f + 4 + size ≤ 256)) ⌝ }
     requires { ⌜ (n ≤ size) × (n ≤ length (now words)) ⌝ }
-    ensures { λ _. ⌜ Changed 17664 (now (state .exit)) (framed (memoryOf (now (state .entry))) p f q (padded (take n (now (words .entry))) size)) ⌝ }
+    ensures { λ _. ⌜ Becomes (now (state .exit)) (framed (memoryOf (now (state .entry))) p f q (padded (take n (now (words .entry))) size)) ⌝ }
 {
     let at = machine::location_of(p, f);
     link_back(state, p, f, q);
@@ -190,13 +190,13 @@ pub fn enter(
     n: usize,
     words: &[u16],
 )
-    requires { ⌜ Lent 17664 (now state) ⌝ }
+    requires { ⌜ State (now state) ⌝ }
     requires { ⌜ Fits (memoryOf (now state)) p size ⌝ }
     requires { ⌜ (n ≤ size) × (n ≤ length (now words)) ⌝ }
-    ensures { λ _. ⌜ Changed 17664 (now (state .exit)) (entered (memoryOf (now (state .entry))) p q r c size (take n (now (words .entry)))) ⌝ }
+    ensures { λ _. ⌜ Becomes (now (state .exit)) (entered (memoryOf (now (state .entry))) p q r c size (take n (now (words .entry)))) ⌝ }
 {
-    let top = machine::record_word(state, p, 4);
-    let depth = machine::record_word(state, p, 7);
+    let top = machine::record_word(state, p, machine::TOP);
+    let depth = machine::record_word(state, p, machine::DEPTH);
     put_frame(state, p, top as usize, q, size, n, words);
     stand(
         state,
@@ -211,13 +211,13 @@ pub fn enter(
 
 // Process p leaves the procedure of its innermost call, and stands after the call statement c.
 pub fn leave(state: &mut [u8], p: usize, c: u16)
-    requires { ⌜ Lent 17664 (now state) ⌝ }
+    requires { ⌜ State (now state) ⌝ }
     requires { ⌜ Called (memoryOf (now state)) p ⌝ }
     requires { ⌜ c < 65535 ⌝ }
-    ensures { λ _. ⌜ Changed 17664 (now (state .exit)) (left (memoryOf (now (state .entry))) p c) ⌝ }
+    ensures { λ _. ⌜ Becomes (now (state .exit)) (left (memoryOf (now (state .entry))) p c) ⌝ }
 {
-    let frame = machine::record_word(state, p, 3);
-    let depth = machine::record_word(state, p, 7);
+    let frame = machine::record_word(state, p, machine::FRAME);
+    let depth = machine::record_word(state, p, machine::DEPTH);
     let caller = machine::area_word(state, p, frame as usize);
     let works = machine::area_word(state, p, frame as usize + 2);
     stand(state, p, c + 1, caller, frame, works, depth - 1);
@@ -225,9 +225,9 @@ pub fn leave(state: &mut [u8], p: usize, c: u16)
 
 // Makes the area and the control record of process n 0.
 fn wipe(state: &mut [u8], n: usize)
-    requires { ⌜ Lent 17664 (now state) ⌝ }
+    requires { ⌜ State (now state) ⌝ }
     requires { ⌜ (1 ≤ n) × (n ≤ 64) ⌝ }
-    ensures { λ _. ⌜ Changed 17664 (now (state .exit)) (wiped (memoryOf (now (state .entry))) n) ⌝ }
+    ensures { λ _. ⌜ Becomes (now (state .exit)) (wiped (memoryOf (now (state .entry))) n) ⌝ }
 {
     let area = machine::location_of(n, 0);
     let record = machine::record_of(n, 0);
@@ -237,35 +237,35 @@ fn wipe(state: &mut [u8], n: usize)
 
 // Process n is created, of module `block`.
 pub fn create(state: &mut [u8], n: usize, block: u16)
-    requires { ⌜ Lent 17664 (now state) ⌝ }
+    requires { ⌜ State (now state) ⌝ }
     requires { ⌜ (1 ≤ n) × (n ≤ 64) ⌝ }
-    ensures { λ _. ⌜ Changed 17664 (now (state .exit)) (created (memoryOf (now (state .entry))) n block) ⌝ }
+    ensures { λ _. ⌜ Becomes (now (state .exit)) (created (memoryOf (now (state .entry))) n block) ⌝ }
 {
     wipe(state, n);
-    machine::set_record_word(state, n, 0, 1);
-    machine::set_record_word(state, n, 1, block);
-    machine::set_record_word(state, 1, 8, n as u16);
+    machine::set_record_word(state, n, machine::STATUS, 1);
+    machine::set_record_word(state, n, machine::MODULE, block);
+    machine::set_record_word(state, 1, machine::CREATED, n as u16);
 }
 
 // Process r has its parameters, is started and holds its own variables.
 fn give(state: &mut [u8], r: usize, n: usize, words: &[u16])
-    requires { ⌜ Lent 17664 (now state) ⌝ }
+    requires { ⌜ State (now state) ⌝ }
     requires { ⌜ (1 ≤ r) × (r ≤ 64) ⌝ }
     requires { ⌜ (n ≤ 256) × (n ≤ length (now words)) ⌝ }
-    ensures { λ _. ⌜ Changed 17664 (now (state .exit)) (given (memoryOf (now (state .entry))) r (take n (now (words .entry)))) ⌝ }
+    ensures { λ _. ⌜ Becomes (now (state .exit)) (given (memoryOf (now (state .entry))) r (take n (now (words .entry)))) ⌝ }
 {
     let at = machine::location_of(r, 0);
     copy_words(state, at, n, words);
-    machine::set_record_word(state, r, 0, 2);
+    machine::set_record_word(state, r, machine::STATUS, 2);
     hold(state, r, r as u16);
 }
 
 // Process r begins at statement c; its variables take `size` words, of which the first n are those of the buffer.
 pub fn begin(state: &mut [u8], r: usize, c: u16, size: u16, n: usize, words: &[u16])
-    requires { ⌜ Lent 17664 (now state) ⌝ }
+    requires { ⌜ State (now state) ⌝ }
     requires { ⌜ (1 ≤ r) × (r ≤ 64) ⌝ }
     requires { ⌜ (n ≤ 256) × (n ≤ length (now words)) ⌝ }
-    ensures { λ _. ⌜ Changed 17664 (now (state .exit)) (begun (memoryOf (now (state .entry))) r c size (take n (now (words .entry)))) ⌝ }
+    ensures { λ _. ⌜ Becomes (now (state .exit)) (begun (memoryOf (now (state .entry))) r c size (take n (now (words .entry)))) ⌝ }
 {
     give(state, r, n, words);
     stand(state, r, c, 0, size, r as u16, 0);
@@ -281,14 +281,14 @@ pub fn push_local(
     n: usize,
     words: &[u16],
 )
-    requires { ⌜ Lent 17664 (now state) ⌝ }
+    requires { ⌜ State (now state) ⌝ }
     requires { ⌜ Fits (memoryOf (now state)) p size ⌝ }
     requires { ⌜ (n ≤ size) × ((n ≤ length (now words)) × (q < 65536)) ⌝ }
     requires { ⌜ size ≡ frameWords (decoded (now c)) q ⌝ }
-    ensures { λ _. ⌜ ((page : Memory) → Changed 17664 (now (state .exit)) (pushed (decoded (now (c .entry))) (memoryOf (now (state .entry))) page (contextOf (memoryOf (now (state .entry))) p) (memoryOf (now (state .entry))) q (memoryOf (now (state .entry)) (worksAt p)) (take n (now (words .entry))))) ⌝ }
+    ensures { λ _. ⌜ ((page : Memory) → Becomes (now (state .exit)) (pushed (decoded (now (c .entry))) (memoryOf (now (state .entry))) page (contextOf (memoryOf (now (state .entry))) p) (memoryOf (now (state .entry))) q (memoryOf (now (state .entry)) (worksAt p)) (take n (now (words .entry))))) ⌝ }
 {
     let first = code::first_stmt(c, q);
-    let works = machine::record_word(state, p, 5);
+    let works = machine::record_word(state, p, machine::WORKS);
     enter(state, p, q as u16, works, first as u16, size, n, words);
 }
 
@@ -303,11 +303,11 @@ pub fn push_process(
     n: usize,
     words: &[u16],
 )
-    requires { ⌜ Lent 17664 (now state) ⌝ }
+    requires { ⌜ State (now state) ⌝ }
     requires { ⌜ Fits (memoryOf (now state)) p size ⌝ }
     requires { ⌜ (n ≤ size) × ((n ≤ length (now words)) × ((q < 65536) × ((1 ≤ r) × (r ≤ 64)))) ⌝ }
     requires { ⌜ size ≡ frameWords (decoded (now c)) q ⌝ }
-    ensures { λ _. ⌜ ((page : Memory) → Changed 17664 (now (state .exit)) (pushed (decoded (now (c .entry))) (memoryOf (now (state .entry))) page (contextOf (memoryOf (now (state .entry))) p) (update (memoryOf (now (state .entry))) (holderAt r) p) q r (take n (now (words .entry))))) ⌝ }
+    ensures { λ _. ⌜ ((page : Memory) → Becomes (now (state .exit)) (pushed (decoded (now (c .entry))) (memoryOf (now (state .entry))) page (contextOf (memoryOf (now (state .entry))) p) (update (memoryOf (now (state .entry))) (holderAt r) p) q r (take n (now (words .entry))))) ⌝ }
 {
     let first = code::first_stmt(c, q);
     hold(state, r, p as u16);
@@ -316,22 +316,22 @@ pub fn push_process(
 
 // The end of a local call, whose statement is c.
 pub fn pop_local(state: &mut [u8], p: usize, c: u16)
-    requires { ⌜ Lent 17664 (now state) ⌝ }
+    requires { ⌜ State (now state) ⌝ }
     requires { ⌜ Called (memoryOf (now state)) p ⌝ }
     requires { ⌜ c < 65535 ⌝ }
-    ensures { λ _. ⌜ ((T : Table) (page : Memory) → Changed 17664 (now (state .exit)) (popped T (memoryOf (now (state .entry))) page (contextOf (memoryOf (now (state .entry))) p) (memoryOf (now (state .entry))) c)) ⌝ }
+    ensures { λ _. ⌜ ((T : Table) (page : Memory) → Becomes (now (state .exit)) (popped T (memoryOf (now (state .entry))) page (contextOf (memoryOf (now (state .entry))) p) (memoryOf (now (state .entry))) c)) ⌝ }
 {
     leave(state, p, c);
 }
 
 // The end of a process call, whose statement is c: the variables that it worked on are given up.
 pub fn pop_process(state: &mut [u8], p: usize, c: u16)
-    requires { ⌜ Lent 17664 (now state) ⌝ }
+    requires { ⌜ State (now state) ⌝ }
     requires { ⌜ Called (memoryOf (now state)) p ⌝ }
     requires { ⌜ (c < 65535) × ((1 ≤ memoryOf (now state) (worksAt p)) × (memoryOf (now state) (worksAt p) ≤ 64)) ⌝ }
-    ensures { λ _. ⌜ ((T : Table) (page : Memory) → Changed 17664 (now (state .exit)) (popped T (memoryOf (now (state .entry))) page (contextOf (memoryOf (now (state .entry))) p) (update (memoryOf (now (state .entry))) (holderAt (memoryOf (now (state .entry)) (worksAt p))) 0) c)) ⌝ }
+    ensures { λ _. ⌜ ((T : Table) (page : Memory) → Becomes (now (state .exit)) (popped T (memoryOf (now (state .entry))) page (contextOf (memoryOf (now (state .entry))) p) (update (memoryOf (now (state .entry))) (holderAt (memoryOf (now (state .entry)) (worksAt p))) 0) c)) ⌝ }
 {
-    let works = machine::record_word(state, p, 5);
+    let works = machine::record_word(state, p, machine::WORKS);
     hold(state, works as usize, 0);
     leave(state, p, c);
 }
@@ -346,11 +346,11 @@ pub fn start(
     n: usize,
     words: &[u16],
 )
-    requires { ⌜ Lent 17664 (now state) ⌝ }
+    requires { ⌜ State (now state) ⌝ }
     requires { ⌜ (1 ≤ r) × (r ≤ 64) ⌝ }
     requires { ⌜ (n ≤ 256) × ((n ≤ length (now words)) × (size < 65536)) ⌝ }
     requires { ⌜ size ≡ moduleWords (decoded (now c)) b ⌝ }
-    ensures { λ _. ⌜ Changed 17664 (now (state .exit)) (started (decoded (now (c .entry))) (memoryOf (now (state .entry))) r b (take n (now (words .entry)))) ⌝ }
+    ensures { λ _. ⌜ Becomes (now (state .exit)) (started (decoded (now (c .entry))) (memoryOf (now (state .entry))) r b (take n (now (words .entry)))) ⌝ }
 {
     let first = code::first_stmt(c, b);
     begin(state, r, first as u16, size as u16, n, words);
@@ -358,9 +358,9 @@ pub fn start(
 
 // Process p enters an arm at statement c, and holds the variables of process w.
 pub fn enter_arm(state: &mut [u8], p: usize, w: usize, c: u16)
-    requires { ⌜ Lent 17664 (now state) ⌝ }
+    requires { ⌜ State (now state) ⌝ }
     requires { ⌜ (1 ≤ p) × ((p ≤ 64) × ((1 ≤ w) × (w ≤ 64))) ⌝ }
-    ensures { λ _. ⌜ Changed 17664 (now (state .exit)) (update (update (memoryOf (now (state .entry))) (holderAt w) p) (statementAt p) c) ⌝ }
+    ensures { λ _. ⌜ Becomes (now (state .exit)) (update (update (memoryOf (now (state .entry))) (holderAt w) p) (statementAt p) c) ⌝ }
 {
     hold(state, w, p as u16);
     go_to(state, p, c);
@@ -368,13 +368,13 @@ pub fn enter_arm(state: &mut [u8], p: usize, w: usize, c: u16)
 
 // Process n is created, of module `block`, its number is stored at `at`, and process p goes on at statement c.
 pub fn create_at(state: &mut [u8], p: usize, c: u16, n: usize, block: u16, at: usize)
-    requires { ⌜ Lent 17664 (now state) ⌝ }
+    requires { ⌜ State (now state) ⌝ }
     requires { ⌜ (1 ≤ p) × ((p ≤ 64) × ((1 ≤ n) × (n ≤ 64))) ⌝ }
-    requires { ⌜ at < 17664 ⌝ }
-    ensures { λ _. ⌜ Changed 17664 (now (state .exit)) (update (update (created (memoryOf (now (state .entry))) n block) at n) (statementAt p) c) ⌝ }
+    requires { ⌜ at < stateWords ⌝ }
+    ensures { λ _. ⌜ Becomes (now (state .exit)) (update (update (created (memoryOf (now (state .entry))) n block) at n) (statementAt p) c) ⌝ }
 {
     create(state, n, block);
-    machine::set_word(state, 17664, at, n as u16);
+    machine::set_word(state, machine::STATE_WORDS, at, n as u16);
     go_to(state, p, c);
 }
 
@@ -390,11 +390,11 @@ pub fn start_on(
     n: usize,
     words: &[u16],
 )
-    requires { ⌜ Lent 17664 (now state) ⌝ }
+    requires { ⌜ State (now state) ⌝ }
     requires { ⌜ (1 ≤ p) × ((p ≤ 64) × ((1 ≤ r) × (r ≤ 64))) ⌝ }
     requires { ⌜ (n ≤ 256) × ((n ≤ length (now words)) × (size < 65536)) ⌝ }
     requires { ⌜ size ≡ moduleWords (decoded (now c)) b ⌝ }
-    ensures { λ _. ⌜ Changed 17664 (now (state .exit)) (update (started (decoded (now (c .entry))) (memoryOf (now (state .entry))) r b (take n (now (words .entry)))) (statementAt p) next) ⌝ }
+    ensures { λ _. ⌜ Becomes (now (state .exit)) (update (started (decoded (now (c .entry))) (memoryOf (now (state .entry))) r b (take n (now (words .entry)))) (statementAt p) next) ⌝ }
 {
     start(c, state, r, b, size, n, words);
     go_to(state, p, next);

@@ -5,11 +5,11 @@ use mathlib.Core.Bool.{Bool, true, false}
 use lib.Dec.{eqb, ltb}
 use native.Mathlib.Omega.{arith}
 use borrow.Author.Tests.{eqb-true, eqb-false, ltb-true, lt-ltb, ne-eqb}
-use Rattle.basics.specs.Choice.{cases}
+use Rattle.basics.specs.Cases.{cases}
 use Rattle.table.specs.Table.{Table}
 use Rattle.table.specs.Entries.{stmtCount, stmtKind, stmtA, stmtLink}
 use Rattle.words.specs.Outcomes as words
-use Rattle.words.specs.Outcomes.{failureNumber, outcomeOf}
+use Rattle.words.specs.Values.{failureNumber, outcomeOf}
 use Rattle.words.specs.declared.values.Failure.{Failure}
 use Rattle.words.specs.declared.values.Value.{Value}
 use Rattle.words.specs.declared.values.Value.the-variants.{Word, Fail}

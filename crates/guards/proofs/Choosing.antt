@@ -10,7 +10,7 @@ use Rattle.table.specs.Table.{Table}
 use Rattle.table.specs.Entries.{stmtCount, stmtKind, stmtA, stmtLink}
 use Rattle.table.specs.Reading.{Field}
 use Rattle.numbers.proofs.OperandPromise.{arm-guard}
-use Rattle.words.specs.Outcomes.{outcomeOf}
+use Rattle.words.specs.Values.{outcomeOf}
 use Rattle.words.specs.declared.values.Failure.{Failure}
 use Rattle.words.specs.declared.values.Value.{Value}
 use Rattle.words.specs.declared.values.Value.the-variants as value

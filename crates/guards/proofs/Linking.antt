@@ -6,14 +6,15 @@ use mathlib.Core.List.{List}
 use lib.Dec.{eqb, ltb}
 use native.Mathlib.Omega.{arith}
 use borrow.Author.Tests.{eqb-true, eqb-false, ne-eqb, ltb-true}
-use Rattle.basics.specs.Choice.{pick, cases}
+use Rattle.basics.specs.Choice.{pick}
+use Rattle.basics.specs.Cases.{cases}
 use Rattle.table.specs.Table.{Table}
 use Rattle.table.specs.Entries.{stmtCount, stmtKind, stmtLink}
 use Rattle.table.specs.Reading.{Field}
 use Rattle.code.specs.Code.{decoded}
 use Rattle.machine.specs.Memory.{Memory, memoryOf, update}
 use Rattle.machine.specs.Layout.{statementAt}
-use Rattle.machine.specs.Lent.{Changed}
+use Rattle.machine.specs.Lent.{Becomes}
 use Rattle.machine.specs.Context as machine
 use Rattle.machine.specs.Outcomes.{Outcome, ok, stuck, need}
 use Rattle.machine.specs.Entries.{repeats, stmtAt}
@@ -167,7 +168,7 @@ pub ruleset nexts = (next-while, next-cycle, next-on)
 -- ---- the laws of `skip` and `end_arm`
 module _ (t m p : List ℕ) (x : Context) (h : Standing t m p x) where
   pub skip-returns : stmtKind (decoded t) (x .statement) ≡ 0 → (m1 : List ℕ)
-      → Changed 17664 m1 (update (memoryOf m) (statementAt (x .process)) (x .statement + 1))
+      → Becomes m1 (update (memoryOf m) (statementAt (x .process)) (x .statement + 1))
       → Stepped 0 m1 p (carried (decoded t) (memoryOf m) (memoryOf p) (contextIn x))
   unfolding goOn goTo contextIn
   skip-returns e m1 i =
@@ -202,7 +203,7 @@ module _ (t m p : List ℕ) (x : Context) (h : Standing t m p x) where
 
       pub end-returns : (j v c : ℕ) → Field (stmtLink (decoded t) i) j → Field (stmtKind (decoded t) j) v
           → c ≡ pick (repeats (openerOf v)) j (i + 1) → (m1 : List ℕ)
-          → Changed 17664 m1 (update (memoryOf m) (statementAt (x .process)) c)
+          → Becomes m1 (update (memoryOf m) (statementAt (x .process)) c)
           → Stepped 0 m1 p (carried (decoded t) (memoryOf m) (memoryOf p) (contextIn x))
       unfolding goTo contextIn
       end-returns j v c hj hv hc m1 q =

@@ -8,16 +8,17 @@ use native.Mathlib.Omega.{arith}
 use borrow.Author.Tests.{eqb-true, eqb-false, lt-leb}
 use mir.Val.{Fits}
 use mir.Syntax.{w64}
-use Rattle.basics.specs.Choice.{pick, cases}
+use Rattle.basics.specs.Choice.{pick}
+use Rattle.basics.specs.Cases.{cases}
 use Rattle.table.specs.Table.{Table}
 use Rattle.table.specs.Entries.{stmtCount, stmtKind}
 use Rattle.table.specs.Reading.{Field}
-use Rattle.words.specs.Outcomes.{failureNumber}
+use Rattle.words.specs.Values.{failureNumber}
 use Rattle.words.specs.declared.values.Failure.{Failure}
 use Rattle.code.specs.Code.{decoded}
 use Rattle.machine.specs.Memory.{Memory, memoryOf, update}
 use Rattle.machine.specs.Layout.{statementAt, holderAt, failureAt}
-use Rattle.machine.specs.Lent.{Changed}
+use Rattle.machine.specs.Lent.{Becomes}
 use Rattle.machine.specs.Context as machine
 use Rattle.machine.specs.Outcomes.{stuck, andThen}
 use Rattle.machine.specs.Entries.{Opener, waits, stmtAt}
@@ -43,21 +44,21 @@ waits-is k v h e =
 
 -- ---- the laws of `enter` and `pass`
 module _ (m m1 : List ℕ) (h q v c : ℕ) (b : Bool) where
-  pub enter-holding : b ≡ true → Changed 17664 m1 (update (update (memoryOf m) h v) q c)
-      → Changed 17664 m1 (update (pick b (update (memoryOf m) h v) (memoryOf m)) q c)
+  pub enter-holding : b ≡ true → Becomes m1 (update (update (memoryOf m) h v) q c)
+      → Becomes m1 (update (pick b (update (memoryOf m) h v) (memoryOf m)) q c)
   enter-holding e i = rw e i
 
-  pub enter-only : b ≡ false → Changed 17664 m1 (update (memoryOf m) q c)
-      → Changed 17664 m1 (update (pick b (update (memoryOf m) h v) (memoryOf m)) q c)
+  pub enter-only : b ≡ false → Becomes m1 (update (memoryOf m) q c)
+      → Becomes m1 (update (pick b (update (memoryOf m) h v) (memoryOf m)) q c)
   enter-only e i = rw e i
 
 module _ (m m1 : List ℕ) (h q c : ℕ) (b : Bool) where
-  pub pass-blocked : b ≡ true → Changed 17664 m1 (update (memoryOf m) h 0)
-      → Changed 17664 m1 (pick b (update (memoryOf m) h 0) (update (memoryOf m) q c))
+  pub pass-blocked : b ≡ true → Becomes m1 (update (memoryOf m) h 0)
+      → Becomes m1 (pick b (update (memoryOf m) h 0) (update (memoryOf m) q c))
   pass-blocked e i = rw e i
 
-  pub pass-on : b ≡ false → Changed 17664 m1 (update (memoryOf m) q c)
-      → Changed 17664 m1 (pick b (update (memoryOf m) h 0) (update (memoryOf m) q c))
+  pub pass-on : b ≡ false → Becomes m1 (update (memoryOf m) q c)
+      → Becomes m1 (pick b (update (memoryOf m) h 0) (update (memoryOf m) q c))
   pass-on e i = rw e i
 
 pub ruleset goings = (enter-holding, enter-only, pass-blocked, pass-on)
@@ -120,7 +121,7 @@ module _ (t m p : List ℕ) (x : Context) (h : Standing t m p x) where
       end-going i e = let b = rw e at c in going i (b .below)
 
       pub opener-fails : (e : Failure) → r ≡ Fails e → (n : ℕ) (m1 : List ℕ) → n ≡ failureNumber e
-          → Changed 17664 m1 (update (memoryOf m) failureAt (failureNumber e))
+          → Becomes m1 (update (memoryOf m) failureAt (failureNumber e))
           → Stepped n m1 p (carried (decoded t) (memoryOf m) (memoryOf p) (contextIn x))
       unfolding andThen contextIn
       opener-fails e q n m1 u v =
@@ -133,7 +134,7 @@ module _ (t m p : List ℕ) (x : Context) (h : Standing t m p x) where
         same = waits-is (stmtKind (decoded t) (x .statement)) v k (hv .is)
 
         pub opener-enters : (i : ℕ) → r ≡ Arm i → (n : ℕ) (m1 : List ℕ) → n ≡ 0
-            → Changed 17664 m1 (update (pick (leb 8 v) (update (memoryOf m) (holderAt (x .works)) (x .process)) (memoryOf m)) (statementAt (x .process)) (i + 1))
+            → Becomes m1 (update (pick (leb 8 v) (update (memoryOf m) (holderAt (x .works)) (x .process)) (memoryOf m)) (statementAt (x .process)) (i + 1))
             → Stepped n m1 p (carried (decoded t) (memoryOf m) (memoryOf p) (contextIn x))
         unfolding andThen chosen goTo contextIn
         opener-enters i q n m1 u w =
@@ -143,7 +144,7 @@ module _ (t m p : List ℕ) (x : Context) (h : Standing t m p x) where
             (chooses ∙ rw (← d .is)) (rw same at w) (stands-page t m p x h))
 
         pub opener-passes : (i : ℕ) → r ≡ End i → (n : ℕ) (m1 : List ℕ) → n ≡ pick (leb 8 v) 1 0
-            → Changed 17664 m1 (pick (leb 8 v) (update (memoryOf m) (holderAt (x .works)) 0) (update (memoryOf m) (statementAt (x .process)) (i + 1)))
+            → Becomes m1 (pick (leb 8 v) (update (memoryOf m) (holderAt (x .works)) 0) (update (memoryOf m) (statementAt (x .process)) (i + 1)))
             → Stepped n m1 p (carried (decoded t) (memoryOf m) (memoryOf p) (contextIn x))
         unfolding andThen chosen goTo wait contextIn
         opener-passes i q n m1 u w =

@@ -5,7 +5,8 @@ use mathlib.Core.List.{List}
 use native.Mathlib.Omega.{arith}
 use Rattle.code.specs.Code.{decoded}
 use Rattle.machine.specs.Memory.{memoryOf}
-use Rattle.machine.specs.Lent.{Lent, Changed}
+use Rattle.machine.specs.Lent.{Changed, State}
+use Rattle.machine.specs.Layout.{pageWords}
 use Rattle.operands.specs.declared.Context.{Context}
 use Rattle.operands.specs.Ready.{contextIn, Ready}
 use Rattle.effects.specs.Effects.{Standing}
@@ -15,10 +16,10 @@ module _ (t m p : List ℕ) (x : Context) (h : Standing t m p x) where
   pub stands-ready : Ready t m p x
   stands-ready = h .ready
 
-  pub stands-lent : Lent 17664 m
+  pub stands-lent : State m
   stands-lent = record { long = h .ready .state }
 
-  pub stands-page : Changed 4096 p (memoryOf p)
+  pub stands-page : Changed pageWords p (memoryOf p)
   stands-page = record { long = h .ready .page; is = refl }
 
   pub stands-small : x .statement < 65535

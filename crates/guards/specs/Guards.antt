@@ -1,3 +1,4 @@
+-- Inner: for code and proofs only; no public promise is said with these definitions.
 -- What the code finds of arms and ends, and what it may be asked. Assumes nothing.
 use Prim.Native.Nat.{ℕ, _≤_, _<_}
 use mathlib.Core.Path.{_≡_}
@@ -6,9 +7,9 @@ use lib.Dec.{eqb}
 use Rattle.basics.specs.Choice.{pick}
 use Rattle.table.specs.Table.{Table}
 use Rattle.table.specs.Entries.{stmtCount}
-use Rattle.words.specs.Outcomes.{failureNumber}
+use Rattle.words.specs.Values.{failureNumber}
 use Rattle.machine.specs.Memory.{Memory}
-use Rattle.machine.specs.Lent.{Lent}
+use Rattle.machine.specs.Lent.{State}
 use Rattle.machine.specs.Outcomes.{Outcome, ok, fail, stuck}
 use Rattle.machine.specs.Entries.{Opener, if, while, when, cycle}
 use Rattle.machine.specs.Context as machine
@@ -68,7 +69,7 @@ pub record Ended (T : Table) (i r : ℕ) : Type 0 where
 
 -- what process and works are, and a statement that another can follow
 pub record Going (m : List ℕ) (x : Context) (i : ℕ) : Type 0 where
-  pub state : Lent 17664 m
+  pub state : State m
   pub processLow : 1 ≤ x .process
   pub processHigh : x .process ≤ 64
   pub worksLow : 1 ≤ x .works

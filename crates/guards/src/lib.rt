@@ -6,11 +6,11 @@ ghost use mathlib.Core.Path.{_≡_};
 ghost use Prim.Native.Nat.{_+_, _≤_, _<_};
 ghost use Rattle.basics.specs.Choice.{pick};
 ghost use Rattle.table.specs.Entries.{stmtKind, stmtA};
-ghost use Rattle.words.specs.Outcomes.{outcomeOf};
+ghost use Rattle.words.specs.Values.{outcomeOf};
 ghost use Rattle.code.specs.Code.{decoded};
 ghost use Rattle.machine.specs.Memory.{memoryOf, update};
 ghost use Rattle.machine.specs.Layout.{statementAt, holderAt};
-ghost use Rattle.machine.specs.Lent.{Changed};
+ghost use Rattle.machine.specs.Lent.{Becomes};
 ghost use Rattle.machine.specs.Entries.{repeats};
 ghost use Rattle.machine.specs.Operands.{operand};
 ghost use Rattle.operands.specs.Answers.{firstWord, Evaluable};
@@ -72,7 +72,7 @@ fn choose(c: &code::Slots, state: &[u8], page: &[u8], x: Context, i: usize) -> F
 // A guard is true: its arm is entered. A when or cycle then holds the variables that the process works on (11.9, 11.10, 13).
 fn enter(state: &mut [u8], x: Context, waits: bool, i: usize) -> u8
     requires { ⌜ Going (now state) x i ⌝ }
-    ensures { λ r. ⌜ (r ≡ 0) × Changed 17664 (now (state .exit)) (update (pick waits (update (memoryOf (now (state .entry))) (holderAt (x .works)) (x .process)) (memoryOf (now (state .entry)))) (statementAt (x .process)) (i + 1)) ⌝ }
+    ensures { λ r. ⌜ (r ≡ 0) × Becomes (now (state .exit)) (update (pick waits (update (memoryOf (now (state .entry))) (holderAt (x .works)) (x .process)) (memoryOf (now (state .entry)))) (statementAt (x .process)) (i + 1)) ⌝ }
 {
     let first = (i + 1) as u16;
     if waits {
@@ -86,7 +86,7 @@ fn enter(state: &mut [u8], x: Context, waits: bool, i: usize) -> u8
 // No guard is true: the process goes on after the end i. A when or cycle is blocked, and gives the variables up (11.9, 11.10, 13).
 fn pass(state: &mut [u8], x: Context, waits: bool, i: usize) -> u8
     requires { ⌜ Going (now state) x i ⌝ }
-    ensures { λ r. ⌜ (r ≡ pick waits 1 0) × Changed 17664 (now (state .exit)) (pick waits (update (memoryOf (now (state .entry))) (holderAt (x .works)) 0) (update (memoryOf (now (state .entry))) (statementAt (x .process)) (i + 1))) ⌝ }
+    ensures { λ r. ⌜ (r ≡ pick waits 1 0) × Becomes (now (state .exit)) (pick waits (update (memoryOf (now (state .entry))) (holderAt (x .works)) 0) (update (memoryOf (now (state .entry))) (statementAt (x .process)) (i + 1))) ⌝ }
 {
     if waits {
         frames::hold(state, x.works, 0);

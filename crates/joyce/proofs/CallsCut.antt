@@ -3,7 +3,7 @@ use Prim.Native.Nat.{ℕ, _≤_}
 use mathlib.Core.Path.{_≡_, refl, sym, ap, _∙_}
 use mathlib.Core.List.{List, [], _∷_, _++_, append-nil}
 use lib.ListN.{length}
-use Rattle.words.specs.Memory.{Bytes}
+use Rattle.words.specs.Bytes.{Bytes}
 use Rattle.verdict.specs.Verdict.{verdict}
 use Rattle.sound.specs.Histories.{pageLeft, Ask, callOf}
 use Rattle.sound.specs.Cuts.{Piece, endToEnd, askOf, inTurn, pageAfter, AllReturn}

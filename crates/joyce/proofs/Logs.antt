@@ -9,6 +9,7 @@ use borrow.Author.Tests.{eqb-true, ne-eqb}
 use Rattle.basics.specs.Choice.{pick}
 use Rattle.verdict.specs.Verdict.{verdict}
 use Rattle.machine.specs.Public.{called, beginCall}
+use Rattle.machine.specs.Layout.{pageSize}
 use Rattle.sound.specs.Histories.{begunResult, begunState, result, stateLeft, pageLeft, answersLeft, Devices, Handed, Served, callOf, refused, history, order, orderOf, written, writtenOf, stateAfter, Calls, begunWith, History, first, steps, processes, answers, finally}
 use Rattle.sound.proofs.Histories.{refused-call}
 use Rattle.sound.proofs.StepsDemand.{demand3}
@@ -97,7 +98,7 @@ module _ (w : ℕ) where
     left-alone n = is s c f ∙ refused-call verdict w s (c .ask) (refused-is s c f ∙ rw (ne-eqb (c .result) 0 n))
 
     call-holds : Devices verdict w s (c .ask)
-        → (c .ask .table ≡ t → length (c .ask .page) ≡ 8192 → length (c .ask .schedule) ≤ length (c .ask .answers) → refused verdict w s (c .ask) ≡ false)
+        → (c .ask .table ≡ t → length (c .ask .page) ≡ pageSize → length (c .ask .schedule) ≤ length (c .ask .answers) → refused verdict w s (c .ask) ≡ false)
         → CallHolds w t c
     unfolding stateLeft pageLeft answersLeft
     call-holds d v = record {

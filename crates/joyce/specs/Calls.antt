@@ -1,3 +1,4 @@
+-- Trusted: public promises are said with these definitions.
 -- What a caller of joyce_begin and joyce_run sees, call by call, and what holds of it. Assumes nothing.
 use Prim.Native.Nat.{ℕ, _≤_}
 use mathlib.Core.Path.{_≡_}
@@ -5,9 +6,10 @@ use mathlib.Core.List.{List, [], _∷_, _++_}
 use lib.Dec.{eqb}
 use lib.ListN.{length, take}
 use Rattle.basics.specs.Choice.{pick}
-use Rattle.words.specs.Memory.{Bytes}
+use Rattle.words.specs.Bytes.{Bytes}
 use Rattle.verdict.specs.Verdict.{verdict}
 use Rattle.machine.specs.Public.{begun, called, beginCall, runCall}
+use Rattle.machine.specs.Layout.{pageSize}
 use Rattle.sound.specs.Histories.{Seen, asked, told, processes, answers, finally, devicesAfter, Ask, stepsOf, History, first, steps}
 use Rattle.sound.specs.Demand.{Demand3}
 
@@ -103,7 +105,7 @@ pub record CallHolds (w : ℕ) (t : List ℕ) (c : Call) : Type 0 where
   pub state : c .stateAfter ≡ finally (c .state) (stepsMade w c)
   pub page : c .pageAfter ≡ devicesAfter (c .ask .page) (stepsMade w c)
   -- with begin's table and right lengths it returned 0
-  pub served : c .ask .table ≡ t → length (c .ask .page) ≡ 8192 → length (c .ask .schedule) ≤ length (c .ask .answers) → c .result ≡ 0
+  pub served : c .ask .table ≡ t → length (c .ask .page) ≡ pageSize → length (c .ask .schedule) ≤ length (c .ask .answers) → c .result ≡ 0
   -- where it returned another number, each slice is as it was
   pub unchanged : (c .result ≡ 0 → ⊥) → (c .stateAfter ≡ c .state) × ((c .pageAfter ≡ c .ask .page) × (c .answersAfter ≡ c .ask .answers))
 

@@ -1,3 +1,4 @@
+-- Trusted: public promises are said with these definitions.
 -- One call of joyce_run, or several: a run may be cut into calls anywhere (include/joyce.h). Assumes nothing.
 use Prim.Native.Nat.{ℕ, _≤_}
 use mathlib.Core.Path.{_≡_}

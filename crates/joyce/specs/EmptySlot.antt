@@ -1,3 +1,4 @@
+-- Trusted: public promises are said with these definitions.
 -- An empty cartridge slot (02, c): zero bytes are the listing table of 01 to every call. Assumes nothing.
 use Prim.Native.Nat.{ℕ, _≤_}
 use mathlib.Core.Path.{_≡_}

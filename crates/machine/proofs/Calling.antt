@@ -7,15 +7,17 @@ use native.Mathlib.Omega.{arith}
 use lib.ListN.{length}
 use lib.Dec.{eqb}
 use borrow.Author.Tests.{eq-eqb, ne-eqb, eqb-true, eqb-false, leb-true}
-use Rattle.basics.specs.Choice.{pick, cases}
+use Rattle.basics.specs.Choice.{pick}
+use Rattle.basics.specs.Cases.{cases}
 use Rattle.basics.proofs.Bools.{both-l, both-r, zero-test}
-use Rattle.words.specs.Memory.{Bytes}
+use Rattle.words.specs.Bytes.{Bytes}
 use Rattle.table.specs.Table.{tableOf}
 use Rattle.machine.specs.Memory.{memoryOf}
 use Rattle.machine.specs.Run.{run}
 use Rattle.machine.specs.Rule.{rule}
 use Rattle.machine.specs.Public.{refusal, begun, called, finished, runLengths, beginRefusal, beginCall, runRefusal, runCall}
 use Rattle.machine.proofs.Memories.{bytes-memory}
+use Rattle.machine.specs.Layout.{stateWords, stateSize, pageSize}
 
 -- ---- refusals, in the order of their numbers
 
@@ -72,12 +74,12 @@ module _ (verdict : ℕ → List ℕ → ℕ) (w : ℕ) (table state : List ℕ)
     -- what a call that is not refused was lent
     pub run-lengths :
         runRefusal verdict w table state page schedule answers ≡ 0
-        → (length state ≡ 35328) × ((length page ≡ 8192) × (length schedule ≤ length answers))
+        → (length state ≡ stateSize) × ((length page ≡ pageSize) × (length schedule ≤ length answers))
     unfolding runRefusal runLengths
     run-lengths e =
         let h = refused-none _ _ _ e .0 in
-        let k = both-r (eqb (length state) 35328) _ h in
-        (eqb-true _ _ (both-l _ _ h), (eqb-true _ _ (both-l (eqb (length page) 8192) _ k), leb-true _ _ (both-r (eqb (length page) 8192) _ k)))
+        let k = both-r (eqb (length state) stateSize) _ h in
+        (eqb-true _ _ (both-l _ _ h), (eqb-true _ _ (both-l (eqb (length page) pageSize) _ k), leb-true _ _ (both-r (eqb (length page) pageSize) _ k)))
 
     pub run-accepted : runRefusal verdict w table state page schedule answers ≡ 0 → verdict w table ≡ 0
     unfolding runRefusal
@@ -98,6 +100,6 @@ module _ (verdict : ℕ → List ℕ → ℕ) (w : ℕ) (table state : List ℕ)
       let l = run-lengths page [] answers e in
       rw (
         eq-eqb (runRefusal verdict w table state page [] answers) 0 e,
-        bytes-memory 17664 state s (l .0),
+        bytes-memory stateWords state s (l .0),
         bytes-memory 4096 page d (l .1 .0),
       )

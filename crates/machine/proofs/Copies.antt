@@ -7,7 +7,7 @@ use borrow.Author.Tests.{eqb-true, eqb-false, ltb-true, ltb-false}
 use lib.Dec.{eqb, ltb}
 use lib.ListN.{length, length-append, List·getD-append}
 use lib.Seq.{getD-append-seam}
-use Rattle.basics.specs.Choice.{cases}
+use Rattle.basics.specs.Cases.{cases}
 use Rattle.machine.specs.Memory.{Memory, update, store, clear, wordsAt}
 use Rattle.machine.proofs.Memories.{update-same, update-other, store-below, store-above, store-at, clear-below, clear-above, clear-at, length-words, words-at}
 

@@ -4,7 +4,7 @@ use mathlib.Core.Path.{_≡_, refl}
 use mathlib.Core.List.{List, [], _∷_}
 use Rattle.table.specs.Table.{Table}
 use Rattle.machine.specs.Memory.{zeros, update}
-use Rattle.machine.specs.Layout.{location, statusAt, moduleAt, statementAt, frameAt, topAt, worksAt, holderAt, depthAt, createdAt, failureAt}
+use Rattle.machine.specs.Layout.{location, statusAt, moduleAt, statementAt, frameAt, topAt, worksAt, holderAt, depthAt, createdAt, failureAt, locations}
 use Rattle.machine.specs.Run.{Run, stuck, run}
 use Rattle.machine.specs.Public.{look}
 use Rattle.machine.proofs.Programs.{runOn, stateOf, answersOf}
@@ -59,7 +59,7 @@ pub fetching-steps :
     × (from-word fetching inside (location 1 3) 9 (1 ∷ 1 ∷ []) ≡ stuck)
     × (from-word fetching inside (location 1 5) 0 (1 ∷ []) ≡ stuck)
     × (from-word fetching inside (location 1 5) 3 (1 ∷ []) ≡ stuck)
-    × (from-word fetching inside (location 1 6) 16384 (1 ∷ []) ≡ stuck)
+    × (from-word fetching inside (location 1 6) locations (1 ∷ []) ≡ stuck)
     × (from-word fetching inside (frameAt 1) 253 (1 ∷ []) ≡ stuck)
     × (from-word fetching inside (moduleAt 2) 0 (1 ∷ []) ≡ stuck)
 unfolding from-word answersOf

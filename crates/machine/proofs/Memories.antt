@@ -9,9 +9,11 @@ use borrow.Author.Tests.{eq-eqb, ne-eqb, eqb-true, eqb-false, leb-true, ltb-true
 use lib.Dec.{eqb}
 use lib.ListN.{length, getD}
 use lib.Seq.{ext-getD}
-use Rattle.basics.specs.Choice.{both, cases}
+use Rattle.basics.specs.Choice.{both}
+use Rattle.basics.specs.Cases.{cases}
 use Rattle.basics.proofs.Bools.{both-l, both-r}
-use Rattle.words.specs.Memory.{wordAtByte, wordAt, putWord, Bytes}
+use Rattle.words.specs.Memory.{wordAtByte, wordAt, putWord}
+use Rattle.words.specs.Bytes.{Bytes}
 use Rattle.words.proofs.MemoryLaws.{get-put-word, get-put-other, word-at-lt}
 use Rattle.machine.specs.Layout.{location}
 use Rattle.machine.specs.Memory.{Memory, update, within, store, clear, wordsAt, memoryOf, bytesAt, bytesOf}

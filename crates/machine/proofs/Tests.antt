@@ -6,7 +6,7 @@ use native.Mathlib.Omega.{arith}
 use native.Mathlib.Nat.{not-suc-le-zero}
 use lib.Dec.{eqb}
 use borrow.Author.Tests.{eqb-true, eqb-false, leb-true, le-leb}
-use Rattle.basics.specs.Choice.{cases}
+use Rattle.basics.specs.Cases.{cases}
 use Rattle.basics.proofs.Bools.{no-true, both-l, both-r, both-i, either-l, either-r, either-case}
 use Rattle.machine.specs.Values.{someBelow}
 use Rattle.machine.specs.Step.{inRange}

@@ -1,3 +1,4 @@
+-- Trusted: public promises are said with these definitions.
 -- Procedure calls (11.3, 12): arguments, frames, and how a call begins and ends. Assumes nothing.
 use Prim.Native.Nat.{ℕ, zero, suc, _+_, _-_}
 use mathlib.Core.List.{List, [], _∷_, _++_}

@@ -1,3 +1,4 @@
+-- Trusted: public promises are said with these definitions.
 -- The context of a process (13): what its next statement is, and which variables it can name. Assumes nothing.
 use Prim.Native.Nat.{ℕ, _+_}
 use mathlib.Core.Bool.{Bool, true}

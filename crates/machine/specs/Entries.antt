@@ -1,3 +1,4 @@
+-- Trusted: public promises are said with these definitions.
 -- The entries of a table as constructors (01, The table). An entry that does not exist, or of an unknown kind, is none. Assumes nothing.
 use Prim.Native.Nat.{ℕ}
 use mathlib.Core.Bool.{Bool, true, false}

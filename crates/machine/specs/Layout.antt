@@ -1,9 +1,27 @@
+-- Trusted: public promises are said with these definitions.
 -- The layout of a state (01, The four calls: an area and a control record for each of 64 processes). First the areas, 256 words each,
 -- then the control records, 20 words each. Assumes nothing.
 use Prim.Native.Nat.{ℕ, _+_, _-_, _*_}
 use Rattle.machine.specs.Memory.{Memory}
 
--- word k of the area of process p. The words of areas are the locations: those below 16,384
+-- the words of areas, which are the locations; the words of a state, and its size in bytes
+abbrev pub locations : ℕ
+locations = 16384
+
+abbrev pub stateWords : ℕ
+stateWords = 17664
+
+abbrev pub stateSize : ℕ
+stateSize = 35328
+
+-- the words of a device page, and its size in bytes
+abbrev pub pageWords : ℕ
+pageWords = 4096
+
+abbrev pub pageSize : ℕ
+pageSize = 8192
+
+-- word k of the area of process p
 unfoldable pub location : ℕ → ℕ → ℕ
 location p k = (p - 1) * 256 + k
 

@@ -1,3 +1,4 @@
+-- Trusted: public promises are said with these definitions.
 -- Memories: words by their index. A state is a memory of 17,664 words, a device page one of 4,096. Assumes nothing.
 use Prim.Native.Nat.{ℕ, zero, suc, _+_, _-_, _*_, _/_, _%_}
 use mathlib.Core.Bool.{Bool}

@@ -1,3 +1,4 @@
+-- Trusted: public promises are said with these definitions.
 -- What an evaluation, a selection or a statement comes to, and how such outcomes are joined: everything goes from left to right, and
 -- the first failure is the outcome (01, Step answers; Agreement). Assumes nothing.
 use Prim.Native.Nat.{ℕ}

@@ -1,3 +1,4 @@
+-- Trusted: public promises are said with these definitions.
 -- The places that one step selects: any two of equally many words are the same or apart (02, d). Assumes nothing.
 use Prim.Native.Nat.{ℕ, _+_, _≤_}
 use mathlib.Core.Path.{_≡_}

@@ -1,3 +1,4 @@
+-- Trusted: public promises are said with these definitions.
 -- Process variables (5.2), and the creation and starting of processes (11.4, 11.5, 13). Assumes nothing.
 use Prim.Native.Nat.{ℕ}
 use mathlib.Core.Bool.{Bool}

@@ -1,3 +1,4 @@
+-- Trusted: public promises are said with these definitions.
 -- The four calls (01, The four calls; Verdicts and other refusals), over bytes: what each returns and leaves, for every input. Assumes nothing.
 use Prim.Native.Nat.{ℕ, _+_}
 use mathlib.Core.Bool.{Bool}
@@ -8,7 +9,7 @@ use Rattle.basics.specs.Choice.{pick, both}
 use Rattle.table.specs.Table.{Table, tableOf}
 use Rattle.table.specs.Entries.{varType}
 use Rattle.machine.specs.Memory.{Memory, memoryOf, bytesOf}
-use Rattle.machine.specs.Layout.{location, statusAt, moduleAt, createdAt}
+use Rattle.machine.specs.Layout.{location, statusAt, moduleAt, createdAt, stateWords, stateSize, pageWords, pageSize}
 use Rattle.sizes.specs.Sizes.{wordsOf}
 use Rattle.machine.specs.Variables.{offsetOf, belongs}
 use Rattle.machine.specs.Step.{inRange}
@@ -45,25 +46,22 @@ pub data Called : Type 0 where
 
 -- answers are written for the steps of the schedule; later answer bytes are as they were. No run from a state that meets its rule is stuck
 unfoldable pub finished : Run → Called → List ℕ → Called
-finished (ran l m page) c answers = called 0 (bytesOf 17664 m) (bytesOf 4096 page) (l ++ drop (length l) answers)
+finished (ran l m page) c answers = called 0 (bytesOf stateWords m) (bytesOf pageWords page) (l ++ drop (length l) answers)
 finished Run.stuck c answers = c
 
 -- the lengths that run is lent
 unfoldable pub runLengths : ℕ → ℕ → ℕ → ℕ → Bool
-runLengths state page schedule answers = both (eqb state 35328) (both (eqb page 8192) (leb schedule answers))
+runLengths state page schedule answers = both (eqb state stateSize) (both (eqb page pageSize) (leb schedule answers))
 
 -- the verdict on a table in each edition, and the edition: the width w of its fields
 module _ (verdict : ℕ → List ℕ → ℕ) (w : ℕ) where
-  unfoldable pub checkCall : List ℕ → ℕ
-  checkCall table = verdict w table
-
   unfoldable pub beginRefusal : List ℕ → List ℕ → ℕ
-  beginRefusal table state = pick (eqb (length state) 35328) (verdict w table) 1
+  beginRefusal table state = pick (eqb (length state) stateSize) (verdict w table) 1
 
   unfoldable pub beginCall : List ℕ → List ℕ → Begun
   beginCall table state =
       pick (eqb (beginRefusal table state) 0)
-      (begun 0 (bytesOf 17664 (begin (tableOf w table))))
+      (begun 0 (bytesOf stateWords (begin (tableOf w table))))
       (begun (beginRefusal table state) state)
 
   unfoldable pub runRefusal : List ℕ → List ℕ → List ℕ → List ℕ → List ℕ → ℕ
@@ -80,7 +78,7 @@ module _ (verdict : ℕ → List ℕ → ℕ) (w : ℕ) where
 
   unfoldable pub lookRefusal : List ℕ → List ℕ → ℕ
   lookRefusal table state =
-      refusal (eqb (length state) 35328) (verdict w table) (rule (tableOf w table) (memoryOf state))
+      refusal (eqb (length state) stateSize) (verdict w table) (rule (tableOf w table) (memoryOf state))
 
   unfoldable pub lookCall : List ℕ → List ℕ → ℕ → ℕ → ℕ → ℕ
   lookCall table state process variable place =

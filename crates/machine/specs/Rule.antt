@@ -1,10 +1,11 @@
+-- Trusted: public promises are said with these definitions.
 -- The state rule (01, Verdicts and other refusals). Assumes nothing.
 use Prim.Native.Nat.{ℕ, zero, suc, _+_, _-_, _/_, _%_}
 use mathlib.Core.Bool.{Bool, true, false, not}
 use lib.Dec.{eqb, leb, ltb}
 use Rattle.basics.specs.Choice.{pick, both, either, allBelow}
 use Rattle.table.specs.Table.{Table}
-use Rattle.table.specs.Entries.{blockCount, stmtCount, varMode, varType, owner, firstVar, vars, firstStmt}
+use Rattle.table.specs.Entries.{varMode, varType, owner, firstVar, vars, firstStmt, stmtLimit}
 use Rattle.machine.specs.Memory.{Memory}
 use Rattle.machine.specs.Layout.{location, statusAt, moduleAt, statementAt, frameAt, topAt, worksAt, holderAt, depthAt, createdAt, failureAt, callerFrame, callStatement, callerWorks, calledBlock}
 use Rattle.machine.specs.Entries.{waits, Statement, skip, assign, localCall, processCall, create, start, opener, arm, endArms, write, blockEnd, noStatement, stmtAt}
@@ -13,12 +14,9 @@ use Rattle.machine.specs.Variables.{frameWords, offsetOf, isModule, isPr
 use Rattle.machine.specs.Values.{holds, partOfBlock}
 use Rattle.machine.specs.Step.{inRange}
 
--- statement c is one of block b's: they run to the next block's first, or to the end
-unfoldable pub nextFirst : Table → ℕ → ℕ
-nextFirst T b = pick (ltb (b + 1) (blockCount T)) (firstStmt T (b + 1)) (stmtCount T)
-
+-- statement c is one of block b's
 unfoldable pub liesIn : Table → ℕ → ℕ → Bool
-liesIn T b c = both (leb (firstStmt T b) c) (ltb c (nextFirst T b))
+liesIn T b c = both (leb (firstStmt T b) c) (ltb c (stmtLimit T b))
 
 -- a statement that calls procedure q
 unfoldable pub calls : ℕ → Statement → Bool

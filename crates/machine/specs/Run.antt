@@ -1,3 +1,4 @@
+-- Trusted: public promises are said with these definitions.
 -- Begin, and a run over a list of processes (01, The four calls; A run). Assumes nothing.
 use Prim.Native.Nat.{ℕ}
 use mathlib.Core.List.{List, [], _∷_}

@@ -1,3 +1,4 @@
+-- Trusted: public promises are said with these definitions.
 -- What a location holds: values of types, and parts of variables (01, A run; The state rule). Assumes nothing.
 use Prim.Native.Nat.{ℕ, zero, suc, _+_, _-_, _*_, _/_, _%_}
 use mathlib.Core.Bool.{Bool, true, false}

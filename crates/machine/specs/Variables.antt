@@ -1,3 +1,4 @@
+-- Trusted: public promises are said with these definitions.
 -- Variables in areas: the words that they take, and where they begin (01, A step: 256 words). Assumes nothing.
 use Prim.Native.Nat.{ℕ, _+_, _-_, _%_}
 use mathlib.Core.Bool.{Bool, true, false}
@@ -8,6 +9,7 @@ use Rattle.table.specs.Table.{Table}
 use Rattle.table.specs.Entries.{fieldCount, varCount, blockCount, fieldType, varMode, varType, blockKind, firstVar, vars}
 use Rattle.machine.specs.Memory.{within}
 use Rattle.machine.specs.Entries.{TypeEntry, integer, boolean, character, recordType, arrayType, processType, noType, typeAt}
+use Rattle.machine.specs.Layout.{locations}
 use Rattle.sizes.specs.Sizes.{sumBelow, wordsOf}
 
 -- a variable takes the words of its type, a var parameter one: the location that it is bound to
@@ -56,4 +58,4 @@ known T τ = course false (knownAt T) τ
 
 -- a value of type τ at location a lies in one area
 unfoldable pub fits : Table → ℕ → ℕ → Bool
-fits T a τ = both (ltb a 16384) (leb (a % 256 + wordsOf T τ) 256)
+fits T a τ = both (ltb a locations) (leb (a % 256 + wordsOf T τ) 256)

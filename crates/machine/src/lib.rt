@@ -2,13 +2,37 @@
 ghost use mathlib.Core.Path.{_≡_};
 ghost use Prim.Native.Nat.{_*_, _≤_, _<_};
 ghost use Rattle.machine.specs.Memory.{memoryOf, update};
-ghost use Rattle.machine.specs.Layout.{location, recordAt};
-ghost use Rattle.machine.specs.Lent.{Lent, Changed};
+ghost use Rattle.machine.specs.Layout.{location, recordAt, stateWords, locations};
+ghost use Rattle.machine.specs.Lent.{Lent, Changed, State, Becomes};
+
+// The words of a state: 64 areas of 256 words, then 64 control records of 20.
+pub const STATE_WORDS: usize = 17664;
+
+// The words of a control record, as Layout has them.
+pub const STATUS: usize = 0;
+
+pub const MODULE: usize = 1;
+
+pub const STATEMENT: usize = 2;
+
+pub const FRAME: usize = 3;
+
+pub const TOP: usize = 4;
+
+pub const WORKS: usize = 5;
+
+pub const HOLDER: usize = 6;
+
+pub const DEPTH: usize = 7;
+// In that of process 1: how many processes are created, and the run's failure mark.
+pub const CREATED: usize = 8;
+
+pub const FAILURE: usize = 9;
 
 // Where word k of the area of process p stands.
 pub fn location_of(p: usize, k: usize) -> usize
     requires { ⌜ (1 ≤ p) × ((p ≤ 64) × (k ≤ 255)) ⌝ }
-    ensures { λ r. ⌜ (r ≡ location p k) × (r < 16384) ⌝ }
+    ensures { λ r. ⌜ (r ≡ location p k) × (r < locations) ⌝ }
 {
     (p - 1) * 256 + k
 }
@@ -16,7 +40,7 @@ pub fn location_of(p: usize, k: usize) -> usize
 // Where word k of the control record of process p stands.
 pub fn record_of(p: usize, k: usize) -> usize
     requires { ⌜ (1 ≤ p) × ((p ≤ 64) × (k < 20)) ⌝ }
-    ensures { λ r. ⌜ (r ≡ recordAt p k) × (r < 17664) ⌝ }
+    ensures { λ r. ⌜ (r ≡ recordAt p k) × (r < stateWords) ⌝ }
 {
     16384 + (p - 1) * 20 + k
 }
@@ -41,34 +65,34 @@ pub fn set_word(s: &mut [u8], n: usize, i: usize, v: u16)
 
 // Word k of the area of process p.
 pub fn area_word(state: &[u8], p: usize, k: usize) -> u16
-    requires { ⌜ Lent 17664 (now state) ⌝ }
+    requires { ⌜ State (now state) ⌝ }
     requires { ⌜ (1 ≤ p) × ((p ≤ 64) × (k ≤ 255)) ⌝ }
     ensures { λ r. ⌜ r ≡ memoryOf (now (state .entry)) (location p k) ⌝ }
 {
-    word_of(state, 17664, location_of(p, k))
+    word_of(state, STATE_WORDS, location_of(p, k))
 }
 
 pub fn set_area_word(state: &mut [u8], p: usize, k: usize, v: u16)
-    requires { ⌜ Lent 17664 (now state) ⌝ }
+    requires { ⌜ State (now state) ⌝ }
     requires { ⌜ (1 ≤ p) × ((p ≤ 64) × (k ≤ 255)) ⌝ }
-    ensures { λ _. ⌜ Changed 17664 (now (state .exit)) (update (memoryOf (now (state .entry))) (location p k) v) ⌝ }
+    ensures { λ _. ⌜ Becomes (now (state .exit)) (update (memoryOf (now (state .entry))) (location p k) v) ⌝ }
 {
-    set_word(state, 17664, location_of(p, k), v);
+    set_word(state, STATE_WORDS, location_of(p, k), v);
 }
 
 // Word k of the control record of process p.
 pub fn record_word(state: &[u8], p: usize, k: usize) -> u16
-    requires { ⌜ Lent 17664 (now state) ⌝ }
+    requires { ⌜ State (now state) ⌝ }
     requires { ⌜ (1 ≤ p) × ((p ≤ 64) × (k < 20)) ⌝ }
     ensures { λ r. ⌜ r ≡ memoryOf (now (state .entry)) (recordAt p k) ⌝ }
 {
-    word_of(state, 17664, record_of(p, k))
+    word_of(state, STATE_WORDS, record_of(p, k))
 }
 
 pub fn set_record_word(state: &mut [u8], p: usize, k: usize, v: u16)
-    requires { ⌜ Lent 17664 (now state) ⌝ }
+    requires { ⌜ State (now state) ⌝ }
     requires { ⌜ (1 ≤ p) × ((p ≤ 64) × (k < 20)) ⌝ }
-    ensures { λ _. ⌜ Changed 17664 (now (state .exit)) (update (memoryOf (now (state .entry))) (recordAt p k) v) ⌝ }
+    ensures { λ _. ⌜ Becomes (now (state .exit)) (update (memoryOf (now (state .entry))) (recordAt p k) v) ⌝ }
 {
-    set_word(state, 17664, record_of(p, k), v);
+    set_word(state, STATE_WORDS, record_of(p, k), v);
 }

@@ -5,11 +5,12 @@ use Prim.Native.Nat.{ℕ, zero, suc, _+_, _-_, _<_, _≤_}
 use native.Mathlib.Omega.{arith}
 use native.Mathlib.Numerals.{add-one}
 use borrow.Author.Tests.{lt-ltb, le-leb, lt-leb, eq-eqb, ne-eqb}
-use Rattle.basics.specs.Chain.{Chain}
+use Rattle.basics.specs.Loops.{Chain}
 use Rattle.basics.proofs.Chains.{ends, chain-none, chain-more, chain-all}
 use Rattle.table.specs.Table.{Table}
 use Rattle.table.specs.Entries.{blockCount, firstStmt, stmtCount, stmtA, stmtLink}
-use Rattle.nesting.specs.Nest.{class, Body, one, more, Statement, simple, group, Arm, arm, Arms, last, next, stmtEnd, bodyFrom, armEnd, armsFrom, closed, bodyEnd, armsEnd, Block, block, Blocks, none, further, finished, blockEnd, blockOk, nested}
+use Rattle.nesting.specs.Nest.{class, stmtEnd, bodyFrom, armEnd, armsFrom, closed, bodyEnd, armsEnd, finished, blockEnd, blockOk, nested}
+use Rattle.nesting.specs.Grammar.{Body, one, more, Statement, simple, group, Arm, arm, Arms, last, next, Block, block, Blocks, none, further}
 use Rattle.nesting.proofs.Grammar.{within, body-up, stmt-up, arm-up, stmt-in, arm-in, first-arm, first-stmt, blocks-sound}
 
 module _ (T : Table) where

@@ -4,10 +4,11 @@ use Prim.Native.Nat.{ℕ, _+_, _-_, _<_, _≤_}
 use native.Mathlib.Omega.{arith}
 use lib.Dec.{ltb, eqb}
 use borrow.Author.Tests.{ltb-true, ltb-false, eqb-true, eqb-false}
-use Rattle.basics.specs.Choice.{cases}
+use Rattle.basics.specs.Cases.{cases}
 use Rattle.table.specs.Table.{Table}
 use Rattle.table.specs.Entries.{stmtLink}
-use Rattle.nesting.specs.Nest.{class, Body, one, more, Statement, simple, group, Arm, arm, Arms, last, next}
+use Rattle.nesting.specs.Nest.{class}
+use Rattle.nesting.specs.Grammar.{Body, one, more, Statement, simple, group, Arm, arm, Arms, last, next}
 use Rattle.nesting.proofs.Grammar.{body-up, stmt-up, arm-up, arms-up, first-arm}
 
 -- statement k is right among the statements from lo to before hi

@@ -8,10 +8,11 @@ use borrow.Author.Tests.{le-leb, lt-leb, lt-ltb, le-ltb, eq-eqb, ne-eqb}
 use borrow.Author.Needs.{needs}
 use mir.Val.{Fits}
 use mir.Syntax.{w64}
-use Rattle.basics.specs.Chain.{Chain}
+use Rattle.basics.specs.Loops.{Chain}
 use Rattle.table.specs.Table.{Table}
 use Rattle.table.specs.Entries.{blockCount, firstStmt, stmtCount, stmtKind, stmtLink}
-use Rattle.nesting.specs.Nest.{classOf, class, Statement, Arm, stmtEnd, bodyFrom, armEnd, armsFrom, closed, bodyEnd, armsEnd, blockEnd, blockOk, finished, nested}
+use Rattle.nesting.specs.Nest.{classOf, class, stmtEnd, bodyFrom, armEnd, armsFrom, closed, bodyEnd, armsEnd, blockEnd, blockOk, finished, nested}
+use Rattle.nesting.specs.Grammar.{Statement, Arm}
 use Rattle.nesting.specs.Ends.{ClassIs, BodyEnds, ArmsEnds, ArmEnds, StmtEnds, BodyRest, ArmsRest}
 use Rattle.basics.proofs.Chains.{chain-none, chain-more, chain-fail, chain-all}
 use Rattle.table.specs.Reading.{Field}

@@ -5,12 +5,14 @@ use Prim.Native.Nat.{ℕ, zero, suc, _+_, _-_, _<_, _≤_}
 use native.Mathlib.Omega.{arith}
 use lib.Dec.{ltb, leb, eqb}
 use borrow.Author.Tests.{ltb-true, eqb-true, eqb-false}
-use Rattle.basics.specs.Choice.{pick, cases}
+use Rattle.basics.specs.Choice.{pick}
+use Rattle.basics.specs.Cases.{cases}
 use Rattle.basics.specs.Chain.{free}
 use Rattle.basics.proofs.Chains.{passes}
 use Rattle.table.specs.Table.{Table}
 use Rattle.table.specs.Entries.{blockCount, firstStmt, stmtCount, stmtA, stmtLink}
-use Rattle.nesting.specs.Nest.{class, Body, one, more, Statement, simple, group, Arm, arm, Arms, last, next, onward, stmtEnd, bodyFrom, armEnd, armsFrom, closed, bodyEnd, armsEnd, Block, block, Blocks, none, further, finished, blockEnd, blockOk, nested}
+use Rattle.nesting.specs.Nest.{class, onward, stmtEnd, bodyFrom, armEnd, armsFrom, closed, bodyEnd, armsEnd, finished, blockEnd, blockOk, nested}
+use Rattle.nesting.specs.Grammar.{Body, one, more, Statement, simple, group, Arm, arm, Arms, last, next, Block, block, Blocks, none, further}
 
 module _ (T : Table) where
   -- what is no class 5 is within

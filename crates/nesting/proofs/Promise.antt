@@ -7,12 +7,14 @@ use native.Mathlib.Omega.{arith}
 use native.Mathlib.Numerals.{add-one}
 use lib.Dec.{ltb, leb, eqb}
 use borrow.Author.Tests.{ltb-true, ltb-false, leb-true, leb-false, eqb-true, eqb-false, ne-eqb, eq-eqb}
-use Rattle.basics.specs.Choice.{cases}
+use Rattle.basics.specs.Cases.{cases}
 use Rattle.basics.specs.Chain.{free}
 use Rattle.basics.proofs.Chains.{passes, ends, rises}
 use Rattle.table.specs.Table.{Table}
-use Rattle.table.specs.Entries.{blockCount, firstStmt, stmtCount, stmtKind, stmtA, stmtLink}
-use Rattle.nesting.specs.Nest.{class, Block, block, blockEnd, blockOk, nested, blockStep, blockOf, stmtLimit, StmtOf}
+use Rattle.table.specs.Entries.{blockCount, firstStmt, stmtCount, stmtKind, stmtA, stmtLink, stmtLimit}
+use Rattle.nesting.specs.Nest.{class, blockEnd, blockOk, nested, blockStep}
+use Rattle.nesting.specs.Grammar.{Block, block}
+use Rattle.nesting.specs.Blocks.{blockOf, StmtOf}
 use Rattle.nesting.proofs.Grammar.{within, body-up, block-sound}
 use Rattle.nesting.proofs.Fine.{Fine, body-fine}
 use Rattle.nesting.proofs.Classes.{opener-low, opener-high, arm-kind, end-kind, block-end-kind, class-opener, class-arm, class-end, class-block-end}

@@ -1,2 +1,4 @@
 pub mod Nest
+pub mod Blocks
+pub mod Grammar
 pub mod Ends

@@ -1,10 +1,10 @@
+-- Trusted: public promises are said with these definitions.
 -- How statements nest (01, refusal 6; the report's 4.2, 11.6): the grammar, and the rule that says it in numbers. Assumes nothing.
-use mathlib.Core.Path.{_≡_}
 use mathlib.Core.Bool.{Bool}
-use Prim.Native.Nat.{ℕ, zero, suc, _+_, _≤_, _<_}
+use Prim.Native.Nat.{ℕ, zero, suc, _+_}
 use lib.Dec.{ltb, leb, eqb}
 use Rattle.basics.specs.Choice.{pick}
-use Rattle.basics.specs.Chain.{free, chained}
+use Rattle.basics.specs.Chain.{chained}
 use Rattle.table.specs.Table.{Table}
 use Rattle.table.specs.Entries.{blockCount, firstStmt, stmtCount, stmtKind, stmtA, stmtLink}
 
@@ -22,36 +22,6 @@ classOf k =
 -- the class of statement i; past the last there is none
 unfoldable pub class : Table → ℕ → ℕ
 class T i = pick (ltb i (stmtCount T)) (classOf (stmtKind T i)) 5
-
--- THE GRAMMAR, as relations: the statements from i to before j are a body, one statement, one arm, or the arms of opener o with their end
-mutual
-  -- one or more statements
-  pub data Body (T : Table) : ℕ → ℕ → Type 0 where
-    one : {i j : ℕ} → Statement T i j → Body T i j
-    more : {i j k : ℕ} → Statement T i j → Body T j k → Body T i k
-
-  -- a simple statement, or an opener and its arms
-  pub data Statement (T : Table) : ℕ → ℕ → Type 0 where
-    simple : {i j : ℕ} → class T i ≡ 0 → j ≡ i + 1 → Statement T i j
-    group : {i j : ℕ} → class T i ≡ 1 → Arms T i (i + 1) j → Statement T i j
-
-  -- an arm and its body; its link is the number after them, which is the next arm or the end
-  pub data Arm (T : Table) : ℕ → ℕ → Type 0 where
-    arm : {i j : ℕ} → class T i ≡ 2 → Body T (i + 1) j → stmtLink T i ≡ j → Arm T i j
-
-  -- one or more arms and the end, whose link is the opener
-  pub data Arms (T : Table) : ℕ → ℕ → ℕ → Type 0 where
-    last : {o i j k : ℕ} → Arm T i j → class T j ≡ 3 → stmtLink T j ≡ o → k ≡ j + 1 → Arms T o i k
-    next : {o i j k : ℕ} → Arm T i j → Arms T o j k → Arms T o i k
-
--- block b is the statements from i, its first statement, to before j: a body, and its own block end
-pub data Block (T : Table) (b : ℕ) : ℕ → ℕ → Type 0 where
-  block : {i e j : ℕ} → firstStmt T b ≡ i → Body T i e → class T e ≡ 4 → stmtA T e ≡ b → j ≡ e + 1 → Block T b i j
-
--- the blocks below b are, in order, the statements below i
-pub data Blocks (T : Table) : ℕ → ℕ → Type 0 where
-  none : Blocks T 0 0
-  further : {b i j : ℕ} → Blocks T b i → Block T b i j → Blocks T (suc b) j
 
 -- THE SAME, as numbers: where the body, statement or arms that begin at i end; 0 where there are none
 -- 0 stays 0
@@ -109,16 +79,3 @@ nested T = chained (blockEnd T) (blockOk T) (blockCount T) (stmtCount T)
 -- the block of the statement after i, where b is that of i
 unfoldable pub blockStep : Table → ℕ → ℕ → ℕ
 blockStep T i b = pick (eqb (stmtKind T i) 13) (b + 1) b
-
--- the block of statement i: as many block ends stand before it
-unfoldable pub blockOf : Table → ℕ → ℕ
-blockOf T i = free (blockStep T) i
-
--- the number after the last statement of block b
-unfoldable pub stmtLimit : Table → ℕ → ℕ
-stmtLimit T b = pick (ltb (b + 1) (blockCount T)) (firstStmt T (b + 1)) (stmtCount T)
-
--- statement i is one of block b's
-pub record StmtOf (T : Table) (b i : ℕ) : Type 0 where
-  pub from : firstStmt T b ≤ i
-  pub below : i < stmtLimit T b

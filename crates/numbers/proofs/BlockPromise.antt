@@ -5,7 +5,7 @@ use mathlib.Core.Bool.{true}
 use native.Mathlib.Omega.{arith}
 use lib.Dec.{eqb}
 use borrow.Author.Tests.{eqb-true, eqb-false, leb-true, ltb-true, lt-ltb, le-ltb, ne-eqb}
-use Rattle.basics.specs.Choice.{cases}
+use Rattle.basics.specs.Cases.{cases}
 use Rattle.basics.specs.Chain.{always}
 use Rattle.basics.proofs.Bools.{both-l, both-r, between-true, all-at}
 use Rattle.basics.proofs.Takes.{there, apart}

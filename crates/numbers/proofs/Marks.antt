@@ -6,8 +6,9 @@ use lib.ListN.{length, getD, replicate, length-replicate, getD-replicate}
 use lib.Dec.{eqb, leb}
 use borrow.Author.Tests.{ne-eqb, leb-true, leb-false, le-leb, lt-leb}
 use native.Mathlib.Omega.{arith}
-use Rattle.basics.specs.Choice.{cases}
-use Rattle.basics.specs.Marks.{occurs, gather, marked, Seen}
+use Rattle.basics.specs.Cases.{cases}
+use Rattle.basics.specs.Marks.{occurs, gather}
+use Rattle.basics.specs.Loops.{marked, Seen}
 use Rattle.basics.proofs.Marking.{length-marked, seen-zeros, seen-more, gather-more}
 use Rattle.table.specs.Table.{Table}
 use Rattle.table.specs.Entries.{typeKind, typeP, typeCount, blockCount}

@@ -5,13 +5,15 @@ use mathlib.Core.Bool.{true, false}
 use native.Mathlib.Omega.{arith}
 use lib.Dec.{eqb}
 use borrow.Author.Tests.{eqb-true, leb-true, ltb-true}
-use Rattle.basics.specs.Choice.{both, between, cases}
+use Rattle.basics.specs.Choice.{both, between}
+use Rattle.basics.specs.Cases.{cases}
 use Rattle.basics.proofs.Bools.{both-l, both-r, between-true}
 use Rattle.basics.proofs.Takes.{there, apart}
 use Rattle.table.specs.Table.{Table}
 use Rattle.table.specs.Entries.{typeKind, typeQ, blockKind, argNode, nodeKind, nodeP, nodeQ, stmtKind, stmtA, stmtB, stmtC, stmtD, stmtLink, varCount, blockCount, argCount, nodeCount, stmtCount}
 use Rattle.types.specs.Types.{typeOf}
-use Rattle.numbers.specs.Sorts.{variableKind, expressionKind, variableBelow, expressionBelow, Variable, Expression}
+use Rattle.numbers.specs.Sorts.{variableKind, expressionKind, variableBelow, expressionBelow}
+use Rattle.numbers.specs.Nodes.{Variable, Expression}
 use Rattle.numbers.specs.Operands.{argRanged, pRanged, placeRanged, qRanged, nodeRanged, aVariable, aExpression, aBlock, aRanged, bExpression, bRanged, linkRanged, stmtRanged, isCall, callFirst, callCount, argumentsTaken}
 use Rattle.numbers.specs.Ranges.{inRange}
 use Rattle.numbers.proofs.Parts.{arguments-taken, arg-row, node-row, stmt-row}

@@ -4,7 +4,8 @@ use mathlib.Core.Path.{_≡_}
 use mathlib.Core.Bool.{Bool, false}
 use native.Mathlib.Omega.{arith}
 use lib.Dec.{eqb}
-use Rattle.basics.specs.Chain.{chained, Chain}
+use Rattle.basics.specs.Chain.{chained}
+use Rattle.basics.specs.Loops.{Chain}
 use Rattle.basics.proofs.Chains.{chain-none, chain-more, chain-fail, chain-all}
 use Rattle.basics.proofs.Takes.{all-ok, all-bad, all-step, take-test, take-step}
 

@@ -1,3 +1,4 @@
+-- Trusted: public promises are said with these definitions.
 -- Refusal 4 in blocks, and in the modes of their variables (01, The table and Verdicts). Assumes nothing.
 use Prim.Native.Nat.{ℕ, _+_, _%_}
 use mathlib.Core.Bool.{Bool}

@@ -1,3 +1,4 @@
+-- Trusted: public promises are said with these definitions.
 -- Refusal 4 in types, fields and variables (01, The table). Assumes nothing.
 use Prim.Native.Nat.{ℕ, _+_}
 use mathlib.Core.Bool.{Bool, true}

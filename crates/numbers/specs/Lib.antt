@@ -1,4 +1,5 @@
 pub mod Sorts
+pub mod Nodes
 pub mod Declarations
 pub mod Marking
 pub mod Blocks

@@ -1,3 +1,4 @@
+-- Inner: for code and proofs only; no public promise is said with these definitions.
 -- The marks by which process types that name the same module are found. Assumes nothing.
 use Prim.Native.Nat.{ℕ, _+_, _≤_, _<_}
 use mathlib.Core.Path.{_≡_}
@@ -5,7 +6,8 @@ use mathlib.Core.List.{List}
 use lib.ListN.{length, getD}
 use lib.Dec.{eqb}
 use Rattle.basics.specs.Choice.{pick}
-use Rattle.basics.specs.Marks.{gather, marked, Seen}
+use Rattle.basics.specs.Marks.{gather}
+use Rattle.basics.specs.Loops.{marked, Seen}
 use Rattle.table.specs.Table.{Table}
 use Rattle.table.specs.Entries.{typeKind, typeP, blockCount}
 use Rattle.numbers.specs.Declarations.{moduleOf}

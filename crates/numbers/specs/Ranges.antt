@@ -1,3 +1,4 @@
+-- Trusted: public promises are said with these definitions.
 -- Refusal 4: 'a number outside its section or given range, or (statement numbers apart) of the wrong sort or against the order rules; block 0
 -- missing, no program or with parameters; another program; mode 0 among parameters or another mode after them; a wrong space'. Assumes nothing.
 use mathlib.Core.Bool.{Bool}

@@ -1,5 +1,6 @@
+-- Trusted: public promises are said with these definitions.
 -- Numbers that name something, and of the right sort (01, refusal 4). Assumes nothing.
-use Prim.Native.Nat.{ℕ, _≤_, _<_}
+use Prim.Native.Nat.{ℕ}
 use mathlib.Core.Bool.{Bool, true}
 use lib.Dec.{eqb, ltb}
 use Rattle.basics.specs.Choice.{pick, both, between}
@@ -23,14 +24,3 @@ expressionBelow T m n = both (ltb n m) (expressionKind (nodeKind T n))
 -- b is an existing block of kind k
 unfoldable pub blockOf : Table → ℕ → ℕ → Bool
 blockOf T k b = both (ltb b (blockCount T)) (eqb (blockKind T b) k)
-
--- what the tests say: node n is below m, and a variable; and an expression
-pub record Variable (T : Table) (m n : ℕ) : Type 0 where
-  pub below : n < m
-  pub low : 1 ≤ nodeKind T n
-  pub high : nodeKind T n ≤ 3
-
-pub record Expression (T : Table) (m n : ℕ) : Type 0 where
-  pub below : n < m
-  pub sort : 1 ≤ nodeKind T n → 4 ≤ nodeKind T n
-  pub high : nodeKind T n ≤ 7

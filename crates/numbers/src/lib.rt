@@ -8,7 +8,7 @@ pub mod operands; // arguments, nodes, statements
 ghost use mathlib.Core.Path.{_≡_};
 ghost use Prim.Native.Nat.{_<_};
 ghost use Rattle.code.specs.Code.{decoded};
-ghost use Rattle.types.specs.Types.{Types};
+ghost use Rattle.types.specs.Kept.{Types};
 ghost use Rattle.numbers.specs.Marking.{Clear};
 ghost use Rattle.numbers.specs.Ranges.{inOrder, typesRanged, declarationsRanged, operandsRanged, inRange};
 

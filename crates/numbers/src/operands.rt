@@ -4,7 +4,7 @@ ghost use Prim.Native.Nat.{_+_, _<_};
 ghost use Rattle.basics.specs.Choice.{allBelow};
 ghost use Rattle.code.specs.Code.{decoded};
 ghost use Rattle.table.specs.Entries.{argCount, nodeCount, stmtCount};
-ghost use Rattle.types.specs.Types.{Types};
+ghost use Rattle.types.specs.Kept.{Types};
 ghost use Rattle.numbers.specs.Operands.{argRanged, pRanged, placeRanged, qRanged, nodeRanged, aVariable, aExpression, aBlock, aRanged, bExpression, bRanged, linkRanged, stmtRanged};
 use super::sorts;
 

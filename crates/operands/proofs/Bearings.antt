@@ -5,7 +5,7 @@ use mathlib.Core.List.{List, [], _∷_}
 use Rattle.table.specs.Entries.{firstVar, vars}
 use Rattle.table.specs.Reading.{Field}
 use Rattle.types.specs.Types.{typeOf}
-use Rattle.words.specs.Outcomes.{outcomeOf}
+use Rattle.words.specs.Values.{outcomeOf}
 use Rattle.words.specs.declared.values.Value.{Value}
 use Rattle.machine.specs.Memory.{memoryOf}
 use Rattle.machine.specs.Layout.{location}

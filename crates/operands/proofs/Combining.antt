@@ -7,12 +7,12 @@ use lib.ListN.{length}
 use lib.Dec.{eqb, leb}
 use native.Mathlib.Omega.{arith}
 use borrow.Author.Tests.{eqb-true, eqb-false, ltb-true, ltb-false, leb-true, le-leb}
-use Rattle.basics.specs.Choice.{cases}
+use Rattle.basics.specs.Cases.{cases}
 use Rattle.basics.proofs.Bools.{no-true}
 use Rattle.table.specs.Table.{Table}
 use Rattle.table.specs.Entries.{nodeCount, nodeP, nodeQ, nodeV}
 use Rattle.types.specs.Types.{typeOf}
-use Rattle.numbers.specs.Sorts.{Expression}
+use Rattle.numbers.specs.Nodes.{Expression}
 use Rattle.numbers.proofs.OperandPromise.{binary-left, binary-right}
 use Rattle.typing.proofs.Promise as typing
 use Rattle.sizes.specs.Sizes.{wordsOf}

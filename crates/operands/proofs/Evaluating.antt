@@ -6,12 +6,13 @@ use mathlib.Core.List.{List}
 use lib.Dec.{eqb, leb, ltb}
 use native.Mathlib.Omega.{arith}
 use borrow.Author.Tests.{eqb-true, eqb-false, leb-false, le-leb, lt-leb}
-use Rattle.basics.specs.Choice.{cases, both}
+use Rattle.basics.specs.Cases.{cases}
+use Rattle.basics.specs.Choice.{both}
 use Rattle.table.specs.Table.{Table}
 use Rattle.table.specs.Entries.{nodeCount, nodeKind, nodeP, nodeQ, nodeV}
 use Rattle.table.specs.Reading.{Field}
 use Rattle.types.specs.Types.{unaryType, binaryType, typeOf}
-use Rattle.numbers.specs.Sorts.{Variable, Expression}
+use Rattle.numbers.specs.Nodes.{Variable, Expression}
 use Rattle.numbers.specs.Ranges.{inRange}
 use Rattle.typing.specs.Typing.{typed}
 use Rattle.numbers.proofs.OperandPromise.{constant-type, value-variable, unary-operand, binary-left, transfer-operand, transfer-type}
@@ -19,7 +20,7 @@ use Rattle.typing.proofs.Promise as typing
 use Rattle.sizes.specs.Sizes.{wordsOf}
 use Rattle.sizes.proofs.Counting.{words-standard}
 use Rattle.words.specs.Outcomes as words
-use Rattle.words.specs.Outcomes.{failureNumber}
+use Rattle.words.specs.Values.{failureNumber}
 use Rattle.words.specs.Types.{transferW}
 use Rattle.words.specs.declared.values.Failure.{Failure}
 use Rattle.machine.specs.Memory.{memoryOf, wordsAt}
@@ -27,6 +28,7 @@ use Rattle.machine.specs.Entries.{unaryAt}
 use Rattle.machine.specs.Outcomes.{Outcome, ok, fail, andThen, need, Operand, place, value, valued, onPlace, onValue, wordOf}
 use Rattle.machine.specs.Variables.{fits}
 use Rattle.machine.specs.Operands.{given, unaryValue}
+use Rattle.machine.specs.Layout.{locations}
 use Rattle.code.specs.Code.{slotIn, decoded}
 use Rattle.operands.specs.declared.Context.{Context}
 use Rattle.operands.specs.declared.Place.{Place}
@@ -227,7 +229,7 @@ module _ (t m p : List ℕ) (x : Context) (h : Ready t m p x) (n : ℕ) (c : Ret
       pub held-fits : fits (decoded t) a (typeOf (decoded t) n) ≡ true
       held-fits = there-fits a held-place
 
-      pub held-low : a < 16384
+      pub held-low : a < locations
       held-low = selected-low t m p x h v got-selectable a held-place
 
       pub held-value : out t m p x n ≡ ok (value (typeOf (decoded t) n) (wordsAt (memoryOf m) a (wordsOf (decoded t) (typeOf (decoded t) n))))
@@ -250,7 +252,7 @@ module _ (t m p : List ℕ) (x : Context) (h : Ready t m p x) (n : ℕ) (c : Ev 
   seen-naming = whole-naming t m p x h v seen-selectable j w hj hw g
 
   module _ (a : ℕ) (ha : a ≡ wholeAt (decoded t) (memoryOf m) x w) where
-    pub seen-low : a < 16384
+    pub seen-low : a < locations
     seen-low = selected-low t m p x h v seen-selectable a (whole-selected t m p x h v seen-selectable j w hj hw a g ha)
 
     pub seen-returns : (d r : ℕ) → d ≡ memoryOf m a → Field d r → Evaluated t m p x n r

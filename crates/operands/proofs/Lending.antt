@@ -6,22 +6,23 @@ use lib.ListN.{length}
 use native.Mathlib.Omega.{arith}
 use Rattle.table.specs.Entries.{nodeCount, nodeKind, varCount, varType}
 use Rattle.types.specs.Types.{typeOf}
-use Rattle.numbers.specs.Sorts.{Variable, Expression}
+use Rattle.numbers.specs.Nodes.{Variable, Expression}
 use Rattle.numbers.proofs.TypePromise as numbers
 use Rattle.code.specs.Code.{slotIn, decoded}
 use Rattle.prepare.specs.Prepared.{Prepared}
 use Rattle.operands.specs.declared.Context.{Context}
 use Rattle.operands.specs.Ready.{Ready, Sized, Valued}
 use Rattle.operands.proofs.NodeTypes.{type-there}
+use Rattle.machine.specs.Layout.{stateSize, pageSize}
 
 module _ (t m p : List ℕ) (x : Context) (h : Ready t m p x) where
   pub lends-code : Prepared t
   lends-code = h .code
 
-  pub lends-state : length m ≡ 35328
+  pub lends-state : length m ≡ stateSize
   lends-state = h .state
 
-  pub lends-page : length p ≡ 8192
+  pub lends-page : length p ≡ pageSize
   lends-page = h .page
 
   -- the type of node n, as it is read

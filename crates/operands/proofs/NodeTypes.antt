@@ -5,7 +5,7 @@ use mathlib.Core.Bool.{true}
 use lib.Dec.{eqb, leb}
 use native.Mathlib.Omega.{arith}
 use borrow.Author.Tests.{eqb-true, eq-eqb, lt-ltb}
-use Rattle.basics.specs.Choice.{cases}
+use Rattle.basics.specs.Cases.{cases}
 use Rattle.table.specs.Table.{Table}
 use Rattle.table.specs.Entries.{nodeCount, typeCount, typeKind, typeQ, nodeKind, nodeP, nodeQ, nodeV}
 use Rattle.types.specs.Types.{fieldOf, elementOf, unaryType, binaryType, typeOf}

@@ -6,18 +6,19 @@ use mathlib.Core.List.{List}
 use lib.Dec.{eqb, ltb}
 use native.Mathlib.Omega.{arith}
 use borrow.Author.Tests.{eqb-true, eqb-false, ltb-true, leb-true, lt-ltb, eq-eqb}
-use Rattle.basics.specs.Choice.{pick, cases}
+use Rattle.basics.specs.Choice.{pick}
+use Rattle.basics.specs.Cases.{cases}
 use Rattle.basics.proofs.Bools.{both-l, both-r, both-i, no-true}
 use Rattle.table.specs.Table.{Table}
 use Rattle.table.specs.Entries.{varCount, typeKind, typeP, typeQ, typeLow, typeHigh, fieldType, varType, owner, nodeKind, nodeP, nodeQ}
 use Rattle.table.specs.Reading.{Field}
 use Rattle.types.specs.Types.{fieldOf, elementOf, typeOf}
-use Rattle.numbers.specs.Sorts.{Variable, Expression}
+use Rattle.numbers.specs.Nodes.{Variable, Expression}
 use Rattle.numbers.proofs.OperandPromise.{field-variable, element-variable, element-index}
 use Rattle.sizes.specs.Sizes.{wordsOf, offsetIn}
 use Rattle.words.specs.Outcomes as words
 use Rattle.machine.specs.Memory.{Memory, memoryOf}
-use Rattle.machine.specs.Layout.{location}
+use Rattle.machine.specs.Layout.{location, locations}
 use Rattle.machine.specs.Outcomes.{Outcome, ok, fail, andThen, need, failWhere, Operand, place, value, placed, valued, onPlace, onValue, onWord, wordOf}
 use Rattle.machine.specs.Variables.{offsetOf, belongs, known, fits}
 use Rattle.machine.specs.Operands.{onRecord, onArray, outside, placeAt, fieldPlace, elementPlace, moduleVariable, frameVariable, wholePlace, operand}
@@ -36,13 +37,13 @@ use Rattle.operands.proofs.Yielding.{no-unstuck, through, need-is, firs
 
 -- a place lies in one area
 module _ (T : Table) (a τ : ℕ) (e : fits T a τ ≡ true) where
-  pub fits-low : a < 16384
+  pub fits-low : a < locations
   unfolding fits
-  fits-low = ltb-true a 16384 (both-l _ _ e)
+  fits-low = ltb-true a locations (both-l _ _ e)
 
-  pub fits-high : a + wordsOf T τ ≤ 16384
+  pub fits-high : a + wordsOf T τ ≤ locations
   unfolding fits
-  fits-high = let l = fits-low in let g = leb-true (a % 256 + wordsOf T τ) 256 (both-r (ltb a 16384) _ e) in omega arith
+  fits-high = let l = fits-low in let g = leb-true (a % 256 + wordsOf T τ) 256 (both-r (ltb a locations) _ e) in omega arith
 
 -- parts
 module _ (T : Table) (a τ i : ℕ) (u : Unstuck (fieldPlace T a τ i)) where
@@ -210,7 +211,7 @@ module _ (t m p : List ℕ) (x : Context) (h : Ready t m p x) (n : ℕ) (c : Sel
       (subst (OfType (decoded t) (typeOf (decoded t) n)) (sym e)
       (typed-variable (decoded t) (memoryOf m) (memoryOf p) (contextIn x) (h .ranged) n (c .variable)))
 
-  pub selected-low : a < 16384
+  pub selected-low : a < locations
   selected-low = fits-low (decoded t) a (typeOf (decoded t) n) selected-fits
 
 module _ (t m p : List ℕ) (x : Context) (h : Ready t m p x) (n : ℕ) (c : Sel t m p x n) (k v : ℕ) (hk : k ≡ nodeKind (decoded t) n) (hv : v ≡ nodeP (decoded t) n) where
@@ -288,7 +289,7 @@ module _ (t m p : List ℕ) (x : Context) (h : Ready t m p x) (n : ℕ) (c : Sel
         part-is : out t m p x v ≡ ok (place a (typeOf (decoded t) v))
         part-is = told-place (typeOf (decoded t) v) (out t m p x v) l hl s ∙ rw ha
 
-        part-low : a < 16384
+        part-low : a < locations
         part-low = selected-low t m p x h v part-selectable a (sym part-is)
 
         module _ (τ q : ℕ) (read : τ ≡ slotIn t v 23) (hq : q ≡ nodeQ (decoded t) n) where

@@ -20,7 +20,7 @@ use Rattle.sizes.specs.Sizes.{wordsOf, offsetIn}
 use Rattle.sizes.proofs.Promise.{words-most}
 use Rattle.words.specs.Memory.{wordAtByte, wordAt}
 use Rattle.machine.specs.Memory.{memoryOf, within, Memory, wordsAt}
-use Rattle.machine.specs.Layout.{location}
+use Rattle.machine.specs.Layout.{location, locations}
 use Rattle.machine.specs.Outcomes.{ok, failWhere, place}
 use Rattle.machine.specs.Operands.{outside, same}
 use Rattle.words.specs.Operators.{leW}
@@ -67,7 +67,7 @@ module _ (t l : List ℕ) (v : ℕ) (h : Naming t (contextAt l) v) (g : Based t 
   is-numbered = let e = g .first in let d = g .after in hb ∙ rw (e, d)
 
   module _ (e : b ≡ true) where
-    owned-low : getD l 8 0 + w < 16384
+    owned-low : getD l 8 0 + w < locations
     unfolding location
     owned-low =
         let i = module-low t (contextAt l) v h w hw (sym is-numbered ∙ e) in
@@ -92,7 +92,7 @@ module _ (t l : List ℕ) (v : ℕ) (h : Naming t (contextAt l) v) (g : Based t 
         let j = frame-low t (contextAt l) v h w hw n in
         let a = g .framed (omega arith) in rw (← i) (omega arith)
 
-    pub framed-low : getD l 9 0 + w < 16384
+    pub framed-low : getD l 9 0 + w < locations
     unfolding framed location
     framed-low =
         let a = framed-sum in
@@ -183,7 +183,7 @@ pub element-fits : (k low w : ℕ) → k < 65536 → w ≤ 200 → Fits w64 ((k 
 element-fits k low w h g =
     let l : k - low ≤ 65536 = omega arith in let m : (k - low) * w ≤ 65536 * 200 = mul-le-mul l g in record { fits = omega arith }
 
-pub element-sum : (a k low w : ℕ) → a < 16384 → k < 65536 → w ≤ 200 → Fits w64 (a + (k - low) * w)
+pub element-sum : (a k low w : ℕ) → a < locations → k < 65536 → w ≤ 200 → Fits w64 (a + (k - low) * w)
 element-sum a k low w l h g =
     let q : k - low ≤ 65536 = omega arith in let m : (k - low) * w ≤ 65536 * 200 = mul-le-mul q g in record { fits = omega arith }
 

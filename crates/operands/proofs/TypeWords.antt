@@ -6,7 +6,7 @@ use lib.Dec.{eqb, ltb}
 use native.Mathlib.Nat.{mul-le-mul}
 use native.Mathlib.Omega.{arith}
 use borrow.Author.Tests.{eqb-true, eqb-false, ltb-false}
-use Rattle.basics.specs.Choice.{cases}
+use Rattle.basics.specs.Cases.{cases}
 use Rattle.basics.proofs.Bools.{no-true}
 use Rattle.table.specs.Table.{Table}
 use Rattle.table.specs.Entries.{declared, typeCount, typeKind, typeP, typeQ, fieldType}

@@ -7,14 +7,15 @@ use lib.ListN.{length}
 use lib.Dec.{eqb, ltb}
 use native.Mathlib.Omega.{arith}
 use borrow.Author.Tests.{eqb-true, eqb-false, ltb-true, ltb-false, ne-eqb}
-use Rattle.basics.specs.Choice.{pick, cases, both}
+use Rattle.basics.specs.Choice.{pick, both}
+use Rattle.basics.specs.Cases.{cases}
 use Rattle.basics.proofs.Bools.{both-r, no-true}
 use Rattle.table.specs.Table.{Table}
 use Rattle.table.specs.Entries.{declared, nodeCount, typeKind, typeP, typeQ, typeLow, typeHigh, fieldType, varType, owner, nodeKind, nodeP, nodeQ, nodeV}
 use Rattle.types.specs.Types.{noType, fieldOf, elementOf, unaryType, binaryType, typeOf}
 use Rattle.types.specs.Match.{offset}
 use Rattle.numbers.specs.Ranges.{inRange}
-use Rattle.numbers.specs.Sorts.{Variable, Expression}
+use Rattle.numbers.specs.Nodes.{Variable, Expression}
 use Rattle.numbers.proofs.OperandPromise.{field-variable, element-variable, value-variable, unary-operand, binary-left, binary-right, transfer-operand}
 use Rattle.sizes.specs.Sizes.{wordsOf, offsetIn}
 use Rattle.sizes.proofs.Counting.{words-standard}

@@ -9,7 +9,8 @@ use lib.Dec.{eqb, leb, ltb}
 use lib.IntN.{ℤ, pos, negsuc}
 use native.Mathlib.Omega.{arith}
 use borrow.Author.Tests.{eqb-true, ltb-true, leb-true, leb-false, le-leb, lt-leb, le-ltb, ltb-false}
-use Rattle.basics.specs.Choice.{pick, cases, both}
+use Rattle.basics.specs.Choice.{pick, both}
+use Rattle.basics.specs.Cases.{cases}
 use Rattle.basics.proofs.Bools.{both-l, both-r, no-true}
 use Rattle.table.specs.Table.{Table}
 use Rattle.types.specs.Match.{offset, matches}
@@ -18,7 +19,8 @@ use Rattle.words.specs.Outcomes as words
 use Rattle.words.specs.Memory.{wordAtByte}
 use Rattle.words.specs.Numbers.{intOf, between}
 use Rattle.words.specs.Operators.{leW, boolWord}
-use Rattle.words.specs.Devices.{isDevice, positionOf, readDevice}
+use Rattle.words.specs.Devices.{isDevice, positionOf}
+use Rattle.words.specs.Pages.{readDevice}
 use Rattle.machine.specs.Memory.{Memory, memoryOf, wordsAt}
 use Rattle.machine.specs.Outcomes.{Outcome, ok, fail, stuck, andThen, need, failWhere, Operand, place, value, valued, onPlace, onValue, onWord, wordOf}
 use Rattle.machine.specs.Entries.{Unary, unaryAt, Binary, binaryAt, equal, notEqual}

@@ -1,3 +1,4 @@
+-- Inner: for code and proofs only; no public promise is said with these definitions.
 -- Where variables stand, as numbers. Assumes nothing.
 use Prim.Native.Nat.{ℕ, _+_, _-_, _*_, _<_, _≤_}
 use mathlib.Core.Path.{_≡_}
@@ -12,7 +13,7 @@ use Rattle.types.specs.Match.{offset}
 use Rattle.sizes.specs.Sizes.{wordsOf}
 use Rattle.machine.specs.Memory.{Memory, within, wordsAt}
 use Rattle.machine.specs.Operands.{same}
-use Rattle.machine.specs.Layout.{location}
+use Rattle.machine.specs.Layout.{location, stateSize, locations}
 use Rattle.machine.specs.Variables.{offsetOf, belongs}
 use Rattle.operands.specs.declared.Context.{Context}
 
@@ -46,9 +47,9 @@ elementAt T a τ i = a + (offset i - offset (typeLow T τ)) * wordsOf T (typeQ T
 
 -- the n words at locations a and b lie in areas
 pub record Rooms (s : List ℕ) (a b n : ℕ) : Type 0 where
-  pub state : length s ≡ 35328
-  pub first : a + n ≤ 16384
-  pub second : b + n ≤ 16384
+  pub state : length s ≡ stateSize
+  pub first : a + n ≤ locations
+  pub second : b + n ≤ locations
 
 -- the first i of n words at a and b are the same
 pub record Matched (m : Memory) (a b n i : ℕ) : Type 0 where

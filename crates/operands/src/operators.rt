@@ -2,12 +2,13 @@
 use words::values::Value;
 ghost use mathlib.Core.Path.{_≡_};
 ghost use lib.ListN.{length};
-ghost use Rattle.words.specs.Outcomes.{outcomeOf};
+ghost use Rattle.words.specs.Values.{outcomeOf};
 ghost use Rattle.operands.specs.Operators.{unaryWord, relates, arithmetic, logic, equality, binaryWord};
+ghost use Rattle.machine.specs.Layout.{pageSize};
 
 // Unary operator o at a word of type y.
 pub fn apply_unary(page: &[u8], o: usize, y: usize, w: u16) -> Value
-    requires { ⌜ length (now page) ≡ 8192 ⌝ }
+    requires { ⌜ length (now page) ≡ pageSize ⌝ }
     ensures { λ r. ⌜ outcomeOf r ≡ unaryWord (now (page .entry)) o y w ⌝ }
 {
     if o == 1 {

@@ -20,6 +20,7 @@ ghost use Rattle.sizes.specs.Sizes.{wordsOf, offsetIn};
 ghost use Rattle.machine.specs.Memory.{memoryOf, wordsAt};
 ghost use Rattle.machine.specs.Outcomes.{ok, failWhere, place};
 ghost use Rattle.machine.specs.Operands.{outside, same};
+ghost use Rattle.machine.specs.Layout.{stateSize, locations};
 ghost use Rattle.code.specs.Code.{decoded};
 ghost use Rattle.operands.specs.Bases.{contextAt, Based};
 ghost use Rattle.operands.specs.Packed.{PlaceIs};
@@ -34,7 +35,7 @@ fn wide(x: u16) -> usize
 
 // The word at a location.
 pub fn word_at(state: &[u8], a: usize) -> u16
-    requires { ⌜ (length (now state) ≡ 35328) × (a < 16384) ⌝ }
+    requires { ⌜ (length (now state) ≡ stateSize) × (a < locations) ⌝ }
     ensures { λ r. ⌜ r ≡ memoryOf (now (state .entry)) a ⌝ }
 {
     get(state, a)
@@ -54,7 +55,7 @@ fn is_within(first: usize, after: usize, v: usize) -> bool
 pub fn whole_at(c: &code::Slots, state: &[u8], x: &Bases, v: usize) -> usize
     requires { ⌜ Naming (now c) (contextAt (now x)) v ⌝ }
     requires { ⌜ Based (now c) (now x) ⌝ }
-    requires { ⌜ length (now state) ≡ 35328 ⌝ }
+    requires { ⌜ length (now state) ≡ stateSize ⌝ }
     ensures { λ r. ⌜ r ≡ wholeAt (decoded (now (c .entry))) (memoryOf (now (state .entry))) (contextAt (now (x .entry))) v ⌝ }
 {
     let o = code::offset_of(c, v);

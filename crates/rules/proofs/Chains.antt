@@ -8,11 +8,13 @@ use native.Mathlib.Nat.{add-zero}
 use mir.Val.{Fits}
 use mir.Syntax.{w64}
 use borrow.Author.Tests.{eq-eqb, ne-eqb, le-leb, lt-leb, lt-ltb, le-ltb, eqb-true, eqb-false, leb-true}
-use Rattle.basics.specs.Choice.{pick, cases, both, either, Passed}
+use Rattle.basics.specs.Choice.{pick, both, either}
+use Rattle.basics.specs.Cases.{cases}
+use Rattle.basics.specs.Loops.{Passed}
 use Rattle.basics.proofs.Bools.{both-l, both-r, both-i, both-false-l, both-false-r}
 use Rattle.basics.proofs.Passes.{passed-fail, passed-all}
 use Rattle.table.specs.Table.{Table}
-use Rattle.table.specs.Entries.{blockCount, stmtCount, varType, owner, firstVar, vars, firstStmt, stmtKind, stmtA, stmtB, stmtC, stmtD, stmtLink}
+use Rattle.table.specs.Entries.{blockCount, stmtCount, varType, owner, firstVar, vars, firstStmt, stmtKind, stmtA, stmtB, stmtC, stmtD, stmtLink, stmtLimit}
 use Rattle.sizes.specs.Sizes.{wordsOf, varOffset, moduleWords}
 use Rattle.sizes.proofs.Judging.{var-none, var-more}
 use Rattle.machine.specs.Memory.{Memory}
@@ -20,7 +22,7 @@ use Rattle.machine.specs.Layout.{location, linkAt, statusAt, moduleAt, statemen
 use Rattle.machine.specs.Entries.{waits, Statement, statementOf, stmtAt}
 use Rattle.machine.specs.Variables.{varWords, firstWords, frameWords, isModule, isProcedure}
 use Rattle.machine.specs.Step.{inRange}
-use Rattle.machine.specs.Rule.{nextFirst, liesIn, calls, mayWait, isCreated, worked, holdsOn, worksBy, modulesHold, framesHold, frameOk, chain, moduleOk, startedOk, processOk, failureOk, rule}
+use Rattle.machine.specs.Rule.{liesIn, calls, mayWait, isCreated, worked, holdsOn, worksBy, modulesHold, framesHold, frameOk, chain, moduleOk, startedOk, processOk, failureOk, rule}
 use Rattle.rules.specs.Walks.{Words}
 use Rattle.rules.specs.Chains.{Sum, Summed, startedOf, frameFits, calledOk, callMade, callOk, baseOk, Left, runningOk, failureHolds, processRow, processesHold}
 use Rattle.rules.proofs.Parts.{first-none, first-more}
@@ -37,19 +39,19 @@ both-go a b e = rw e
 
 -- ---- statements
 
-pub next-more : (T : Table) (b n r : ℕ) → n ≡ blockCount T → b + 1 < n → r ≡ firstStmt T (b + 1) → r ≡ nextFirst T b
-unfolding nextFirst
+pub next-more : (T : Table) (b n r : ℕ) → n ≡ blockCount T → b + 1 < n → r ≡ firstStmt T (b + 1) → r ≡ stmtLimit T b
+unfolding stmtLimit
 next-more T b n r e l h = rw (← e, lt-ltb (b + 1) n l) h
 
-pub next-last : (T : Table) (b n r : ℕ) → n ≡ blockCount T → n ≤ b + 1 → r ≡ stmtCount T → r ≡ nextFirst T b
-unfolding nextFirst
+pub next-last : (T : Table) (b n r : ℕ) → n ≡ blockCount T → n ≤ b + 1 → r ≡ stmtCount T → r ≡ stmtLimit T b
+unfolding stmtLimit
 next-last T b n r e l h = rw (← e, le-ltb (b + 1) n l) h
 
 pub lies-before : (T : Table) (b c k : ℕ) → k ≡ firstStmt T b → c < k → false ≡ liesIn T b c
 unfolding liesIn both
 lies-before T b c k e l = rw (← e, lt-leb k c l)
 
-pub lies-after : (T : Table) (b c k n : ℕ) → k ≡ firstStmt T b → k ≤ c → n ≡ nextFirst T b → ltb c n ≡ liesIn T b c
+pub lies-after : (T : Table) (b c k n : ℕ) → k ≡ firstStmt T b → k ≤ c → n ≡ stmtLimit T b → ltb c n ≡ liesIn T b c
 unfolding liesIn both
 lies-after T b c k n e l h = rw (← e, le-leb k c l, ← h)
 

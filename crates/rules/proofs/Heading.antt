@@ -10,7 +10,8 @@ use native.Mathlib.Omega.{arith}
 use native.Mathlib.Numerals.{add-one}
 use native.Mathlib.Nat.{add-zero, suc-mul}
 use borrow.Author.Tests.{eqb-true, eqb-false, eq-eqb, ne-eqb, lt-ltb}
-use Rattle.basics.specs.Choice.{pick, cases, both, allBelow}
+use Rattle.basics.specs.Choice.{pick, both, allBelow}
+use Rattle.basics.specs.Cases.{cases}
 use Rattle.basics.proofs.Bools.{no-true}
 use Rattle.table.specs.Table.{Table}
 use Rattle.table.specs.Entries.{declared, typeKind, typeP, typeQ, fieldType}

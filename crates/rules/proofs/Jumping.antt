@@ -9,7 +9,8 @@ use lib.Dec.{eqb, ltb}
 use native.Mathlib.Omega.{arith}
 use native.Mathlib.Nat.{add-zero, sub-zero, mod-eq-of-lt, div-eq-of-lt}
 use borrow.Author.Tests.{eqb-true, eqb-false, ne-eqb, lt-ltb}
-use Rattle.basics.specs.Choice.{pick, cases, both, either}
+use Rattle.basics.specs.Choice.{pick, both, either}
+use Rattle.basics.specs.Cases.{cases}
 use Rattle.basics.proofs.Bools.{both-false-l}
 use Rattle.table.specs.Table.{Table}
 use Rattle.table.specs.Entries.{typeKind, typeP, typeQ, fieldType}

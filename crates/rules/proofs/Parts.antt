@@ -7,7 +7,8 @@ use native.Mathlib.Omega.{arith}
 use native.Mathlib.Numerals.{add-one}
 use native.Mathlib.Nat.{not-suc-le-zero}
 use borrow.Author.Tests.{eq-eqb, ne-eqb, le-leb, lt-leb, lt-ltb, le-ltb, eqb-true, eqb-false}
-use Rattle.basics.specs.Choice.{pick, cases, both, either}
+use Rattle.basics.specs.Choice.{pick, both, either}
+use Rattle.basics.specs.Cases.{cases}
 use Rattle.table.specs.Table.{Table}
 use Rattle.table.specs.Entries.{typeKind, typeP, typeQ, fieldType, varMode, varType, firstVar, vars}
 use Rattle.types.specs.Match.{elements}

@@ -14,13 +14,13 @@ use Rattle.table.specs.Reading.{Field}
 use Rattle.sizes.specs.Sizes.{wordsOf}
 use Rattle.sizes.proofs.Judging.{any-small}
 use Rattle.machine.specs.Memory.{Memory, memoryOf}
-use Rattle.machine.specs.Layout.{createdAt, moduleAt}
-use Rattle.machine.specs.Lent.{Lent}
+use Rattle.machine.specs.Layout.{createdAt, moduleAt, stateWords}
+use Rattle.machine.specs.Lent.{State}
 use Rattle.machine.specs.Processes.{refers}
 use Rattle.rules.specs.Walks.{Ready, Words, referenceHolds}
 
 -- beyond the last word all is 0
-pub beyond : (s : List ℕ) (i : ℕ) → Lent 17664 s → 17664 ≤ i → Field (memoryOf s i) 0
+pub beyond : (s : List ℕ) (i : ℕ) → State s → stateWords ≤ i → Field (memoryOf s i) 0
 unfolding memoryOf
 beyond s i l h =
     let e = l .long in

@@ -9,7 +9,8 @@ use native.Mathlib.Nat.{add-zero, suc-mul}
 use mir.Val.{Fits}
 use mir.Syntax.{w64}
 use borrow.Author.Tests.{ne-eqb, lt-ltb, le-ltb, ltb-false}
-use Rattle.basics.specs.Choice.{pick, cases, both, either, allBelow}
+use Rattle.basics.specs.Choice.{pick, both, either, allBelow}
+use Rattle.basics.specs.Cases.{cases}
 use Rattle.basics.proofs.Passes.{passed-none, passed-more, passed-fail, passed-all}
 use Rattle.table.specs.Table.{Table}
 use Rattle.table.specs.Entries.{declared, typeKind, typeP, typeQ, typeLow, typeHigh, fieldType}

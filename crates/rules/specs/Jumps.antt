@@ -1,3 +1,4 @@
+-- Inner: for code and proofs only; no public promise is said with these definitions.
 -- Jumps down chains of only parts: records of one field, arrays of one element. Assumes nothing.
 use Prim.Native.Nat.{ℕ, _%_, _≤_, _<_}
 use mathlib.Core.Path.{_≡_}

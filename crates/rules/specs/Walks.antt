@@ -1,14 +1,17 @@
+-- Inner: for code and proofs only; no public promise is said with these definitions.
 -- What the passes of the state rule carry from row to row, and the parts of values as a pass meets them. Assumes nothing.
 use Prim.Native.Nat.{ℕ, _+_, _-_, _*_, _/_, _%_, _≤_}
 use mathlib.Core.Path.{_≡_}
 use mathlib.Core.Bool.{Bool, true, false}
 use mathlib.Core.List.{List}
 use lib.Dec.{eqb, leb, ltb}
-use Rattle.basics.specs.Choice.{pick, both, allBelow, Passed}
+use Rattle.basics.specs.Choice.{pick, both, allBelow}
+use Rattle.basics.specs.Loops.{Passed}
 use Rattle.table.specs.Table.{Table}
 use Rattle.table.specs.Entries.{typeKind, typeP, typeQ, fieldType, varMode, varType, firstVar}
 use Rattle.types.specs.Match.{elements}
-use Rattle.sizes.specs.Sizes.{wordsOf, offsetIn, typesSized, Sizes}
+use Rattle.sizes.specs.Sizes.{wordsOf, offsetIn, typesSized}
+use Rattle.sizes.specs.Kept.{Sizes}
 use Rattle.machine.specs.Memory.{Memory, within}
 use Rattle.machine.specs.Variables.{varWords, firstWords}
 use Rattle.machine.specs.Processes.{refers}

@@ -11,7 +11,7 @@ ghost use Prim.Native.Nat.{_≤_, _<_};
 ghost use Rattle.code.specs.Code.{decoded};
 ghost use Rattle.machine.specs.Memory.{memoryOf};
 ghost use Rattle.machine.specs.Layout.{location};
-ghost use Rattle.machine.specs.Lent.{Lent};
+ghost use Rattle.machine.specs.Lent.{State};
 ghost use Rattle.machine.specs.Rule.{owns, lives, modulesHold, framesHold};
 ghost use Rattle.rules.specs.Heads.{Heads};
 ghost use Rattle.rules.specs.Jumps.{Jumps};
@@ -38,7 +38,7 @@ fn variable_holds(
 ) -> bool
     requires { ⌜ Ready (decoded (now c)) (now sizes) ⌝ }
     requires { ⌜ Heads (decoded (now c)) (now heads) ⌝ }
-    requires { ⌜ Lent 17664 (now state) ⌝ }
+    requires { ⌜ State (now state) ⌝ }
     requires { ⌜ (1 ≤ p) × ((p ≤ 64) × (at ≤ 14000000)) ⌝ }
     ensures { λ r. ⌜ r ≡ variableHolds (decoded (now (c .entry))) (memoryOf (now (state .entry))) p v at ⌝ }
 {
@@ -60,7 +60,7 @@ pub fn modules_hold(
 ) -> bool
     requires { ⌜ Ready (decoded (now c)) (now sizes) ⌝ }
     requires { ⌜ Heads (decoded (now c)) (now heads) ⌝ }
-    requires { ⌜ Lent 17664 (now state) ⌝ }
+    requires { ⌜ State (now state) ⌝ }
     requires { ⌜ (1 ≤ p) × (p ≤ 64) ⌝ }
     ensures { λ r. ⌜ r ≡ modulesHold (decoded (now (c .entry))) (memoryOf (now (state .entry))) p b ⌝ }
 {
@@ -94,13 +94,20 @@ fn lives_in_module(
 ) -> bool
     requires { ⌜ Ready (decoded (now c)) (now sizes) ⌝ }
     requires { ⌜ Jumps (decoded (now c)) (now jumps) ⌝ }
-    requires { ⌜ Lent 17664 (now state) ⌝ }
+    requires { ⌜ State (now state) ⌝ }
     requires { ⌜ (1 ≤ p) × ((p ≤ 64) × ((f < 65536) × (a < 65536))) ⌝ }
     ensures { λ r. ⌜ r ≡ livesInModule (decoded (now (c .entry))) (memoryOf (now (state .entry))) p d f w y a ⌝ }
 {
     let r = a / 256 + 1;
     if has_worked(c, state, p, d, f, w, r) {
-        return part_of_block(c, sizes, jumps, record_word(state, r, 1), y, a % 256);
+        return part_of_block(
+            c,
+            sizes,
+            jumps,
+            record_word(state, r, machine::MODULE),
+            y,
+            a % 256,
+        );
     }
     false
 }
@@ -118,7 +125,7 @@ fn owned(
 ) -> bool
     requires { ⌜ Ready (decoded (now c)) (now sizes) ⌝ }
     requires { ⌜ Jumps (decoded (now c)) (now jumps) ⌝ }
-    requires { ⌜ Lent 17664 (now state) ⌝ }
+    requires { ⌜ State (now state) ⌝ }
     requires { ⌜ (1 ≤ p) × ((p ≤ 64) × (f < 65536)) ⌝ }
     ensures { λ r. ⌜ r ≡ ownedIn (decoded (now (c .entry))) (memoryOf (now (state .entry))) p f y k ⌝ }
 {
@@ -142,7 +149,7 @@ fn owns_word(
 ) -> bool
     requires { ⌜ Ready (decoded (now c)) (now sizes) ⌝ }
     requires { ⌜ Jumps (decoded (now c)) (now jumps) ⌝ }
-    requires { ⌜ Lent 17664 (now state) ⌝ }
+    requires { ⌜ State (now state) ⌝ }
     requires { ⌜ (1 ≤ p) × ((p ≤ 64) × (f < 65536)) ⌝ }
     ensures { λ r. ⌜ r ≡ owns (decoded (now (c .entry))) (memoryOf (now (state .entry))) p d f y k ⌝ }
 {
@@ -173,7 +180,7 @@ fn lives_at(
 ) -> bool
     requires { ⌜ Ready (decoded (now c)) (now sizes) ⌝ }
     requires { ⌜ Jumps (decoded (now c)) (now jumps) ⌝ }
-    requires { ⌜ Lent 17664 (now state) ⌝ }
+    requires { ⌜ State (now state) ⌝ }
     requires { ⌜ (1 ≤ p) × ((p ≤ 64) × ((f < 65536) × (a < 65536))) ⌝ }
     ensures { λ r. ⌜ r ≡ lives (decoded (now (c .entry))) (memoryOf (now (state .entry))) p d f w y a ⌝ }
 {
@@ -202,7 +209,7 @@ fn frame_variable_holds(
     requires { ⌜ Ready (decoded (now c)) (now sizes) ⌝ }
     requires { ⌜ Heads (decoded (now c)) (now heads) ⌝ }
     requires { ⌜ Jumps (decoded (now c)) (now jumps) ⌝ }
-    requires { ⌜ Lent 17664 (now state) ⌝ }
+    requires { ⌜ State (now state) ⌝ }
     requires { ⌜ (1 ≤ p) × ((p ≤ 64) × ((f < 65536) × (at ≤ 13900000))) ⌝ }
     ensures { λ r. ⌜ r ≡ frameVariable (decoded (now (c .entry))) (memoryOf (now (state .entry))) p d f v at ⌝ }
 {
@@ -239,7 +246,7 @@ pub fn frames_hold(
     requires { ⌜ Ready (decoded (now c)) (now sizes) ⌝ }
     requires { ⌜ Heads (decoded (now c)) (now heads) ⌝ }
     requires { ⌜ Jumps (decoded (now c)) (now jumps) ⌝ }
-    requires { ⌜ Lent 17664 (now state) ⌝ }
+    requires { ⌜ State (now state) ⌝ }
     requires { ⌜ (1 ≤ p) × ((p ≤ 64) × (f < 65536)) ⌝ }
     ensures { λ r. ⌜ r ≡ framesHold (decoded (now (c .entry))) (memoryOf (now (state .entry))) p d f q ⌝ }
 {

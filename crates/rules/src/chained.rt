@@ -11,12 +11,13 @@ ghost use mathlib.Core.Path.{_≡_};
 ghost use Prim.Native.Nat.{_≤_, _<_};
 ghost use lib.Dec.{eqb};
 ghost use Rattle.basics.specs.Choice.{both};
+ghost use Rattle.table.specs.Entries.{stmtLimit};
 ghost use Rattle.code.specs.Code.{decoded};
 ghost use Rattle.sizes.specs.Sizes.{moduleWords};
 ghost use Rattle.machine.specs.Memory.{memoryOf};
-ghost use Rattle.machine.specs.Lent.{Lent};
+ghost use Rattle.machine.specs.Lent.{State};
 ghost use Rattle.machine.specs.Variables.{frameWords, isModule, isProcedure};
-ghost use Rattle.machine.specs.Rule.{nextFirst, liesIn, frameOk, startedOk};
+ghost use Rattle.machine.specs.Rule.{liesIn, frameOk, startedOk};
 ghost use Rattle.rules.specs.Heads.{Heads};
 ghost use Rattle.rules.specs.Jumps.{Jumps};
 ghost use Rattle.rules.specs.Chains.{Sum, frameFits, calledOk, callOk, baseOk};
@@ -25,7 +26,7 @@ ghost use Rattle.rules.specs.Walks.{Ready};
 // Where the statements of block b end: at the first of the next block, or at the end of all.
 fn next_first(c: &code::Slots, b: usize) -> usize
     requires { ⌜ b < 65536 ⌝ }
-    ensures { λ r. ⌜ r ≡ nextFirst (decoded (now (c .entry))) b ⌝ }
+    ensures { λ r. ⌜ r ≡ stmtLimit (decoded (now (c .entry))) b ⌝ }
 {
     if b + 1 < code::blocks(c) {
         return code::first_stmt(c, b + 1);
@@ -97,7 +98,7 @@ fn module_words(c: &code::Slots, sizes: &[u16], b: usize) -> usize
 
 // q is a procedure of the block of the process w, which has been started.
 fn called_ok(c: &code::Slots, state: &[u8], w: usize, q: usize) -> bool
-    requires { ⌜ Lent 17664 (now state) ⌝ }
+    requires { ⌜ State (now state) ⌝ }
     ensures { λ r. ⌜ r ≡ calledOk (decoded (now (c .entry))) (memoryOf (now (state .entry))) w q ⌝ }
 {
     if is_procedure(c, q) {
@@ -133,7 +134,7 @@ fn frame_ok(
     q: usize,
 ) -> bool
     requires { ⌜ Ready (decoded (now c)) (now sizes) ⌝ }
-    requires { ⌜ Lent 17664 (now state) ⌝ }
+    requires { ⌜ State (now state) ⌝ }
     requires { ⌜ (f < 65536) × (q < 65536) ⌝ }
     ensures { λ r. ⌜ r ≡ frameOk (decoded (now (c .entry))) (memoryOf (now (state .entry))) f w i top q ⌝ }
 {
@@ -164,7 +165,7 @@ fn call_ok(
     requires { ⌜ Ready (decoded (now c)) (now sizes) ⌝ }
     requires { ⌜ Heads (decoded (now c)) (now heads) ⌝ }
     requires { ⌜ Jumps (decoded (now c)) (now jumps) ⌝ }
-    requires { ⌜ Lent 17664 (now state) ⌝ }
+    requires { ⌜ State (now state) ⌝ }
     requires { ⌜ (1 ≤ p) × ((p ≤ 64) × ((f < 65536) × (w < 65536))) ⌝ }
     ensures { λ r. ⌜ r ≡ callOk (decoded (now (c .entry))) (memoryOf (now (state .entry))) p d f w i top ⌝ }
 {
@@ -193,11 +194,11 @@ fn base_ok(
     top: usize,
 ) -> bool
     requires { ⌜ Ready (decoded (now c)) (now sizes) ⌝ }
-    requires { ⌜ Lent 17664 (now state) ⌝ }
+    requires { ⌜ State (now state) ⌝ }
     requires { ⌜ (1 ≤ p) × (p ≤ 64) ⌝ }
     ensures { λ r. ⌜ r ≡ baseOk (decoded (now (c .entry))) (memoryOf (now (state .entry))) p f w i top ⌝ }
 {
-    let b = record_word(state, p, 1);
+    let b = record_word(state, p, machine::MODULE);
     if stands_alone(p, f, w) {
         if holds_on(c, state, p, p) {
             if lies_in(c, b, i) {
@@ -231,15 +232,15 @@ pub fn chain_ok(
     requires { ⌜ Ready (decoded (now c)) (now sizes) ⌝ }
     requires { ⌜ Heads (decoded (now c)) (now heads) ⌝ }
     requires { ⌜ Jumps (decoded (now c)) (now jumps) ⌝ }
-    requires { ⌜ Lent 17664 (now state) ⌝ }
+    requires { ⌜ State (now state) ⌝ }
     requires { ⌜ (1 ≤ p) × (p ≤ 64) ⌝ }
     ensures { λ r. ⌜ r ≡ startedOk (decoded (now (c .entry))) (memoryOf (now (state .entry))) p ⌝ }
 {
-    let mut n = record_word(state, p, 7);
-    let mut f = record_word(state, p, 3);
-    let mut w = record_word(state, p, 5);
-    let mut i = record_word(state, p, 2);
-    let mut top = record_word(state, p, 4);
+    let mut n = record_word(state, p, machine::DEPTH);
+    let mut f = record_word(state, p, machine::FRAME);
+    let mut w = record_word(state, p, machine::WORKS);
+    let mut i = record_word(state, p, machine::STATEMENT);
+    let mut top = record_word(state, p, machine::TOP);
     if 64 < n {
         return false;
     }

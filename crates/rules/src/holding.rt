@@ -9,7 +9,7 @@ ghost use Rattle.basics.specs.Choice.{allBelow};
 ghost use Rattle.code.specs.Code.{decoded};
 ghost use Rattle.sizes.specs.Sizes.{wordsOf};
 ghost use Rattle.machine.specs.Memory.{memoryOf};
-ghost use Rattle.machine.specs.Lent.{Lent};
+ghost use Rattle.machine.specs.Lent.{State};
 ghost use Rattle.machine.specs.Values.{holds};
 ghost use Rattle.rules.specs.Heads.{Heads, Tested, wordsHold, wordUpTo, wordRefers};
 ghost use Rattle.rules.specs.Walks.{Ready, Near, Words, referenceHolds, fieldsHold, elementsHold, RecordAt, ArrayAt};
@@ -24,7 +24,7 @@ pub fn words_of(c: &code::Slots, sizes: &[u16], x: usize) -> usize
 
 // The word at location a is at most `most`.
 fn word_up_to(state: &[u8], a: usize, most: usize) -> bool
-    requires { ⌜ Lent 17664 (now state) ⌝ }
+    requires { ⌜ State (now state) ⌝ }
     ensures { λ r. ⌜ r ≡ leb (memoryOf (now (state .entry)) a) most ⌝ }
 {
     word_or_zero(state, a) <= most
@@ -32,7 +32,7 @@ fn word_up_to(state: &[u8], a: usize, most: usize) -> bool
 
 // Each of the n words from location a on is.
 fn words_up_to(state: &[u8], a: usize, n: usize, most: usize) -> bool
-    requires { ⌜ Lent 17664 (now state) ⌝ }
+    requires { ⌜ State (now state) ⌝ }
     requires { ⌜ (a ≤ 20000000) × (n ≤ 200) ⌝ }
     ensures { λ r. ⌜ r ≡ allBelow n (wordUpTo (memoryOf (now (state .entry))) most a) ⌝ }
 {
@@ -49,7 +49,7 @@ fn words_up_to(state: &[u8], a: usize, n: usize, most: usize) -> bool
 
 // A process variable at location a is empty, or names a created process of its module.
 fn reference_holds(state: &[u8], home: usize, a: usize) -> bool
-    requires { ⌜ Lent 17664 (now state) ⌝ }
+    requires { ⌜ State (now state) ⌝ }
     ensures { λ r. ⌜ r ≡ referenceHolds (memoryOf (now (state .entry))) home a ⌝ }
 {
     let r = word_or_zero(state, a);
@@ -61,7 +61,7 @@ fn reference_holds(state: &[u8], home: usize, a: usize) -> bool
 
 // So does each of the n words from location a on.
 fn references_hold(state: &[u8], home: usize, a: usize, n: usize) -> bool
-    requires { ⌜ Lent 17664 (now state) ⌝ }
+    requires { ⌜ State (now state) ⌝ }
     requires { ⌜ (a ≤ 20000000) × (n ≤ 200) ⌝ }
     ensures { λ r. ⌜ r ≡ allBelow n (wordRefers (memoryOf (now (state .entry))) home a) ⌝ }
 {
@@ -78,7 +78,7 @@ fn references_hold(state: &[u8], home: usize, a: usize, n: usize) -> bool
 
 // A value of the simple or process type h, integers apart, stands at each of the n words from location a on.
 fn words_hold(c: &code::Slots, state: &[u8], h: usize, a: usize, n: usize) -> bool
-    requires { ⌜ Lent 17664 (now state) ⌝ }
+    requires { ⌜ State (now state) ⌝ }
     requires { ⌜ Tested (decoded (now c)) h ⌝ }
     requires { ⌜ (a ≤ 20000000) × (n ≤ 200) ⌝ }
     ensures { λ r. ⌜ r ≡ wordsHold (decoded (now (c .entry))) (memoryOf (now (state .entry))) h a n ⌝ }
@@ -106,7 +106,7 @@ pub fn value_holds(
 ) -> bool
     requires { ⌜ Ready (decoded (now c)) (now sizes) ⌝ }
     requires { ⌜ Heads (decoded (now c)) (now heads) ⌝ }
-    requires { ⌜ Lent 17664 (now state) ⌝ }
+    requires { ⌜ State (now state) ⌝ }
     requires { ⌜ Near (decoded (now c)) x a ⌝ }
     ensures { λ r. ⌜ r ≡ holds (decoded (now (c .entry))) (memoryOf (now (state .entry))) x a ⌝ }
 {
@@ -134,7 +134,7 @@ fn fields_hold(
 ) -> bool
     requires { ⌜ Ready (decoded (now c)) (now sizes) ⌝ }
     requires { ⌜ Heads (decoded (now c)) (now heads) ⌝ }
-    requires { ⌜ Lent 17664 (now state) ⌝ }
+    requires { ⌜ State (now state) ⌝ }
     requires { ⌜ RecordAt (decoded (now c)) (memoryOf (now state)) x a ⌝ }
     ensures { λ r. ⌜ r ≡ fieldsHold (decoded (now (c .entry))) (memoryOf (now (state .entry))) x a ⌝ }
 {
@@ -167,7 +167,7 @@ fn elements_hold(
 ) -> bool
     requires { ⌜ Ready (decoded (now c)) (now sizes) ⌝ }
     requires { ⌜ Heads (decoded (now c)) (now heads) ⌝ }
-    requires { ⌜ Lent 17664 (now state) ⌝ }
+    requires { ⌜ State (now state) ⌝ }
     requires { ⌜ ArrayAt (decoded (now c)) (memoryOf (now state)) x a ⌝ }
     ensures { λ r. ⌜ r ≡ elementsHold (decoded (now (c .entry))) (memoryOf (now (state .entry))) x a ⌝ }
 {

@@ -4,7 +4,7 @@ ghost use Prim.Native.Nat.{_≤_, _<_};
 ghost use Rattle.table.specs.Reading.{Field};
 ghost use Rattle.machine.specs.Memory.{memoryOf};
 ghost use Rattle.machine.specs.Layout.{location, recordAt, createdAt};
-ghost use Rattle.machine.specs.Lent.{Lent};
+ghost use Rattle.machine.specs.Lent.{State};
 ghost use Rattle.machine.specs.Processes.{refers};
 ghost use Rattle.machine.specs.Step.{inRange};
 ghost use Rattle.rules.specs.Chains.{startedOf};
@@ -17,18 +17,18 @@ fn wide(x: u16) -> usize
 
 // Word i of the state, 0 beyond its end: a damaged state may name any word.
 pub fn word_or_zero(state: &[u8], i: usize) -> usize
-    requires { ⌜ Lent 17664 (now state) ⌝ }
+    requires { ⌜ State (now state) ⌝ }
     ensures { λ r. ⌜ Field (memoryOf (now (state .entry)) i) r ⌝ }
 {
-    if i < 17664 {
-        return wide(machine::word_of(state, 17664, i));
+    if i < machine::STATE_WORDS {
+        return wide(machine::word_of(state, machine::STATE_WORDS, i));
     }
     0
 }
 
 // Word k of the control record of process p.
 pub fn record_word(state: &[u8], p: usize, k: usize) -> usize
-    requires { ⌜ Lent 17664 (now state) ⌝ }
+    requires { ⌜ State (now state) ⌝ }
     requires { ⌜ (1 ≤ p) × ((p ≤ 65536) × (k < 20)) ⌝ }
     ensures { λ r. ⌜ Field (memoryOf (now (state .entry)) (recordAt p k)) r ⌝ }
 {
@@ -37,7 +37,7 @@ pub fn record_word(state: &[u8], p: usize, k: usize) -> usize
 
 // Word k from the beginning of the area of process p.
 pub fn area_word(state: &[u8], p: usize, k: usize) -> usize
-    requires { ⌜ Lent 17664 (now state) ⌝ }
+    requires { ⌜ State (now state) ⌝ }
     requires { ⌜ (1 ≤ p) × ((p ≤ 64) × (k ≤ 14000000)) ⌝ }
     ensures { λ r. ⌜ Field (memoryOf (now (state .entry)) (location p k)) r ⌝ }
 {
@@ -46,10 +46,10 @@ pub fn area_word(state: &[u8], p: usize, k: usize) -> usize
 
 // How many processes are created.
 pub fn created(state: &[u8]) -> usize
-    requires { ⌜ Lent 17664 (now state) ⌝ }
+    requires { ⌜ State (now state) ⌝ }
     ensures { λ r. ⌜ Field (memoryOf (now (state .entry)) createdAt) r ⌝ }
 {
-    record_word(state, 1, 8)
+    record_word(state, 1, machine::CREATED)
 }
 
 pub fn in_range(low: usize, high: usize, n: usize) -> bool
@@ -63,13 +63,13 @@ pub fn in_range(low: usize, high: usize, n: usize) -> bool
 
 // r is the number of a created process of a module.
 pub fn refers_to(state: &[u8], home: usize, r: usize) -> bool
-    requires { ⌜ Lent 17664 (now state) ⌝ }
+    requires { ⌜ State (now state) ⌝ }
     requires { ⌜ r < 65536 ⌝ }
     ensures { λ x. ⌜ x ≡ refers (memoryOf (now (state .entry))) home r ⌝ }
 {
     if 2 <= r {
         if r <= created(state) {
-            return record_word(state, r, 1) == home;
+            return record_word(state, r, machine::MODULE) == home;
         }
         return false;
     }
@@ -78,15 +78,15 @@ pub fn refers_to(state: &[u8], home: usize, r: usize) -> bool
 
 // w is a process of block b that has been started.
 pub fn is_of(state: &[u8], b: usize, w: usize) -> bool
-    requires { ⌜ Lent 17664 (now state) ⌝ }
+    requires { ⌜ State (now state) ⌝ }
     ensures { λ r. ⌜ r ≡ startedOf (memoryOf (now (state .entry))) b w ⌝ }
 {
     if 1 <= w {
         if w <= created(state) {
-            if record_word(state, w, 0) == 1 {
+            if record_word(state, w, machine::STATUS) == 1 {
                 return false;
             }
-            return b == record_word(state, w, 1);
+            return b == record_word(state, w, machine::MODULE);
         }
         return false;
     }

@@ -19,7 +19,7 @@ ghost use Prim.Native.Nat.{_≤_};
 ghost use Rattle.code.specs.Code.{decoded};
 ghost use Rattle.machine.specs.Memory.{memoryOf};
 ghost use Rattle.machine.specs.Layout.{createdAt};
-ghost use Rattle.machine.specs.Lent.{Lent};
+ghost use Rattle.machine.specs.Lent.{State};
 ghost use Rattle.machine.specs.Rule.{moduleOk, processOk, rule};
 ghost use Rattle.rules.specs.Heads.{Heads};
 ghost use Rattle.rules.specs.Jumps.{Jumps};
@@ -28,12 +28,12 @@ ghost use Rattle.rules.specs.Walks.{Ready};
 
 // Process 1 is started and runs block 0; the others are created, of a process module.
 fn module_ok(c: &code::Slots, state: &[u8], p: usize) -> bool
-    requires { ⌜ Lent 17664 (now state) ⌝ }
+    requires { ⌜ State (now state) ⌝ }
     requires { ⌜ (1 ≤ p) × (p ≤ 64) ⌝ }
     ensures { λ r. ⌜ r ≡ moduleOk (decoded (now (c .entry))) (memoryOf (now (state .entry))) p ⌝ }
 {
-    let status = record_word(state, p, 0);
-    let b = record_word(state, p, 1);
+    let status = record_word(state, p, machine::STATUS);
+    let b = record_word(state, p, machine::MODULE);
     if p == 1 {
         if in_range(2, 3, status) {
             return b == 0;
@@ -58,11 +58,11 @@ fn running_ok(
     requires { ⌜ Ready (decoded (now c)) (now sizes) ⌝ }
     requires { ⌜ Heads (decoded (now c)) (now heads) ⌝ }
     requires { ⌜ Jumps (decoded (now c)) (now jumps) ⌝ }
-    requires { ⌜ Lent 17664 (now state) ⌝ }
+    requires { ⌜ State (now state) ⌝ }
     requires { ⌜ (1 ≤ p) × (p ≤ 64) ⌝ }
     ensures { λ r. ⌜ r ≡ runningOk (decoded (now (c .entry))) (memoryOf (now (state .entry))) p ⌝ }
 {
-    if record_word(state, p, 0) == 2 {
+    if record_word(state, p, machine::STATUS) == 2 {
         return chain_ok(c, sizes, heads, jumps, state, p);
     }
     true
@@ -79,13 +79,20 @@ fn process_ok(
     requires { ⌜ Ready (decoded (now c)) (now sizes) ⌝ }
     requires { ⌜ Heads (decoded (now c)) (now heads) ⌝ }
     requires { ⌜ Jumps (decoded (now c)) (now jumps) ⌝ }
-    requires { ⌜ Lent 17664 (now state) ⌝ }
+    requires { ⌜ State (now state) ⌝ }
     requires { ⌜ (1 ≤ p) × (p ≤ 64) ⌝ }
     ensures { λ r. ⌜ r ≡ processOk (decoded (now (c .entry))) (memoryOf (now (state .entry))) p ⌝ }
 {
     if module_ok(c, state, p) {
-        if record_word(state, p, 6) <= created(state) {
-            if modules_hold(c, sizes, heads, state, p, record_word(state, p, 1)) {
+        if record_word(state, p, machine::HOLDER) <= created(state) {
+            if modules_hold(
+                c,
+                sizes,
+                heads,
+                state,
+                p,
+                record_word(state, p, machine::MODULE),
+            ) {
                 return running_ok(c, sizes, heads, jumps, state, p);
             }
             return false;
@@ -96,10 +103,10 @@ fn process_ok(
 }
 
 fn failure_ok(state: &[u8]) -> bool
-    requires { ⌜ Lent 17664 (now state) ⌝ }
+    requires { ⌜ State (now state) ⌝ }
     ensures { λ r. ⌜ r ≡ failureHolds (memoryOf (now (state .entry))) ⌝ }
 {
-    let n = record_word(state, 1, 9);
+    let n = record_word(state, 1, machine::FAILURE);
     if n == 0 {
         return true;
     }
@@ -117,7 +124,7 @@ fn processes_hold(
     requires { ⌜ Ready (decoded (now c)) (now sizes) ⌝ }
     requires { ⌜ Heads (decoded (now c)) (now heads) ⌝ }
     requires { ⌜ Jumps (decoded (now c)) (now jumps) ⌝ }
-    requires { ⌜ Lent 17664 (now state) ⌝ }
+    requires { ⌜ State (now state) ⌝ }
     requires { ⌜ memoryOf (now state) createdAt ≤ 64 ⌝ }
     ensures { λ r. ⌜ r ≡ processesHold (decoded (now (c .entry))) (memoryOf (now (state .entry))) ⌝ }
 {
@@ -136,7 +143,7 @@ fn processes_hold(
 // The same, where nothing is found of the types yet. The table has few: the chains are short.
 fn few_hold(c: &code::Slots, sizes: &[u16], state: &[u8], n: usize) -> bool
     requires { ⌜ Ready (decoded (now c)) (now sizes) ⌝ }
-    requires { ⌜ Lent 17664 (now state) ⌝ }
+    requires { ⌜ State (now state) ⌝ }
     requires { ⌜ (memoryOf (now state) createdAt ≤ 64) × ((3 ≤ n) × (n ≤ 16)) ⌝ }
     ensures { λ r. ⌜ r ≡ processesHold (decoded (now (c .entry))) (memoryOf (now (state .entry))) ⌝ }
 {
@@ -149,7 +156,7 @@ fn few_hold(c: &code::Slots, sizes: &[u16], state: &[u8], n: usize) -> bool
 // The same. It has many, and heads and jumps are found for those below n.
 fn many_hold(c: &code::Slots, sizes: &[u16], state: &[u8], n: usize) -> bool
     requires { ⌜ Ready (decoded (now c)) (now sizes) ⌝ }
-    requires { ⌜ Lent 17664 (now state) ⌝ }
+    requires { ⌜ State (now state) ⌝ }
     requires { ⌜ (memoryOf (now state) createdAt ≤ 64) × ((3 ≤ n) × (n ≤ 258)) ⌝ }
     ensures { λ r. ⌜ r ≡ processesHold (decoded (now (c .entry))) (memoryOf (now (state .entry))) ⌝ }
 {
@@ -162,14 +169,14 @@ fn many_hold(c: &code::Slots, sizes: &[u16], state: &[u8], n: usize) -> bool
 
 // The words in use, as the control records have it.
 fn words_in_use(state: &[u8]) -> usize
-    requires { ⌜ Lent 17664 (now state) ⌝ }
+    requires { ⌜ State (now state) ⌝ }
     requires { ⌜ memoryOf (now state) createdAt ≤ 64 ⌝ }
 {
     let processes = created(state);
     let mut sum = 0;
     let mut i = 0;
     while i < processes {
-        sum += record_word(state, i + 1, 4);
+        sum += record_word(state, i + 1, machine::TOP);
         i += 1;
     }
     sum
@@ -177,7 +184,7 @@ fn words_in_use(state: &[u8]) -> usize
 
 // How many types are worth it: all; only the standard ones where fewer words are in use than there are types.
 fn worth_finding(state: &[u8], n: usize) -> usize
-    requires { ⌜ Lent 17664 (now state) ⌝ }
+    requires { ⌜ State (now state) ⌝ }
     requires { ⌜ (memoryOf (now state) createdAt ≤ 64) × ((3 ≤ n) × (n ≤ 258)) ⌝ }
     ensures { λ r. ⌜ (3 ≤ r) × (r ≤ 258) ⌝ }
 {
@@ -190,7 +197,7 @@ fn worth_finding(state: &[u8], n: usize) -> usize
 // The same, by either way.
 fn all_hold(c: &code::Slots, sizes: &[u16], state: &[u8]) -> bool
     requires { ⌜ Ready (decoded (now c)) (now sizes) ⌝ }
-    requires { ⌜ Lent 17664 (now state) ⌝ }
+    requires { ⌜ State (now state) ⌝ }
     requires { ⌜ memoryOf (now state) createdAt ≤ 64 ⌝ }
     ensures { λ r. ⌜ r ≡ processesHold (decoded (now (c .entry))) (memoryOf (now (state .entry))) ⌝ }
 {
@@ -204,7 +211,7 @@ fn all_hold(c: &code::Slots, sizes: &[u16], state: &[u8]) -> bool
 // THE STATE RULE: the lent state is one that a run of the table can be in, as far as its words show.
 pub fn rule_holds(c: &code::Slots, sizes: &[u16], state: &[u8]) -> bool
     requires { ⌜ Ready (decoded (now c)) (now sizes) ⌝ }
-    requires { ⌜ Lent 17664 (now state) ⌝ }
+    requires { ⌜ State (now state) ⌝ }
     ensures { λ r. ⌜ r ≡ rule (decoded (now (c .entry))) (memoryOf (now (state .entry))) ⌝ }
 {
     let n = created(state);

@@ -5,7 +5,7 @@ ghost use mathlib.Core.Path.{_≡_};
 ghost use Prim.Native.Nat.{_≤_, _<_};
 ghost use Rattle.code.specs.Code.{decoded};
 ghost use Rattle.machine.specs.Memory.{memoryOf};
-ghost use Rattle.machine.specs.Lent.{Lent};
+ghost use Rattle.machine.specs.Lent.{State};
 ghost use Rattle.machine.specs.Entries.{stmtAt};
 ghost use Rattle.machine.specs.Rule.{mayWait, worked, holdsOn};
 ghost use Rattle.rules.specs.Chains.{callMade};
@@ -20,7 +20,7 @@ pub fn has_worked(
     w: usize,
     r: usize,
 ) -> bool
-    requires { ⌜ Lent 17664 (now state) ⌝ }
+    requires { ⌜ State (now state) ⌝ }
     requires { ⌜ (1 ≤ p) × ((p ≤ 64) × (f < 65536)) ⌝ }
     ensures { λ x. ⌜ x ≡ worked (decoded (now (c .entry))) (memoryOf (now (state .entry))) p d f w r ⌝ }
 {
@@ -54,15 +54,15 @@ fn may_wait(c: &code::Slots, i: usize) -> bool
 
 // Process p holds the variables of process w, or stands at a when or cycle where it works on w.
 pub fn holds_on(c: &code::Slots, state: &[u8], p: usize, w: usize) -> bool
-    requires { ⌜ Lent 17664 (now state) ⌝ }
+    requires { ⌜ State (now state) ⌝ }
     requires { ⌜ (1 ≤ p) × ((p ≤ 64) × ((1 ≤ w) × (w < 65536))) ⌝ }
     ensures { λ r. ⌜ r ≡ holdsOn (decoded (now (c .entry))) (memoryOf (now (state .entry))) p w ⌝ }
 {
-    if record_word(state, w, 6) == p {
+    if record_word(state, w, machine::HOLDER) == p {
         return true;
     }
-    if w == record_word(state, p, 5) {
-        return may_wait(c, record_word(state, p, 2));
+    if w == record_word(state, p, machine::WORKS) {
+        return may_wait(c, record_word(state, p, machine::STATEMENT));
     }
     false
 }
@@ -79,7 +79,7 @@ pub fn call_made(
     q: usize,
     i: usize,
 ) -> bool
-    requires { ⌜ Lent 17664 (now state) ⌝ }
+    requires { ⌜ State (now state) ⌝ }
     requires { ⌜ (1 ≤ p) × ((p ≤ 64) × (f < 65536)) ⌝ }
     ensures { λ r. ⌜ r ≡ callMade (decoded (now (c .entry))) (memoryOf (now (state .entry))) p d f w q i ⌝ }
 {

@@ -6,7 +6,8 @@ use mathlib.Core.Logic.{_⊎_, inl, inr}
 use lib.Dec.{leb, ltb}
 use borrow.Author.Tests.{eqb-true, leb-true, ltb-true, ltb-false, ne-eqb}
 use native.Mathlib.Omega.{arith}
-use Rattle.basics.specs.Choice.{pick, cases}
+use Rattle.basics.specs.Choice.{pick}
+use Rattle.basics.specs.Cases.{cases}
 use Rattle.basics.specs.Chain.{free}
 use Rattle.basics.specs.Course.{upto, course}
 use Rattle.basics.proofs.Bools.{no-true, all-at}

@@ -6,7 +6,7 @@ use mathlib.Core.List.{List}
 use lib.Dec.{eqb, ltb}
 use borrow.Author.Tests.{ne-eqb}
 use Rattle.basics.specs.Choice.{pick, allBelow}
-use Rattle.basics.specs.Chain.{Chain}
+use Rattle.basics.specs.Loops.{Chain}
 use Rattle.basics.specs.Course.{upto, course}
 use Rattle.basics.proofs.Courses.{upto-below, upto-above}
 use Rattle.basics.proofs.Tests.{tests}
@@ -20,7 +20,8 @@ use Rattle.table.specs.Parts.{argumentPart, argumentIn}
 use Rattle.table.specs.declared.Sections.{Sections}
 use Rattle.table.proofs.Parts.{each-argument}
 use Rattle.nesting.specs.Nest.{blockStep}
-use Rattle.scopes.specs.Scopes.{among, visible, hasSecond, nodeScope, nodeScoped, argumentScoped, argumentsScoped, stmtScoped, staysIn, scoped, scopedIn}
+use Rattle.scopes.specs.Scopes.{among, visible, hasSecond, nodeScope, nodeScoped, argumentScoped, argumentsScoped, stmtScoped, staysIn, scoped}
+use Rattle.scopes.specs.Parts.{scopedIn}
 
 -- one node
 module _ (T : Table) (b n k : ℕ) (hk : k ≡ nodeKind T n) where

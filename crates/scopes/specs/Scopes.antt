@@ -1,14 +1,13 @@
+-- Trusted: public promises are said with these definitions.
 -- THE RULE of refusal 8: a variable is the block's or its owner's, and a local call stays in its module (01, Verdicts; report 4.1, 11.3). Assumes nothing.
 use Prim.Native.Nat.{ℕ, _+_}
 use mathlib.Core.Bool.{Bool, true, false}
-use mathlib.Core.List.{List}
 use lib.Dec.{eqb, leb, ltb}
 use Rattle.basics.specs.Choice.{pick, allBelow}
 use Rattle.basics.specs.Chain.{carried}
 use Rattle.basics.specs.Course.{course}
 use Rattle.nesting.specs.Nest.{blockStep}
 use Rattle.table.specs.Table.{Table}
-use Rattle.table.specs.Parts.{argumentIn}
 use Rattle.table.specs.Entries.{owner, firstVar, vars, argNode, nodeKind, nodeP, nodeQ, stmtKind, stmtA, stmtB, stmtC, stmtD, stmtCount}
 
 -- variable x is one of block b's
@@ -86,7 +85,3 @@ stmtScoped T i b =
 -- THE RULE: each statement is in the scope of its block, the number of block ends before it
 unfoldable pub scoped : Table → Bool
 scoped T = carried (blockStep T) (stmtScoped T) (stmtCount T)
-
--- argument k of a call as its part of the table holds it (the finder's law makes it the table's)
-unfoldable pub scopedIn : Table → ℕ → ℕ → List ℕ → ℕ → Bool
-scopedIn T b w part k = nodeScoped T b (argumentIn part w k)

@@ -5,7 +5,8 @@ ghost use Rattle.basics.specs.Choice.{allBelow};
 ghost use Rattle.code.specs.Code.{decoded, Decodes};
 ghost use Rattle.table.specs.Entries.{stmtA, stmtB};
 ghost use Rattle.nesting.specs.Nest.{blockStep};
-ghost use Rattle.scopes.specs.Scopes.{among, visible, hasSecond, nodeScoped, argumentsScoped, namesA, namesB, hasArguments, fieldsScoped, staysIn, stmtScoped, scoped, scopedIn};
+ghost use Rattle.scopes.specs.Scopes.{among, visible, hasSecond, nodeScoped, argumentsScoped, namesA, namesB, hasArguments, fieldsScoped, staysIn, stmtScoped, scoped};
+ghost use Rattle.scopes.specs.Parts.{scopedIn};
 
 fn is_among(c: &code::Slots, b: usize, x: usize) -> bool
     ensures { λ r. ⌜ r ≡ among (decoded (now (c .entry))) b x ⌝ }

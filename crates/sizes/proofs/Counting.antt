@@ -14,7 +14,8 @@ use Rattle.basics.proofs.Holding.{holds-none, holds-more, holds-part}
 use Rattle.table.specs.Table.{Table, tableAt, cellAt, countAt}
 use Rattle.table.specs.Entries.{declared, typeCount, typeKind, typeP, typeQ, typeLow, typeHigh, fieldType}
 use Rattle.types.specs.Match.{offset, span, elements}
-use Rattle.sizes.specs.Sizes.{sumBelow, fieldsWords, typeWords, wordsOf, partWords, offsetIn, kept, Known, Room, Sizes}
+use Rattle.sizes.specs.Sizes.{sumBelow, fieldsWords, typeWords, wordsOf, partWords, offsetIn}
+use Rattle.sizes.specs.Kept.{kept, Known, Room, Sizes}
 use Rattle.sizes.proofs.Sums.{sum-more, sum-up, cap-add, cap-mul}
 
 -- the words of a type, by its kind

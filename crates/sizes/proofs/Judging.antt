@@ -6,12 +6,13 @@ use mathlib.Core.List.{List}
 use lib.Dec.{eqb, leb, ltb}
 use native.Mathlib.Omega.{arith}
 use borrow.Author.Tests.{le-leb, lt-leb, leb-true, ltb-true, ltb-false}
-use Rattle.basics.specs.Choice.{cases}
+use Rattle.basics.specs.Cases.{cases}
 use Rattle.basics.proofs.Bools.{all-at, no-true}
 use Rattle.table.specs.Table.{Table}
 use Rattle.table.specs.Entries.{typeCount, typeLow, typeHigh, varType, firstVar, vars}
-use Rattle.types.specs.Match.{offset, span, elements}
-use Rattle.sizes.specs.Sizes.{sumBelow, wordsOf, inIndex, boundsOk, evenString, typeOk, typeSized, typesSized, varOffset, moduleWords, Sizes}
+use Rattle.types.specs.Match.{offset, span, elements, inStandard}
+use Rattle.sizes.specs.Sizes.{sumBelow, wordsOf, boundsOk, evenString, typeOk, typeSized, typesSized, varOffset, moduleWords}
+use Rattle.sizes.specs.Kept.{Sizes}
 use Rattle.sizes.proofs.Sums.{sum-more, sum-up, cap-add, module-small}
 use Rattle.sizes.proofs.Counting.{words-far, words-standard}
 
@@ -28,7 +29,7 @@ module _ (T : Table) (τ e : ℕ) (h : e ≡ elements T τ) where
   pub even-local : eqb (e % 2) 0 ≡ eqb (elements T τ % 2) 0
   even-local = rw h
 
-pub index-local : (i v ι w : ℕ) (r : Bool) → i ≡ ι → v ≡ w → r ≡ inIndex i v → r ≡ inIndex ι w
+pub index-local : (i v ι w : ℕ) (r : Bool) → i ≡ ι → v ≡ w → r ≡ inStandard i v → r ≡ inStandard ι w
 index-local i v ι w r h g e = rw (← h, ← g) e
 
 pub ruleset bounds = (bounds-some, bounds-none, index-local)

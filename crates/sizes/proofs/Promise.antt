@@ -7,12 +7,14 @@ use lib.ListN.{getD}
 use lib.Dec.{leb, ltb}
 use native.Mathlib.Omega.{arith}
 use borrow.Author.Tests.{le-leb, leb-true, eqb-true, ltb-false}
-use Rattle.basics.specs.Choice.{pick, cases}
+use Rattle.basics.specs.Choice.{pick}
+use Rattle.basics.specs.Cases.{cases}
 use Rattle.basics.proofs.Bools.{all-at, no-true}
 use Rattle.table.specs.Table.{Table}
 use Rattle.table.specs.Entries.{declared, typeCount, blockCount, typeKind, typeP, typeQ, typeLow, typeHigh, blockKind, vars}
-use Rattle.types.specs.Match.{offset, span, elements, isString}
-use Rattle.sizes.specs.Sizes.{wordsOf, offsetIn, inIndex, boundsOk, evenString, typesSized, varOffset, moduleWords, blockSized, blocksSized, sized, kept, Sizes}
+use Rattle.types.specs.Match.{offset, span, elements, isString, inStandard}
+use Rattle.sizes.specs.Sizes.{wordsOf, offsetIn, boundsOk, evenString, typesSized, varOffset, moduleWords, blockSized, blocksSized, sized}
+use Rattle.sizes.specs.Kept.{kept, Sizes}
 use Rattle.sizes.proofs.Counting.{offset-in}
 use Rattle.sizes.proofs.Judging.{ok-bounds, ok-even, type-passes, words-small, any-small, var-offset-in}
 
@@ -25,12 +27,12 @@ second : (a b : Bool) → pick a b false ≡ true → b ≡ true
 second true b e = e
 second false b e = no-true e
 
-pub in-boolean : (v : ℕ) → inIndex 1 v ≡ true → v ≤ 1
-unfolding inIndex
+pub in-boolean : (v : ℕ) → inStandard 1 v ≡ true → v ≤ 1
+unfolding inStandard
 in-boolean v h = leb-true v 1 h
 
-pub in-character : (v : ℕ) → inIndex 2 v ≡ true → v ≤ 127
-unfolding inIndex
+pub in-character : (v : ℕ) → inStandard 2 v ≡ true → v ≤ 127
+unfolding inStandard
 in-character v h = leb-true v 127 h
 
 module _ (T : Table) (h : sized T ≡ true) where
@@ -55,21 +57,21 @@ module _ (T : Table) (h : sized T ≡ true) where
         (λ e. let q : 0 ≡ 2 = rw e at k in absurd (omega arith))
         (λ e. ltb-false τ 3 e)
 
-    in-order : pick (leb (offset (typeLow T τ)) (offset (typeHigh T τ))) (pick (inIndex (typeP T τ) (typeLow T τ)) (inIndex (typeP T τ) (typeHigh T τ)) false) false ≡ true
+    in-order : pick (leb (offset (typeLow T τ)) (offset (typeHigh T τ))) (pick (inStandard (typeP T τ) (typeLow T τ)) (inStandard (typeP T τ) (typeHigh T τ)) false) false ≡ true
     unfolding boundsOk
     in-order = rw k at (ok-bounds T τ (type-passes T types-pass τ declares l))
 
-    in-type : pick (inIndex (typeP T τ) (typeLow T τ)) (inIndex (typeP T τ) (typeHigh T τ)) false ≡ true
+    in-type : pick (inStandard (typeP T τ) (typeLow T τ)) (inStandard (typeP T τ) (typeHigh T τ)) false ≡ true
     in-type = second (leb (offset (typeLow T τ)) (offset (typeHigh T τ))) _ in-order
 
     pub low-high : offset (typeLow T τ) ≤ offset (typeHigh T τ)
     low-high = leb-true (offset (typeLow T τ)) (offset (typeHigh T τ)) (first (leb (offset (typeLow T τ)) (offset (typeHigh T τ))) _ in-order)
 
-    pub low-in : inIndex (typeP T τ) (typeLow T τ) ≡ true
-    low-in = first (inIndex (typeP T τ) (typeLow T τ)) _ in-type
+    pub low-in : inStandard (typeP T τ) (typeLow T τ) ≡ true
+    low-in = first (inStandard (typeP T τ) (typeLow T τ)) _ in-type
 
-    pub high-in : inIndex (typeP T τ) (typeHigh T τ) ≡ true
-    high-in = second (inIndex (typeP T τ) (typeLow T τ)) _ in-type
+    pub high-in : inStandard (typeP T τ) (typeHigh T τ) ≡ true
+    high-in = second (inStandard (typeP T τ) (typeLow T τ)) _ in-type
 
     pub elements-some : 1 ≤ elements T τ
     unfolding elements span

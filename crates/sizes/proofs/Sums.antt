@@ -8,7 +8,7 @@ use lib.Dec.{leb}
 use borrow.Author.Tests.{leb-true, leb-false, lt-leb}
 use mir.Val.{Fits}
 use mir.Syntax.{w64}
-use Rattle.basics.specs.Choice.{cases}
+use Rattle.basics.specs.Cases.{cases}
 use Rattle.sizes.specs.Sizes.{sumBelow}
 
 pub sum-more : (f : ℕ → ℕ) (i : ℕ) → sumBelow (i + 1) f ≡ sumBelow i f + f i

@@ -1,16 +1,13 @@
+-- Trusted: public promises are said with these definitions.
 -- The words of types and of modules, and refusal 7 (01, The table, Verdicts; report 5.5, 7). Assumes nothing.
-use Prim.Native.Nat.{ℕ, zero, suc, _+_, _*_, _%_, _≤_, min}
-use mathlib.Core.Path.{_≡_}
+use Prim.Native.Nat.{ℕ, zero, suc, _+_, _*_, _%_}
 use mathlib.Core.Bool.{Bool, true, false}
-use mathlib.Core.List.{List}
-use lib.ListN.{length}
 use lib.Dec.{eqb, leb}
 use Rattle.basics.specs.Choice.{pick, allBelow}
 use Rattle.basics.specs.Course.{upto, course}
-use Rattle.basics.specs.Holds.{Holds}
 use Rattle.table.specs.Table.{Table}
 use Rattle.table.specs.Entries.{typeCount, blockCount, typeKind, typeP, typeQ, typeLow, typeHigh, fieldType, varType, blockKind, firstVar, vars}
-use Rattle.types.specs.Match.{offset, elements, isString}
+use Rattle.types.specs.Match.{offset, elements, isString, inStandard}
 
 -- the sum of f at the numbers below n
 unfoldable pub sumBelow : ℕ → (ℕ → ℕ) → ℕ
@@ -41,16 +38,12 @@ partWords T τ σ = upto 0 (typeWords T) τ σ
 unfoldable pub offsetIn : Table → ℕ → ℕ → ℕ
 offsetIn T τ i = fieldsWords T τ (partWords T τ) i
 
--- the word v is a value of the index type ι: integer 0 any, boolean 1 0..1, character 2 0..127 (report 5.1 to 5.3)
-unfoldable pub inIndex : ℕ → ℕ → Bool
-inIndex ι v = pick (eqb ι 1) (leb v 1) (pick (eqb ι 2) (leb v 127) true)
-
 -- low above high, bound outside its index type
 unfoldable pub boundsOk : Table → ℕ → Bool
 boundsOk T τ =
     pick (eqb (typeKind T τ) 2)
     (pick (leb (offset (typeLow T τ)) (offset (typeHigh T τ)))
-    (pick (inIndex (typeP T τ) (typeLow T τ)) (inIndex (typeP T τ) (typeHigh T τ)) false)
+    (pick (inStandard (typeP T τ) (typeLow T τ)) (inStandard (typeP T τ) (typeHigh T τ)) false)
     false)
     true
 
@@ -86,21 +79,3 @@ blocksSized T = allBelow (blockCount T) (blockSized T)
 -- THE RULE of refusal 7
 unfoldable pub sized : Table → Bool
 sized T = pick (typesSized T) (blocksSized T) false
-
--- the words of a type as they are kept: all that is above 200 is 201
-unfoldable pub kept : Table → ℕ → ℕ
-kept T τ = min (wordsOf T τ) 201
-
--- the words of the types whose numbers are below the list's length
-pub record Known (T : Table) (l : List ℕ) : Type 0 where
-  pub holds : Holds (kept T) (length l) l
-
--- an array that has room for the words of all types, the standard ones too; one that holds them. A number beyond is of no type:
--- the slots of a decoded table do not say so of themselves, the bytes do
-pub record Room (T : Table) (l : List ℕ) : Type 0 where
-  pub room : 3 + typeCount T ≤ length l
-  pub beyond : (τ : ℕ) → 3 + typeCount T ≤ τ → typeKind T τ ≡ 0
-
-pub record Sizes (T : Table) (l : List ℕ) : Type 0 where
-  pub holds : Holds (kept T) (3 + typeCount T) l
-  pub beyond : (τ : ℕ) → 3 + typeCount T ≤ τ → typeKind T τ ≡ 0

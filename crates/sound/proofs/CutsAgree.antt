@@ -8,8 +8,9 @@ use lib.ListN.{length, drop, length-append}
 use lib.Dec.{eqb}
 use lib.Seq.{take-at}
 use borrow.Author.Tests.{eq-eqb, ne-eqb, eqb-true, eqb-false, le-leb}
-use Rattle.basics.specs.Choice.{pick, cases, both}
-use Rattle.words.specs.Memory.{Bytes}
+use Rattle.basics.specs.Choice.{pick, both}
+use Rattle.basics.specs.Cases.{cases}
+use Rattle.words.specs.Bytes.{Bytes}
 use Rattle.table.specs.Table.{Table, tableOf}
 use Rattle.verdict.specs.Verdict.{verdict}
 use Rattle.machine.specs.Memory.{Memory, memoryOf, bytesOf}
@@ -18,6 +19,7 @@ use Rattle.machine.specs.Run.{Run, ran, onDone, before, run}
 use Rattle.machine.specs.Public.{called, finished, refusal, runLengths, runRefusal, runCall}
 use Rattle.machine.proofs.Calling.{run-refused, run-accepted, run-empty}
 use Rattle.machine.proofs.Memories.{length-bytes-at}
+use Rattle.machine.specs.Layout.{stateWords, stateSize, pageSize}
 use Rattle.sound.specs.Histories.{Seen, stateBytes, pageBytes, seen, trace, result, stateLeft, pageLeft, answersLeft, Ask, callOf, refused, stepsOf, writtenOf, history, written, stateAfter}
 use Rattle.sound.specs.Cuts.{Piece, endToEnd, oneEach, askOf, inTurn, pageAfter, AllReturn, CutAlike}
 use Rattle.sound.proofs.Histories.{Traced, state-memory, page-memory}
@@ -162,7 +164,7 @@ module _ (w : ℕ) (t : List ℕ) where
 
       state1-bytes : Bytes state1
       unfolding state1 stateBytes
-      state1-bytes = bytes-of (X .state) 17664
+      state1-bytes = bytes-of (X .state) stateWords
 
       page1-bytes : Bytes page1
       unfolding page1 pageBytes
@@ -176,18 +178,18 @@ module _ (w : ℕ) (t : List ℕ) where
       unfolding page1
       page1-memory = page-memory (X .devices) (X .paged)
 
-      state1-long : length state1 ≡ 35328
+      state1-long : length state1 ≡ stateSize
       unfolding state1 stateBytes bytesOf
-      state1-long = length-bytes-at (X .state) 0 17664
+      state1-long = length-bytes-at (X .state) 0 stateWords
 
-      page1-long : length page1 ≡ 8192
+      page1-long : length page1 ≡ pageSize
       unfolding page1 pageBytes bytesOf
       page1-long = length-bytes-at (X .devices) 0 4096
 
       zero-y : number state1 page1 y ≡ 0
       unfolding runRefusal runLengths refusal both
       zero-y =
-          rw (eq-eqb (length state1) 35328 state1-long, eq-eqb (length page1) 8192 page1-long, le-leb (length (y .schedule)) (length (y .answers)) (y .room), run-accepted verdict w t s d (x .schedule) (x .answers) z, state1-memory, X .reached .ruled)
+          rw (eq-eqb (length state1) stateSize state1-long, eq-eqb (length page1) pageSize page1-long, le-leb (length (y .schedule)) (length (y .answers)) (y .room), run-accepted verdict w t s d (x .schedule) (x .answers) z, state1-memory, X .reached .ruled)
 
       Y : Traced (tableOf w t) (y .schedule) (memoryOf state1) (memoryOf page1)
       Y = open-traced w t state1 page1 (y .schedule) (y .answers) bt state1-bytes page1-bytes zero-y
@@ -311,7 +313,7 @@ module _ (w : ℕ) (t : List ℕ) where
 
 finished-bytes : (s d out : List ℕ) (b : Bool) (n : ℕ) (r : Run) → Bytes s → Bytes (stateLeft (pick b (finished r (called 10 s d out) out) (called n s d out)))
 unfolding finished stateLeft
-finished-bytes s d out true n (ran l m e) h = bytes-of m 17664
+finished-bytes s d out true n (ran l m e) h = bytes-of m stateWords
 finished-bytes s d out true n Run.stuck h = h
 finished-bytes s d out false n r h = h
 

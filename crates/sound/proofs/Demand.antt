@@ -6,11 +6,11 @@ use mathlib.Core.List.{List, [], _∷_, _++_}
 use lib.ListN.{length, take}
 use lib.Dec.{eqb}
 use borrow.Author.Tests.{eqb-true, eqb-false, eq-eqb}
-use Rattle.basics.specs.Choice.{cases}
+use Rattle.basics.specs.Cases.{cases}
 use Rattle.basics.proofs.Bools.{zero-test}
 use Rattle.table.specs.Table.{Table, tableOf}
 use Rattle.machine.specs.Memory.{Memory, memoryOf, update}
-use Rattle.machine.specs.Layout.{moduleAt, createdAt, failureAt}
+use Rattle.machine.specs.Layout.{moduleAt, createdAt, failureAt, stateSize}
 use native.Mathlib.Omega.{arith}
 use Rattle.machine.specs.Step.{Step, done, step}
 use Rattle.machine.specs.Run.{begin}
@@ -126,7 +126,7 @@ module _ (verdict : ℕ → List ℕ → ℕ) (w : ℕ)
   unfolding beginCall begunResult beginRefusal
   begun-verdict t slice e =
       cases (eqb (beginRefusal verdict w t slice) 0)
-      (λ z. zero-test (eqb (length slice) 35328) (verdict w t) 1 (λ x. omega-one x) (eqb-true _ 0 z) .1)
+      (λ z. zero-test (eqb (length slice) stateSize) (verdict w t) 1 (λ x. omega-one x) (eqb-true _ 0 z) .1)
       (λ z. absurd (eqb-false _ 0 z (rw z at e)))
     where
       omega-one : _≡_ {A = ℕ} 1 0 → ⊥

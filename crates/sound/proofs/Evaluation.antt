@@ -8,7 +8,7 @@ use native.Mathlib.Nat.{zero-add}
 use lib.ListN.{getD}
 use lib.Dec.{eqb, leb}
 use borrow.Author.Tests.{eqb-true, eqb-false, leb-true, leb-false}
-use Rattle.basics.specs.Choice.{cases}
+use Rattle.basics.specs.Cases.{cases}
 use Rattle.table.specs.Table.{Table}
 use Rattle.table.specs.Entries.{blockCount, nodeCount, firstVar, params, nodeKind}
 use Rattle.types.specs.Types.{typeOf}
@@ -22,7 +22,8 @@ use Rattle.machine.specs.Context.{contextOf, blockOf}
 use Rattle.machine.specs.Operands.{operand}
 use Rattle.machine.specs.Statements.{perform}
 use Rattle.verdict.specs.Accepted.{Accepted}
-use Rattle.sound.specs.Claims.{PlaceLaws, Started, Good, selects, yields, Small}
+use Rattle.sound.specs.Claims.{PlaceLaws, Started, Good, selects, yields}
+use Rattle.sound.specs.Answers.{Small}
 use Rattle.sound.specs.Claims as claims
 use Rattle.sound.specs.Ruled.{Ruled, Fills}
 use Rattle.sound.specs.Reached.{WordTable}

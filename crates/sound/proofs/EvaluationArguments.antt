@@ -9,7 +9,8 @@ use lib.ListN.{length, getD, length-append, List·getD-append}
 use lib.Seq.{getD-append-add}
 use lib.Dec.{eqb, ltb}
 use borrow.Author.Tests.{eqb-true, eqb-false, ltb-true, ltb-false, lt-ltb, eq-eqb}
-use Rattle.basics.specs.Choice.{both, cases}
+use Rattle.basics.specs.Choice.{both}
+use Rattle.basics.specs.Cases.{cases}
 use Rattle.basics.proofs.Bools.{both-l, both-i}
 use Rattle.table.specs.Table.{Table}
 use Rattle.table.specs.Entries.{varCount, blockCount, argCount, varMode, varType, firstVar, params, vars, argNode}
@@ -21,7 +22,7 @@ use Rattle.typing.proofs.Promise.{Suits, Arguments}
 use Rattle.sizes.specs.Sizes.{sumBelow}
 use Rattle.sizes.proofs.Sums.{sum-up}
 use Rattle.machine.specs.Memory.{Memory, wordsAt}
-use Rattle.machine.specs.Layout.{statusAt, createdAt}
+use Rattle.machine.specs.Layout.{statusAt, createdAt, locations}
 use Rattle.machine.specs.Outcomes.{Outcome, ok, fail, andThen}
 use Rattle.machine.specs.Variables.{varWords, firstWords, frameWords, fits}
 use Rattle.machine.specs.Values.{holds}
@@ -29,7 +30,8 @@ use Rattle.machine.specs.Context.{contextOf, blockOf}
 use Rattle.machine.specs.Operands.{operand}
 use Rattle.machine.specs.Calls.{valueArgument, varArgument, argument, argumentWords, arguments}
 use Rattle.verdict.specs.Accepted.{Accepted}
-use Rattle.sound.specs.Claims.{Keeps, IsValue, PlaceLaws, Small}
+use Rattle.sound.specs.Claims.{Keeps, IsValue, PlaceLaws}
+use Rattle.sound.specs.Answers.{Small}
 use Rattle.sound.specs.Ruled.{Ruled}
 use Rattle.sound.specs.Reached.{WordTable}
 use Rattle.sound.specs.Evaluated.{SmallWords, Live, GoodNode, Scoping, Bound, unbound, by-value, by-place, GoodArguments, the-words, no-words}
@@ -117,9 +119,9 @@ small-cons w ws a b = record { words = go }
     go (suc i) = b .words i
 
 module _ (T : Table) (m : Memory) (p : ℕ) where
-  location-small : (τ a : ℕ) → Live T m p τ a → a < 16384
+  location-small : (τ a : ℕ) → Live T m p τ a → a < locations
   unfolding fits
-  location-small τ a l = ltb-true a 16384 (both-l _ _ (l .inside))
+  location-small τ a l = ltb-true a locations (both-l _ _ (l .inside))
 
   pub bound-small : (k v : ℕ) (ws : List ℕ) → Bound T m p k v ws → SmallWords ws
   bound-small _ v _ unbound = record { words = λ i. omega arith }

@@ -6,7 +6,8 @@ use native.Mathlib.Omega.{arith}
 use native.Mathlib.Nat.{not-suc-le-zero}
 use lib.Dec.{eqb, ltb}
 use borrow.Author.Tests.{eqb-true, eqb-false, lt-ltb}
-use Rattle.basics.specs.Choice.{both, cases}
+use Rattle.basics.specs.Choice.{both}
+use Rattle.basics.specs.Cases.{cases}
 use Rattle.basics.specs.Course.{upto, course}
 use Rattle.basics.proofs.Bools.{both-i}
 use Rattle.basics.proofs.Courses.{upto-below}
@@ -15,7 +16,7 @@ use Rattle.table.specs.Entries.{nodeCount, typeKind, typeP, typeQ, typeLow, typ
 use Rattle.types.specs.Types.{fieldOf, elementOf, unaryType, binaryType, typeOf}
 use Rattle.types.specs.Match.{offset}
 use Rattle.entries.proofs.Promise as known
-use Rattle.numbers.specs.Sorts.{Variable, Expression}
+use Rattle.numbers.specs.Nodes.{Variable, Expression}
 use Rattle.numbers.proofs.OperandPromise as ranged
 use Rattle.typing.proofs.Promise as typing
 use Rattle.sizes.specs.Sizes.{wordsOf, offsetIn}
@@ -28,7 +29,8 @@ use Rattle.machine.specs.Context.{contextOf, blockOf}
 use Rattle.machine.specs.Operands.{onRecord, onArray, outside, placeAt, fieldPlace, elementPlace, nodeOperand, operandAt, operand}
 use Rattle.machine.proofs.Entries.{at-record, at-array}
 use Rattle.verdict.specs.Accepted.{Accepted}
-use Rattle.sound.specs.Claims.{PlaceLaws, Small}
+use Rattle.sound.specs.Claims.{PlaceLaws}
+use Rattle.sound.specs.Answers.{Small}
 use Rattle.sound.specs.Ruled.{Ruled}
 use Rattle.sound.specs.Reached.{WordTable}
 use Rattle.sound.specs.Evaluated.{Live, GoodPlace, no-place, GoodValue, a-value, no-value, GoodNode, Scoping}

@@ -8,7 +8,8 @@ use native.Mathlib.Omega.{arith}
 use lib.Dec.{eqb, ltb}
 use lib.IntN.{ℤ, pos, negsuc}
 use borrow.Author.Tests.{leb-true, ltb-true, ltb-false, lt-ltb, eq-eqb, not-false}
-use Rattle.basics.specs.Choice.{pick, both, cases}
+use Rattle.basics.specs.Choice.{pick, both}
+use Rattle.basics.specs.Cases.{cases}
 use Rattle.basics.proofs.Bools.{no-true, both-l, both-r, both-i}
 use Rattle.table.specs.Table.{Table}
 use Rattle.types.specs.Types.{unaryType, binaryType}
@@ -26,7 +27,8 @@ use Rattle.machine.specs.Memory.{Memory}
 use Rattle.machine.specs.Outcomes.{Outcome, fail, need, wordOf}
 use Rattle.machine.specs.Entries.{unaryAt, binaryAt}
 use Rattle.machine.specs.Operands.{simple, truth, given, deviceWord, unaryValue, ordered, integral, logical, binaryValue, outside}
-use Rattle.sound.specs.Claims.{IsValue, Small}
+use Rattle.sound.specs.Claims.{IsValue}
+use Rattle.sound.specs.Answers.{Small}
 use Rattle.sound.specs.Evaluated.{SmallWords, GoodValue, a-value, no-value}
 use Rattle.sound.proofs.EvaluationBasics.{on-need, on-fail}
 use Rattle.sound.proofs.ValueWords.{integer-value, boolean-value, character-value, boolean-word}

@@ -5,12 +5,12 @@ use mathlib.Core.Bool.{true}
 use native.Mathlib.Omega.{arith}
 use lib.Dec.{eqb, leb, ltb}
 use borrow.Author.Tests.{eqb-true, eqb-false, leb-true, leb-false, lt-ltb}
-use Rattle.basics.specs.Choice.{cases}
+use Rattle.basics.specs.Cases.{cases}
 use Rattle.basics.proofs.Bools.{no-true}
 use Rattle.table.specs.Table.{Table}
-use Rattle.table.specs.Entries.{blockCount, stmtCount, stmtKind, stmtA, stmtLink}
+use Rattle.table.specs.Entries.{blockCount, stmtCount, stmtKind, stmtA, stmtLink, stmtLimit}
 use Rattle.entries.proofs.Promise.{stmt-kind}
-use Rattle.nesting.specs.Nest.{stmtLimit, StmtOf}
+use Rattle.nesting.specs.Blocks.{StmtOf}
 use Rattle.nesting.proofs.Promise.{in-table, goes-on, opener-arm, arm-up, arm-in, arm-low, arm-high, end-in, end-low, end-high}
 use Rattle.numbers.proofs.OperandPromise as ranged
 use Rattle.typing.proofs.Promise as typing
@@ -24,10 +24,11 @@ use Rattle.machine.specs.Operands.{operand}
 use Rattle.machine.specs.Calls.{return}
 use Rattle.machine.specs.Calls as call
 use Rattle.machine.specs.Statements.{Effect, Choice, enters, skips, onArms, onOpener, endOf, goTo, goOn, wait, moved, choose, chosen, doOpener, doEnd, doBlockEnd, perform}
-use Rattle.machine.specs.Rule.{nextFirst, liesIn}
+use Rattle.machine.specs.Rule.{liesIn}
 use Rattle.machine.specs.Rule as state
 use Rattle.verdict.specs.Accepted.{Accepted}
-use Rattle.sound.specs.Claims.{PlaceLaws, Small}
+use Rattle.sound.specs.Claims.{PlaceLaws}
+use Rattle.sound.specs.Answers.{Small}
 use Rattle.sound.specs.Ruled.{Chained, bottom, called, Ruled, Standing}
 use Rattle.sound.specs.Reached.{WordTable}
 use Rattle.sound.specs.Evaluated.{Scoped, Passing, Performed, goes, holds-on, gives-up, ends, returns, fails}
@@ -40,11 +41,11 @@ use Rattle.sound.proofs.EvaluationStatements.{stmt-is, expression-good,
 -- the statements of a block, as the rule and as the nesting say it
 module _ (T : Table) (b c : ℕ) where
   pub lies-of : liesIn T b c ≡ true → StmtOf T b c
-  unfolding stmtLimit nextFirst
+  unfolding stmtLimit
   lies-of e = record { from = lies-from T b c e; below = lies-to T b c e }
 
   pub of-lies : StmtOf T b c → liesIn T b c ≡ true
-  unfolding stmtLimit nextFirst
+  unfolding stmtLimit
   of-lies p = lies-i T b c (p .from) (p .below)
 
 -- the arm that is entered, or the end that is reached, of statements of block b
@@ -54,8 +55,8 @@ pub data Chosen (T : Table) (b : ℕ) : Outcome Choice → Type 0 where
   failing : (n : ℕ) → 16 ≤ n → n ≤ 24 → Chosen T b (fail n)
 
 -- statement numbers are words
-pub next-small : (T : Table) → WordTable T → (b : ℕ) → nextFirst T b < 65536
-unfolding nextFirst
+pub next-small : (T : Table) → WordTable T → (b : ℕ) → stmtLimit T b < 65536
+unfolding stmtLimit
 next-small T W b = cases (ltb (b + 1) (blockCount T)) (λ e. rw e (W .cells 3 (b + 1) 5)) (λ e. rw e (W .counts 6))
 
 pub lies-small : (T : Table) → WordTable T → (b c : ℕ) → liesIn T b c ≡ true → c < 65536

@@ -12,7 +12,7 @@ use Rattle.table.specs.Table.{Table}
 use Rattle.table.specs.Entries.{typeCount, blockCount, varMode, varType, firstVar, vars}
 use Rattle.sizes.specs.Sizes.{wordsOf}
 use Rattle.machine.specs.Memory.{Memory}
-use Rattle.machine.specs.Layout.{location, moduleAt, createdAt, callerFrame, callStatement, callerWorks, calledBlock}
+use Rattle.machine.specs.Layout.{location, moduleAt, createdAt, callerFrame, callStatement, callerWorks, calledBlock, locations}
 use Rattle.machine.specs.Variables.{offsetOf, fits}
 use Rattle.machine.specs.Values.{holds, partOfBlock}
 use Rattle.machine.specs.Step.{inRange}
@@ -74,7 +74,7 @@ module _ (T : Table) (ok : Accepted T) (L : PlaceLaws T) (m : Memory) (R : Ruled
         let a = location-area p k some (omega arith) in
         record {
           type = t;
-          inside = both-i _ _ (lt-ltb (location p k) 16384 (omega arith)) (le-leb (location p k % 256 + wordsOf T τ) 256 (omega arith));
+          inside = both-i _ _ (lt-ltb (location p k) locations (omega arith)) (le-leb (location p k % 256 + wordsOf T τ) 256 (omega arith));
           value = v;
         }
 

@@ -10,6 +10,7 @@ use Rattle.basics.proofs.Bools.{no-true, both-i}
 use Rattle.table.specs.Table.{Table}
 use Rattle.table.specs.Entries.{varCount, blockCount, owner, firstVar, vars, nodeP, stmtCount}
 use Rattle.nesting.specs.Nest as nest
+use Rattle.nesting.specs.Blocks as nestingBlocks
 use Rattle.nesting.proofs.Promise.{in-table, block-of}
 use Rattle.numbers.proofs.BlockPromise.{owner-there, vars-there}
 use Rattle.scopes.specs.Scopes.{nodeScoped, scoped}
@@ -49,7 +50,7 @@ module _ (T : Table) (acc : Accepted T) where
       inside = in-table T (acc .nesting) b there i (lies-of T b i e)
 
       block-is : free (nest.blockStep T) i ≡ b
-      unfolding nest.blockOf
+      unfolding nestingBlocks.blockOf
       block-is = block-of T (acc .nesting) b i there (lies-of T b i e)
 
     -- and what its statements use

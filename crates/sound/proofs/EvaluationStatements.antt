@@ -7,14 +7,15 @@ use native.Mathlib.Omega.{arith}
 use lib.ListN.{length}
 use lib.Dec.{eqb, leb, ltb}
 use borrow.Author.Tests.{eqb-true, eqb-false, ltb-false, lt-ltb, le-leb, eq-eqb, not-true, not-false}
-use Rattle.basics.specs.Choice.{pick, both, either, cases}
+use Rattle.basics.specs.Choice.{pick, both, either}
+use Rattle.basics.specs.Cases.{cases}
 use Rattle.basics.specs.Course.{course}
 use Rattle.basics.proofs.Bools.{both-l, both-r, both-i, either-case}
 use Rattle.table.specs.Table.{Table}
 use Rattle.table.specs.Entries.{blockCount, argCount, nodeCount, stmtCount, typeKind, typeP, blockKind, owner, firstVar, params, argNode, stmtKind, stmtA, stmtB, stmtC, stmtD, stmtLink}
 use Rattle.types.specs.Types.{typeOf}
 use Rattle.types.specs.Match.{matches}
-use Rattle.numbers.specs.Sorts.{Variable, Expression}
+use Rattle.numbers.specs.Nodes.{Variable, Expression}
 use Rattle.numbers.proofs.TypePromise.{process-module}
 use Rattle.numbers.proofs.OperandPromise as ranged
 use Rattle.typing.proofs.Promise.{Arguments}
@@ -35,7 +36,8 @@ use Rattle.machine.proofs.Entries.{at-process}
 use Rattle.words.specs.Numbers.{intOf}
 use Rattle.words.specs.Devices.{isDevice}
 use Rattle.verdict.specs.Accepted.{Accepted}
-use Rattle.sound.specs.Claims.{PlaceLaws, Small}
+use Rattle.sound.specs.Claims.{PlaceLaws}
+use Rattle.sound.specs.Answers.{Small}
 use Rattle.sound.specs.Ruled.{Ruled}
 use Rattle.sound.specs.Reached.{WordTable}
 use Rattle.sound.specs.Evaluated.{Live, GoodPlace, GoodValue, Scoping, Bound, GoodArguments, the-words, no-words, Passing, Performed, assigns, calls, serves, waits, creates, starts, writes, fails}

@@ -7,7 +7,8 @@ use native.Mathlib.Omega.{arith}
 use lib.ListN.{length, getD, replicate}
 use lib.Dec.{eqb}
 use borrow.Author.Tests.{eqb-true, eqb-false, leb-true, le-ltb, le-leb, lt-ltb, eq-eqb}
-use Rattle.basics.specs.Choice.{either, cases}
+use Rattle.basics.specs.Choice.{either}
+use Rattle.basics.specs.Cases.{cases}
 use Rattle.basics.proofs.Bools.{both-l, both-r, either-case}
 use Rattle.table.specs.Table.{Table}
 use Rattle.table.specs.Entries.{blockCount, typeKind, typeP, blockKind, owner, firstVar, params, firstStmt}
@@ -30,7 +31,8 @@ use Rattle.machine.specs.Rule.{liesIn, rule}
 use Rattle.machine.proofs.Tests.{range-low, range-high, range-i}
 use Rattle.machine.proofs.Entries.{at-process}
 use Rattle.verdict.specs.Accepted.{Accepted}
-use Rattle.sound.specs.Claims.{PlaceLaws, Started, Small, Listed, regular, failure, Sound}
+use Rattle.sound.specs.Claims.{PlaceLaws, Started}
+use Rattle.sound.specs.Answers.{Small, Listed, regular, failure, Sound}
 use Rattle.sound.specs.Ruled.{Ruled, Calling}
 use Rattle.sound.specs.Ruled as called
 use Rattle.sound.specs.Reached.{WordTable}

@@ -7,9 +7,10 @@ use native.Mathlib.Omega.{arith}
 use lib.ListN.{length, take, drop}
 use lib.Dec.{eqb}
 use borrow.Author.Tests.{eqb-true, eqb-false, eq-eqb, leb-true, le-leb}
-use Rattle.basics.specs.Choice.{pick, cases, both}
+use Rattle.basics.specs.Choice.{pick, both}
+use Rattle.basics.specs.Cases.{cases}
 use Rattle.basics.proofs.Bools.{both-l, both-r, no-true}
-use Rattle.words.specs.Memory.{Bytes}
+use Rattle.words.specs.Bytes.{Bytes}
 use Rattle.table.specs.Table.{Table, tableOf}
 use Rattle.machine.specs.Memory.{Memory, memoryOf, bytesOf}
 use Rattle.machine.specs.Step.{Step, done, step}
@@ -17,7 +18,8 @@ use Rattle.machine.specs.Run.{Run, ran, onDone, before, run, begin}
 use Rattle.machine.specs.Rule.{rule}
 use Rattle.machine.specs.Public.{Called, called, refusal, finished, runLengths, beginRefusal, beginCall, runRefusal, runCall}
 use Rattle.machine.proofs.Memories.{bytes-memory, length-bytes-at}
-use Rattle.sound.specs.Claims.{Listed}
+use Rattle.machine.specs.Layout.{stateWords, stateSize, pageSize}
+use Rattle.sound.specs.Answers.{Listed}
 use Rattle.sound.specs.Reached.{Reached, Page, StepLaws, BeginLaw}
 use Rattle.sound.specs.Histories.{Seen, stateBytes, pageBytes, seen, trace, asked, told, processes, answers, finally, Threaded, Seeing, devicesAfter, Every, begunResult, begunState, result, stateLeft, pageLeft, answersLeft, Ask, callOf, refused, stepsOf, orderOf, writtenOf, history, order, written, Served, Devices, Handed, stateAfter, Fits, Calls, begunWith}
 use Rattle.sound.proofs.HistoriesSized.{step-sized}
@@ -46,7 +48,7 @@ feed-take T s (suc n) (x ∷ xs) =
 -- the bytes of a state that steps reach, and of a page
 pub state-memory : (T : Table) (m : Memory) → Reached T m → memoryOf (stateBytes m) ≡ m
 unfolding stateBytes
-state-memory T m h = memory-whole m 17664 (h .words) (h .sized)
+state-memory T m h = memory-whole m stateWords (h .words) (h .sized)
 
 pub page-memory : (page : Memory) → Page page → memoryOf (pageBytes page) ≡ page
 unfolding pageBytes
@@ -221,7 +223,7 @@ module _ (s d out : List ℕ) where
   shape-open false n r h e = no-true (sym e ∙ ap (λ (z : Bool). pick z false true) h)
 
 record Lengths (x : Ask) : Type 0 where
-  pages : length (x .page) ≡ 8192
+  pages : length (x .page) ≡ pageSize
   room : length (x .schedule) ≤ length (x .answers)
 
 lengths-of : (L : Bool) (v : ℕ) (b : Bool) → refusal L v b ≡ 0 → L ≡ true
@@ -341,7 +343,7 @@ module _ (verdict : ℕ → List ℕ → ℕ) (w : ℕ) where
         let f = call-follows s x h (c .0) in
         follows-append _ _ _ _ _ _ _ _ _ f (follows (stateLeft (callOf verdict w s x)) xs (f .next) (c .1))
 
-    page-handed : (x : Ask) → Bytes (x .page) → length (x .page) ≡ 8192 → pageBytes (memoryOf (x .page)) ≡ x .page
+    page-handed : (x : Ask) → Bytes (x .page) → length (x .page) ≡ pageSize → pageBytes (memoryOf (x .page)) ≡ x .page
     unfolding pageBytes
     page-handed x b e = bytes-memory 4096 (x .page) b e
 
@@ -377,18 +379,18 @@ module _ (verdict : ℕ → List ℕ → ℕ) (w : ℕ) where
     handed s (x ∷ xs) h c =
         (call-devices s x h (c .0), handed (stateLeft (callOf verdict w s x)) xs (call-follows s x h (c .0) .next) (c .1))
 
-    state-long : (m : Memory) → length (stateBytes m) ≡ 35328
+    state-long : (m : Memory) → length (stateBytes m) ≡ stateSize
     unfolding stateBytes bytesOf
-    state-long m = length-bytes-at m 0 17664
+    state-long m = length-bytes-at m 0 stateWords
 
-    zero-refusal : (s : List ℕ) (x : Ask) → At (tableOf w t) s → verdict w t ≡ 0 → x .table ≡ t → length (x .page) ≡ 8192 → length (x .schedule) ≤ length (x .answers)
+    zero-refusal : (s : List ℕ) (x : Ask) → At (tableOf w t) s → verdict w t ≡ 0 → x .table ≡ t → length (x .page) ≡ pageSize → length (x .schedule) ≤ length (x .answers)
         → runRefusal verdict w (x .table) s (x .page) (x .schedule) (x .answers) ≡ 0
     unfolding runRefusal refusal runLengths both
     zero-refusal s x h v e p l =
-        let g : length s ≡ 35328 = ap length (h .is) ∙ state-long (h .memory) in
-        rw (eq-eqb (length s) 35328 g, eq-eqb (length (x .page)) 8192 p, le-leb (length (x .schedule)) (length (x .answers)) l, e, v, at-memory (tableOf w t) s h .ruled)
+        let g : length s ≡ stateSize = ap length (h .is) ∙ state-long (h .memory) in
+        rw (eq-eqb (length s) stateSize g, eq-eqb (length (x .page)) pageSize p, le-leb (length (x .schedule)) (length (x .answers)) l, e, v, at-memory (tableOf w t) s h .ruled)
 
-    call-served : (s : List ℕ) (x : Ask) → At (tableOf w t) s → verdict w t ≡ 0 → Bytes (x .page) → x .table ≡ t → length (x .page) ≡ 8192 → length (x .schedule) ≤ length (x .answers)
+    call-served : (s : List ℕ) (x : Ask) → At (tableOf w t) s → verdict w t ≡ 0 → Bytes (x .page) → x .table ≡ t → length (x .page) ≡ pageSize → length (x .schedule) ≤ length (x .answers)
         → refused verdict w s x ≡ false
     unfolding refused callOf runCall finished result
     call-served s x h v b e p l =

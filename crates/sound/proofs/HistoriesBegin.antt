@@ -5,8 +5,8 @@ use mathlib.Core.Bool.{true}
 use mathlib.Core.List.{List}
 use native.Mathlib.Omega.{arith}
 use lib.Dec.{eqb, ltb}
-use Rattle.basics.specs.Choice.{cases}
-use Rattle.words.specs.Memory.{Bytes}
+use Rattle.basics.specs.Cases.{cases}
+use Rattle.words.specs.Bytes.{Bytes}
 use Rattle.table.specs.Bytes.{num, fields, begins, rowSize, fieldAt, fieldWidth}
 use Rattle.table.specs.Empty.{bytesRead}
 use Rattle.table.specs.Table.{Table, countAt, cellAt, tableAt, tableOf}
@@ -21,7 +21,7 @@ use Rattle.machine.specs.Calls.{standing}
 use Rattle.machine.specs.Run.{begin}
 use Rattle.machine.specs.Rule.{rule}
 use Rattle.verdict.specs.Accepted.{Accepted}
-use Rattle.sound.specs.Claims.{Small}
+use Rattle.sound.specs.Answers.{Small}
 use Rattle.sound.specs.Reached.{WordTable, BeginLaw}
 use Rattle.sound.proofs.HistoriesSized.{begin-sized}
 use Rattle.sound.proofs.StoresMemory.{update-small}

@@ -8,13 +8,14 @@ use native.Mathlib.Omega.{arith}
 use lib.Dec.{eqb, leb, ltb}
 use lib.ListN.{length, replicate, length-append, length-replicate}
 use borrow.Author.Tests.{eqb-true, eqb-false, leb-true, ltb-true, ltb-false, ne-eqb, lt-leb, le-ltb}
-use Rattle.basics.specs.Choice.{cases, both, either}
+use Rattle.basics.specs.Cases.{cases}
+use Rattle.basics.specs.Choice.{both, either}
 use Rattle.basics.proofs.Bools.{both-l, both-r, both-false-l, both-false-r, either-case}
 use Rattle.table.specs.Table.{Table}
 use Rattle.table.specs.Entries.{firstVar}
 use Rattle.sizes.specs.Sizes.{wordsOf, moduleWords}
 use Rattle.machine.specs.Memory.{Memory, update, within, store, clear}
-use Rattle.machine.specs.Layout.{location, recordAt, statusAt, moduleAt, frameAt, topAt, worksAt, holderAt, depthAt, createdAt, failureAt, callerFrame, calledBlock}
+use Rattle.machine.specs.Layout.{location, recordAt, statusAt, moduleAt, frameAt, topAt, worksAt, holderAt, depthAt, createdAt, failureAt, callerFrame, calledBlock, locations}
 use Rattle.machine.specs.Variables.{frameWords}
 use Rattle.machine.specs.Outcomes.{Outcome, ok, fail, stuck}
 use Rattle.machine.specs.Entries.{Statement, skip, assign, localCall, processCall, create, start, opener, arm, endArms, write, blockEnd, noStatement, stmtAt}
@@ -229,7 +230,7 @@ module _ (T : Table) (ok : Accepted T) (L : PlaceLaws T) (m : Memory) (h : Ruled
       let b = o .below in
       let e = o .fits in
       let u = h .most in
-      rw (ne-eqb ((p - 1) * 256 + j) (16384 + (q - 1) * 20 + k) (λ z. omega arith)) (g p d f j c x)
+      rw (ne-eqb ((p - 1) * 256 + j) (locations + (q - 1) * 20 + k) (λ z. omega arith)) (g p d f j c x)
 
   k-standing : (s : Memory) (q c f t w d : ℕ) → K s → K (standing s q c f t w d)
   unfolding standing

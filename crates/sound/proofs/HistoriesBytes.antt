@@ -7,11 +7,11 @@ use native.Mathlib.Nat.{not-suc-le-zero}
 use lib.ListN.{length, getD}
 use lib.Dec.{ltb}
 use borrow.Author.Tests.{ltb-true, ltb-false}
-use Rattle.basics.specs.Choice.{cases}
-use Rattle.words.specs.Memory.{Bytes}
+use Rattle.basics.specs.Cases.{cases}
+use Rattle.words.specs.Bytes.{Bytes}
 use Rattle.machine.specs.Memory.{Memory, memoryOf, bytesAt, bytesOf}
 use Rattle.machine.proofs.Memories.{memory-bytes, length-bytes}
-use Rattle.sound.specs.Claims.{Small}
+use Rattle.sound.specs.Answers.{Small}
 use Rattle.sound.specs.Reached.{Sized}
 
 module _ (m : Memory) where

@@ -7,7 +7,8 @@ use native.Mathlib.Omega.{arith}
 use lib.Dec.{eqb}
 use lib.ListN.{length, replicate, length-append, length-replicate}
 use borrow.Author.Tests.{eqb-true, ne-eqb, leb-true, ltb-false, not-false}
-use Rattle.basics.specs.Choice.{pick, cases, either}
+use Rattle.basics.specs.Choice.{pick, either}
+use Rattle.basics.specs.Cases.{cases}
 use Rattle.basics.proofs.Bools.{both-i, both-false-l, both-false-r}
 use Rattle.table.specs.Table.{Table}
 use Rattle.machine.specs.Memory.{Memory, memoryOf, update}

@@ -8,7 +8,8 @@ use lib.Dec.{eqb, ltb}
 use lib.IntN.{ℤ, pos, negsuc}
 use lib.ListN.{length}
 use borrow.Author.Tests.{eqb-true, leb-true, ltb-true, ltb-false, le-ltb}
-use Rattle.basics.specs.Choice.{pick, cases}
+use Rattle.basics.specs.Choice.{pick}
+use Rattle.basics.specs.Cases.{cases}
 use Rattle.basics.proofs.Bools.{no-true, both-l, both-r}
 use Rattle.words.specs.Numbers.{intOf, between}
 use Rattle.words.specs.Devices.{isDevice, positionOf}
@@ -27,6 +28,7 @@ use Rattle.machine.specs.Variables.{belongs, offsetOf, fits}
 use Rattle.machine.specs.Operands.{simple, truth, given, deviceWord, unaryValue, ordered, integral, logical, binaryValue, placeAt, fieldPlace, elementPlace, moduleVariable, frameVariable, wholePlace, nodeOperand, operand}
 use Rattle.machine.proofs.Memories.{length-words}
 use Rattle.machine.proofs.Outcomes.{g-test, g-need, g-where, g-pick, g-place, g-value, g-word, g-record, g-array}
+use Rattle.machine.specs.Layout.{locations}
 use Rattle.sound.proofs.RowsNodes.{operand-is}
 
 pick-both : (a b : Bool) → pick a b false ≡ true → (a ≡ true) × (b ≡ true)
@@ -158,7 +160,7 @@ module _ (T : Table) (m page : Memory) (x : Context) where
       go _ fails q = let y : _≡_ {A = ℕ} 0 1 = cc in absurd (omega arith)
       go _ none q = let y : _≡_ {A = ℕ} 0 1 = cc in absurd (omega arith)
 
-  pub place-area : (n a τ : ℕ) → operand T m page x n ≡ ok (place a τ) → a < 16384
+  pub place-area : (n a τ : ℕ) → operand T m page x n ≡ ok (place a τ) → a < locations
   unfolding fits
   place-area n a τ e = ltb-true _ _ (both-l _ _ (place-fits n a τ e))
 

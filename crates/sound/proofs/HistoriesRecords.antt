@@ -7,10 +7,10 @@ use native.Mathlib.Omega.{arith}
 use lib.Dec.{eqb}
 use lib.ListN.{length}
 use borrow.Author.Tests.{eqb-true, eqb-false, leb-true}
-use Rattle.basics.specs.Choice.{cases}
+use Rattle.basics.specs.Cases.{cases}
 use Rattle.basics.proofs.Bools.{both-l, both-r}
 use Rattle.machine.specs.Memory.{Memory, update, store}
-use Rattle.machine.specs.Layout.{location, recordAt, statusAt, moduleAt, statementAt, createdAt, failureAt}
+use Rattle.machine.specs.Layout.{location, recordAt, statusAt, moduleAt, statementAt, createdAt, failureAt, locations}
 use Rattle.machine.specs.Calls.{standing}
 use Rattle.machine.specs.Processes.{created, refers}
 use Rattle.machine.proofs.Memories.{update-at, update-other, clear-below, clear-above}
@@ -23,7 +23,7 @@ pub refers-most : (m : Memory) → m createdAt ≤ 64 → (μ r : ℕ) → refer
 unfolding refers
 refers-most m l μ r e = let h : r ≤ m createdAt = leb-true _ _ (both-r _ _ (both-l _ _ e)) in omega arith
 
-pub location-end : (p k n : ℕ) → p ≤ 64 → k + n ≤ 256 → location p k + n ≤ 16384
+pub location-end : (p k n : ℕ) → p ≤ 64 → k + n ≤ 256 → location p k + n ≤ locations
 unfolding location
 location-end p k n l h = omega arith
 
@@ -80,7 +80,7 @@ module _ (m : Memory) where
       mark = update-other s _ v _ (unlike-words 1 q 9 0 (omega arith)) ∙ h .mark;
     }
 
-    pub still-store : (a : ℕ) (ws : List ℕ) → a + length ws ≤ 16384 → Still m (store s a ws)
+    pub still-store : (a : ℕ) (ws : List ℕ) → a + length ws ≤ locations → Still m (store s a ws)
     still-store a ws l = record {
       count = store-record s a ws l 1 8 ∙ h .count;
       block = λ r. store-record s a ws l r 1 ∙ h .block r;
@@ -112,7 +112,7 @@ module _ (m : Memory) (n μ : ℕ) where
   unfolding created
   created-count = update-at _ _ n _ refl
 
-module _ (m : Memory) (n μ i c p : ℕ) (over : m createdAt < n) (most : n ≤ 64) (area : i < 16384) where
+module _ (m : Memory) (n μ i c p : ℕ) (over : m createdAt < n) (most : n ≤ 64) (area : i < locations) where
   abbrev pub after : Memory
   after = update (update (created m n μ) i n) (statementAt p) c
 

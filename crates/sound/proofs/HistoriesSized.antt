@@ -7,13 +7,14 @@ use native.Mathlib.Omega.{arith}
 use lib.Dec.{eqb, leb, ltb}
 use lib.ListN.{length, replicate, length-append, length-replicate}
 use borrow.Author.Tests.{ne-eqb, leb-true, ltb-true, ltb-false, le-ltb}
-use Rattle.basics.specs.Choice.{pick, cases, either}
+use Rattle.basics.specs.Choice.{pick, either}
+use Rattle.basics.specs.Cases.{cases}
 use Rattle.basics.proofs.Bools.{both-l, both-r, both-false-r}
 use Rattle.table.specs.Table.{Table}
 use Rattle.types.specs.Match.{matches}
 use Rattle.sizes.specs.Sizes.{wordsOf}
 use Rattle.machine.specs.Memory.{Memory, update, within, store, clear, zeros}
-use Rattle.machine.specs.Layout.{location, recordAt, statusAt, statementAt, topAt, worksAt, holderAt, createdAt, failureAt}
+use Rattle.machine.specs.Layout.{location, recordAt, statusAt, statementAt, topAt, worksAt, holderAt, createdAt, failureAt, stateWords, locations, pageWords}
 use Rattle.machine.specs.Outcomes.{Outcome, ok, fail, stuck, andThen, place, wordOf}
 use Rattle.machine.specs.Entries.{typeAt, waits, Statement}
 use Rattle.machine.specs.Context.{Context, contextOf}
@@ -49,31 +50,31 @@ module _ (n : ℕ) (m : Memory) (h : Sized n m) where
   clear-sized a k = record { beyond = λ j l. cases (within a k j) (λ e. rw e) (λ e. rw e (h .beyond j l)) }
 
 -- the records of 64 processes
-record-in : (p k : ℕ) → p ≤ 64 → k < 20 → recordAt p k < 17664
+record-in : (p k : ℕ) → p ≤ 64 → k < 20 → recordAt p k < stateWords
 unfolding recordAt
 record-in p k h l = omega arith
 
-location-in : (p k : ℕ) → p ≤ 64 → k ≤ 256 → location p k ≤ 16384
+location-in : (p k : ℕ) → p ≤ 64 → k ≤ 256 → location p k ≤ locations
 unfolding location
 location-in p k h l = omega arith
 
 State : Memory → Type 0
-State m = Sized 17664 m
+State m = Sized stateWords m
 
-module _ (m : Memory) (h : Sized 17664 m) (p : ℕ) (l : p ≤ 64) where
-  record-sized : (k v : ℕ) → k < 20 → Sized 17664 (update m (recordAt p k) v)
-  record-sized k v g = update-sized 17664 m h (recordAt p k) v (record-in p k l g)
+module _ (m : Memory) (h : Sized stateWords m) (p : ℕ) (l : p ≤ 64) where
+  record-sized : (k v : ℕ) → k < 20 → Sized stateWords (update m (recordAt p k) v)
+  record-sized k v g = update-sized stateWords m h (recordAt p k) v (record-in p k l g)
 
-standing-sized : (m : Memory) (p c f t w d : ℕ) → Sized 17664 m → p ≤ 64 → Sized 17664 (standing m p c f t w d)
+standing-sized : (m : Memory) (p c f t w d : ℕ) → Sized stateWords m → p ≤ 64 → Sized stateWords (standing m p c f t w d)
 unfolding standing
 standing-sized m p c f t w d h l =
     record-sized _ (record-sized _ (record-sized _ (record-sized _ (record-sized m h p l 2 c (omega arith)) p l 3 f (omega arith)) p l 4 t (omega arith)) p l 5 w (omega arith)) p l 7 d (omega arith)
 
 -- a value of a type that matches a place's fits there
-pub room : (T : Table) (i τ σ : ℕ) (ws : List ℕ) → fits T i τ ≡ true → length ws ≡ wordsOf T σ → matches T τ σ ≡ true → i + length ws ≤ 16384
+pub room : (T : Table) (i τ σ : ℕ) (ws : List ℕ) → fits T i τ ≡ true → length ws ≡ wordsOf T σ → matches T τ σ ≡ true → i + length ws ≤ locations
 unfolding fits
 room T i τ σ ws f l e =
-    let a : i < 16384 = ltb-true _ _ (both-l _ _ f) in
+    let a : i < locations = ltb-true _ _ (both-l _ _ f) in
     let b : i % 256 + wordsOf T τ ≤ 256 = leb-true _ _ (both-r _ _ f) in
     let w = matching-words T τ σ e in
     omega arith
@@ -81,33 +82,33 @@ room T i τ σ ws f l e =
 -- ---- statements
 
 data Inside : Outcome Effect → Type 0 where
-  inside : {a : ℕ} {s d : Memory} → Sized 17664 s → Sized 4096 d → Inside (ok (effect a s d))
+  inside : {a : ℕ} {s d : Memory} → Sized stateWords s → Sized pageWords d → Inside (ok (effect a s d))
   fails : {n : ℕ} → Inside (fail n)
   none : Inside stuck
 
 data Within : Outcome Memory → Type 0 where
-  is-in : {s : Memory} → Sized 17664 s → Within (ok s)
+  is-in : {s : Memory} → Sized stateWords s → Within (ok s)
   fails : {n : ℕ} → Within (fail n)
   none : Within stuck
 
-module _ (T : Table) (m page : Memory) (x : Context) (hm : Sized 17664 m) (hp : Sized 4096 page)
+module _ (T : Table) (m page : Memory) (x : Context) (hm : Sized stateWords m) (hp : Sized pageWords page)
     (lp : x .process ≤ 64) (lw : x .works ≤ 64) (lc : m createdAt ≤ 64) where
-  goes-in : (s : Memory) (c : ℕ) → Sized 17664 s → Sized 17664 (update s (statementAt (x .process)) c)
+  goes-in : (s : Memory) (c : ℕ) → Sized stateWords s → Sized stateWords (update s (statementAt (x .process)) c)
   goes-in s c h = record-sized s h (x .process) lp 2 c (omega arith)
 
-  holder-in : (v : ℕ) → Sized 17664 (update m (holderAt (x .works)) v)
+  holder-in : (v : ℕ) → Sized stateWords (update m (holderAt (x .works)) v)
   holder-in v = record-sized m hm (x .works) lw 6 v (omega arith)
 
   -- a frame that fits its area
-  pushed-in : (s : Memory) (q r : ℕ) (ws : List ℕ) → Sized 17664 s → length ws ≤ frameWords T q → topAfter T m page x q ≤ 256 → Sized 17664 (pushed T m page x s q r ws)
+  pushed-in : (s : Memory) (q r : ℕ) (ws : List ℕ) → Sized stateWords s → length ws ≤ frameWords T q → topAfter T m page x q ≤ 256 → Sized stateWords (pushed T m page x s q r ws)
   unfolding pushed frame topAfter
   pushed-in s q r ws h l t =
       let e : length (ws ++ replicate (frameWords T q - length ws) 0) ≡ frameWords T q = length-append ws (replicate (frameWords T q - length ws) 0) ∙ rw (length-replicate {A = ℕ} (frameWords T q - length ws) 0) (omega arith) in
       let g = location-plus (x .process) (m (topAt (x .process))) (4 + frameWords T q) in
       let k = location-in (x .process) (m (topAt (x .process)) + (4 + frameWords T q)) lp (omega arith) in
-      standing-sized _ (x .process) _ _ _ _ _ (store-sized 17664 s h _ _ (omega (arith, e, g, k))) lp
+      standing-sized _ (x .process) _ _ _ _ _ (store-sized stateWords s h _ _ (omega (arith, e, g, k))) lp
 
-  within-call : (s : Memory) (q r : ℕ) (ws : List ℕ) → Sized 17664 s → Within (call T m page x s q r ws)
+  within-call : (s : Memory) (q r : ℕ) (ws : List ℕ) → Sized stateWords s → Within (call T m page x s q r ws)
   unfolding call
   within-call s q r ws h =
       g-test Within none _ _ (λ l. g-where Within none _ 22 _ (λ e. fails)
@@ -119,7 +120,7 @@ module _ (T : Table) (m page : Memory) (x : Context) (hm : Sized 17664 m) (hp : 
   moved-in _ fails = fails
   moved-in _ none = none
 
-  popped-in : (s : Memory) (c : ℕ) → Sized 17664 s → Sized 17664 (popped T m page x s c)
+  popped-in : (s : Memory) (c : ℕ) → Sized stateWords s → Sized stateWords (popped T m page x s c)
   unfolding popped
   popped-in s c h = standing-sized s (x .process) _ _ _ _ _ h lp
 
@@ -138,22 +139,22 @@ module _ (T : Table) (m page : Memory) (x : Context) (hm : Sized 17664 m) (hp : 
       (λ ws u. moved-in _ (within-call _ q (m i) ws (record-sized m hm (m i) (refers-most m lc μ (m i) r) 6 _ (omega arith))))))
       (λ k. rw k (inside hm hp)))))))
 
-  created-in : (n μ : ℕ) → n ≤ 64 → Sized 17664 (created m n μ)
+  created-in : (n μ : ℕ) → n ≤ 64 → Sized stateWords (created m n μ)
   unfolding created
   created-in n μ l =
-      record-sized _ (record-sized _ (record-sized _ (clear-sized 17664 _ (clear-sized 17664 m hm _ _) _ _) n l 0 1 (omega arith)) n l 1 μ (omega arith)) 1 (omega arith) 8 n (omega arith)
+      record-sized _ (record-sized _ (record-sized _ (clear-sized stateWords _ (clear-sized stateWords m hm _ _) _ _) n l 0 1 (omega arith)) n l 1 μ (omega arith)) 1 (omega arith) 8 n (omega arith)
 
-  place-in : (a i τ : ℕ) → operand T m page x a ≡ ok (place i τ) → i < 17664
+  place-in : (a i τ : ℕ) → operand T m page x a ≡ ok (place i τ) → i < stateWords
   unfolding fits
-  place-in a i τ e = let h : i < 16384 = ltb-true _ _ (both-l _ _ (place-fits T m page x a i τ e)) in omega arith
+  place-in a i τ e = let h : i < locations = ltb-true _ _ (both-l _ _ (place-fits T m page x a i τ e)) in omega arith
 
-  started-in : (r μ : ℕ) (ws : List ℕ) → r ≤ 64 → length ws ≤ 256 → Sized 17664 (started T m r μ ws)
+  started-in : (r μ : ℕ) (ws : List ℕ) → r ≤ 64 → length ws ≤ 256 → Sized stateWords (started T m r μ ws)
   unfolding started
   started-in r μ ws l w =
       let g = location-plus r 0 (length ws) in
       let k = location-in r (0 + length ws) l (omega arith) in
       standing-sized _ r _ _ _ _ _
-      (record-sized _ (record-sized _ (store-sized 17664 m hm (location r 0) ws (omega arith)) r l 0 2 (omega arith)) r l 6 r (omega arith)) l
+      (record-sized _ (record-sized _ (store-sized stateWords m hm (location r 0) ws (omega arith)) r l 0 2 (omega arith)) r l 6 r (omega arith)) l
 
   start-in : (a c d : ℕ) → Inside (doStart T m page x a c d)
   unfolding doStart onProcess onReference goOn goTo
@@ -172,11 +173,11 @@ module _ (T : Table) (m page : Memory) (x : Context) (hm : Sized 17664 m) (hp : 
   carries-in _ _ _ e skips = inside (goes-in m _ hm) hp
   carries-in _ _ _ e (assigns {a = a} {b = b} {i = i} {τ = τ} {σ = σ} {ws = ws} y w h) =
       let r = room T i τ σ ws (place-fits T m page x a i τ y) (value-long T m page x b σ ws w) h in
-      inside (goes-in _ _ (store-sized 17664 m hm i ws (omega arith))) hp
+      inside (goes-in _ _ (store-sized stateWords m hm i ws (omega arith))) hp
   carries-in _ _ _ e (callsLocal {q = q} {c = c} {d = d} p n) = is-inside _ _ (local-in q c d) e
   carries-in _ _ _ e (callsProcess {a = a} {q = q} {c = c} {d = d} y t z u p n) = is-inside _ _ (process-in a q c d) e
   carries-in _ _ _ e (creates {a = a} {i = i} {τ = τ} {μ = μ} y t n) =
-      inside (goes-in _ _ (update-sized 17664 _ (created-in (m createdAt + 1) μ (omega arith)) i _ (place-in a i τ y))) hp
+      inside (goes-in _ _ (update-sized stateWords _ (created-in (m createdAt + 1) μ (omega arith)) i _ (place-in a i τ y))) hp
   carries-in _ _ _ e (starts {a = a} {c = c} {d = d} y t z u p) = is-inside _ _ (start-in a c d) e
   carries-in _ _ _ e (enters {k = k} h) =
       inside (goes-in (pick (waits k) (update m (holderAt (x .works)) (x .process)) m) _ (cases (waits k) (λ u. rw u (holder-in _)) (λ u. rw u hm))) hp
@@ -197,7 +198,7 @@ module _ (T : Table) (m page : Memory) (x : Context) (hm : Sized 17664 m) (hp : 
 
 -- ---- steps
 
-module _ (T : Table) (m page : Memory) (p : ℕ) (hm : Sized 17664 m) (hp : Sized 4096 page) where
+module _ (T : Table) (m page : Memory) (p : ℕ) (hm : Sized stateWords m) (hp : Sized pageWords page) where
   answers-in : (a : ℕ) → Inside (answers T m page p a)
   unfolding answers
   answers-in a = inside hm hp
@@ -241,7 +242,7 @@ module _ (T : Table) (m page : Memory) (p : ℕ) (hm : Sized 17664 m) (hp : Size
   step-sized a s d e = settled-in _ turn-in a s d e
 
 -- begin too
-pub begin-sized : (T : Table) → Sized 17664 (begin T)
+pub begin-sized : (T : Table) → Sized stateWords (begin T)
 unfolding begin zeros
 begin-sized T =
     standing-sized _ 1 _ _ _ _ _

@@ -6,7 +6,8 @@ use native.Mathlib.Omega.{arith}
 use native.Mathlib.Nat.{add-zero, not-suc-le-zero}
 use lib.Dec.{eqb, ltb}
 use borrow.Author.Tests.{eqb-true, leb-true, ltb-true, eq-eqb, ne-eqb}
-use Rattle.basics.specs.Choice.{pick, cases, either}
+use Rattle.basics.specs.Choice.{pick, either}
+use Rattle.basics.specs.Cases.{cases}
 use Rattle.basics.specs.Course.{upto, course}
 use Rattle.basics.proofs.Bools.{both-l, both-r, no-true, all-at, either-case}
 use Rattle.basics.proofs.Courses.{upto-is}
@@ -25,7 +26,7 @@ use Rattle.machine.specs.Values.{typeHolds, holdsAt, nowhere, holds, part}
 use Rattle.machine.specs.Rule.{owns, worked, lives, moduleHolds, modulesHold, frameHolds, framesHold, chain, startedOk, processOk, rule}
 use Rattle.machine.proofs.Memories.{location-plus}
 use Rattle.machine.proofs.Entries.{type-integer, type-boolean, type-character, standard-record, standard-array, at-record, at-array}
-use Rattle.sound.specs.Claims.{Small}
+use Rattle.sound.specs.Answers.{Small}
 use Rattle.sound.specs.InUse.{Created, Reference, empty, names, HoldsValue, simple, reference, eachField, eachElement, Part, itself, ofField, ofElement, Call, innermost, caller, Of, moduleVariable, callVariable, InUse, ofModule, ofCall, Bound, ValuesHold}
 use Rattle.sound.specs.Ruled.{Chained}
 use Rattle.sound.proofs.HistoriesBindings.{call-created}

@@ -10,12 +10,13 @@ use native.Mathlib.Numerals.{add-one}
 use lib.Dec.{eqb, ltb}
 use lib.ListN.{length}
 use borrow.Author.Tests.{eqb-true, eqb-false, eq-eqb, ne-eqb, leb-true, ltb-true, ltb-false}
-use Rattle.basics.specs.Choice.{pick, both, either, cases}
+use Rattle.basics.specs.Choice.{pick, both, either}
+use Rattle.basics.specs.Cases.{cases}
 use Rattle.basics.proofs.Bools.{both-l, both-r, both-false-l, either-l, either-r}
 use Rattle.table.specs.Table.{Table}
 use Rattle.table.specs.Entries.{blockCount, blockKind, owner}
 use Rattle.machine.specs.Memory.{Memory, update, store}
-use Rattle.machine.specs.Layout.{location, recordAt, statusAt, moduleAt, statementAt, frameAt, topAt, worksAt, holderAt, depthAt, createdAt, failureAt, callerFrame, calledBlock}
+use Rattle.machine.specs.Layout.{location, recordAt, statusAt, moduleAt, statementAt, frameAt, topAt, worksAt, holderAt, depthAt, createdAt, failureAt, callerFrame, calledBlock, locations}
 use Rattle.machine.specs.Outcomes.{stuck, andThen, failWhere, placed, onPlace}
 use Rattle.machine.specs.Entries.{processType, typeAt, waits, Statement, skip, assign, localCall, processCall, create, start, opener, arm, endArms, write, blockEnd, noStatement}
 use Rattle.machine.specs.Variables.{frameWords}
@@ -239,7 +240,7 @@ module _ (T : Table) (acc : Accepted T) (m page : Memory) (R : Ruled T m) (p : �
 
   -- ---- create and start
 
-  module _ (μ i j : ℕ) (few : m createdAt < 64) (area : i < 16384) where
+  module _ (μ i j : ℕ) (few : m createdAt < 64) (area : i < locations) where
     -- the state that create leaves
     abbrev made : Memory
     made = update (update (created m (m createdAt + 1) μ) i (m createdAt + 1)) (statementAt (contextOf m p .process)) j

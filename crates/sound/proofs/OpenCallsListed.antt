@@ -8,7 +8,8 @@ use native.Mathlib.Omega.{arith}
 use lib.Dec.{eqb}
 use lib.ListN.{length}
 use borrow.Author.Tests.{eqb-true, eqb-false, eq-eqb, ne-eqb}
-use Rattle.basics.specs.Choice.{both, cases}
+use Rattle.basics.specs.Choice.{both}
+use Rattle.basics.specs.Cases.{cases}
 use Rattle.basics.proofs.Bools.{no-true, both-l, both-r, both-i, both-false-l, both-false-r}
 use Rattle.table.specs.Table.{Table}
 use Rattle.machine.specs.Memory.{Memory, memoryOf, update, zeros}

@@ -6,10 +6,10 @@ use native.Mathlib.Omega.{arith}
 use lib.Dec.{eqb}
 use lib.ListN.{length}
 use borrow.Author.Tests.{eqb-true, eqb-false}
-use Rattle.basics.specs.Choice.{cases}
+use Rattle.basics.specs.Cases.{cases}
 use Rattle.table.specs.Table.{Table}
 use Rattle.machine.specs.Memory.{Memory, update, store}
-use Rattle.machine.specs.Layout.{recordAt, linkAt, statusAt, frameAt, depthAt, createdAt, callerFrame, calledBlock}
+use Rattle.machine.specs.Layout.{recordAt, linkAt, statusAt, frameAt, depthAt, createdAt, callerFrame, calledBlock, locations}
 use Rattle.machine.specs.Calls.{standing}
 use Rattle.machine.specs.Step.{inRange}
 use Rattle.machine.proofs.Memories.{update-other}
@@ -77,7 +77,7 @@ module _ (m s : Memory) (e : ℕ) (h : Alike m s e) where
       alike-by _ (update-other s _ v _ (unlike-words 1 e 8 k (omega arith)))
       (λ r j i n a b. update-other s _ v _ (records-apart r e j k i o a l n))
 
-  pub alike-store : (a : ℕ) (ws : List ℕ) → a + length ws ≤ 16384 → Alike m (store s a ws) e
+  pub alike-store : (a : ℕ) (ws : List ℕ) → a + length ws ≤ locations → Alike m (store s a ws) e
   alike-store a ws l =
       alike-by _ (store-record s a ws l 1 8) (λ r k i n b c. store-record s a ws l r k)
 

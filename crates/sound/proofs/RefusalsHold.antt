@@ -8,9 +8,10 @@ use native.Mathlib.Omega.{arith}
 use lib.ListN.{length, drop}
 use lib.Dec.{eqb}
 use borrow.Author.Tests.{eq-eqb, ne-eqb, eqb-true, eqb-false}
-use Rattle.basics.specs.Choice.{pick, cases}
+use Rattle.basics.specs.Choice.{pick}
+use Rattle.basics.specs.Cases.{cases}
 use Rattle.basics.proofs.Bools.{no-true}
-use Rattle.words.specs.Memory.{Bytes}
+use Rattle.words.specs.Bytes.{Bytes}
 use Rattle.table.specs.Empty.{bytesRead}
 use Rattle.table.specs.Table.{Table, tableAt, tableOf}
 use Rattle.table.specs.Bytes.{whole}
@@ -26,6 +27,7 @@ use Rattle.verdict.proofs.Promise.{promise}
 use Rattle.machine.specs.Memory.{memoryOf}
 use Rattle.machine.specs.Public.{refusal, look, called, finished, beginRefusal, beginCall, runRefusal, runCall, lookRefusal, lookCall}
 use Rattle.machine.proofs.Calling.{refused-none, refuses-none, begin-refused, run-refused, run-lengths, run-accepted, run-ruled}
+use Rattle.machine.specs.Layout.{stateWords, stateSize}
 use Rattle.sound.specs.Histories.{stateBytes, pageBytes, begunResult, result}
 use Rattle.sound.specs.Refusals.{Checked, accepts, refuses, AllRight, Lowest, BeginResult, returned, RunResult, sees, looked, LookResult, Results}
 use Rattle.sound.proofs.Histories.{Traced, traced}
@@ -99,9 +101,9 @@ success-of l v s = (λ e. refused-none l v s e, λ h. refuses-none l v s (h .0) 
 -- ---- begin
 
 module _ (w : ℕ) (table state : List ℕ) where
-  begin-refusal : beginRefusal verdict w table state ≡ refusal (eqb (length state) 35328) (verdict w table) true
+  begin-refusal : beginRefusal verdict w table state ≡ refusal (eqb (length state) stateSize) (verdict w table) true
   unfolding beginRefusal refusal
-  begin-refusal = ap (λ (v : ℕ). pick (eqb (length state) 35328) v 1) (unruled (verdict w table))
+  begin-refusal = ap (λ (v : ℕ). pick (eqb (length state) stateSize) v 1) (unruled (verdict w table))
     where
       unruled : (v : ℕ) → v ≡ pick (eqb v 0) 0 v
       unruled v = cases (eqb v 0) (λ e. rw e (eqb-true v 0 e)) (λ e. rw e)
@@ -112,7 +114,7 @@ module _ (w : ℕ) (table state : List ℕ) where
 
   begin-result : BeginResult verdict w table state
   begin-result =
-      let e : begunResult (beginCall verdict w table state) ≡ refusal (eqb (length state) 35328) (verdict w table) true = begin-is ∙ begin-refusal in
+      let e : begunResult (beginCall verdict w table state) ≡ refusal (eqb (length state) stateSize) (verdict w table) true = begin-is ∙ begin-refusal in
       record {
         is = begin-is;
         lowest = rw e (lowest-of _ _ _ _ (reason-of _ _ _ (verdict-checked w table)));
@@ -129,7 +131,7 @@ module _ (w : ℕ) (table state page schedule answers : List ℕ) (bt : Bytes ta
       let v = run-accepted verdict w table state page schedule answers e in
       let l = run-lengths verdict w table state page schedule answers e in
       traced (tableOf w table) (step-laws (tableOf w table) (promise w table v) (word-table w table bt)) schedule (memoryOf state) (memoryOf page)
-      (record { ruled = run-ruled verdict w table state page schedule answers e; words = memory-small state bs; sized = memory-sized state 17664 (l .0) })
+      (record { ruled = run-ruled verdict w table state page schedule answers e; words = memory-small state bs; sized = memory-sized state stateWords (l .0) })
       (record { words = memory-small page bp; sized = memory-sized page 4096 (l .1 .0) })
 
   pub open-run : (e : runRefusal verdict w table state page schedule answers ≡ 0)

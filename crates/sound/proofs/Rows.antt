@@ -6,7 +6,8 @@ use mathlib.Core.Logic.{_⊎_, inl, inr}
 use native.Mathlib.Omega.{arith}
 use lib.Dec.{eqb}
 use borrow.Author.Tests.{eqb-true, eqb-false, eq-eqb, ne-eqb}
-use Rattle.basics.specs.Choice.{cases, either}
+use Rattle.basics.specs.Cases.{cases}
+use Rattle.basics.specs.Choice.{either}
 use Rattle.basics.proofs.Bools.{no-true, either-l, either-r}
 use Rattle.table.specs.Table.{Table}
 use Rattle.machine.specs.Memory.{Memory, update}

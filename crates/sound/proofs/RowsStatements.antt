@@ -7,7 +7,8 @@ use mathlib.Core.List.{List, [], _∷_, _++_}
 use native.Mathlib.Omega.{arith}
 use lib.Dec.{eqb}
 use borrow.Author.Tests.{eqb-true, eqb-false, eq-eqb, ne-eqb, ltb-true, lt-ltb, not-true, not-false}
-use Rattle.basics.specs.Choice.{pick, cases, both}
+use Rattle.basics.specs.Choice.{pick, both}
+use Rattle.basics.specs.Cases.{cases}
 use Rattle.basics.proofs.Bools.{no-true, both-l, both-r, both-i, both-false-l, both-false-r}
 use Rattle.table.specs.Table.{Table}
 use Rattle.table.specs.Entries.{varMode, argNode, firstVar, params, stmtCount}

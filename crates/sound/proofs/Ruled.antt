@@ -5,11 +5,11 @@ use mathlib.Core.Bool.{true}
 use native.Mathlib.Omega.{arith}
 use lib.Dec.{eqb}
 use borrow.Author.Tests.{eqb-true, eqb-false, leb-true, ltb-true, eq-eqb, ne-eqb, le-leb, lt-ltb, not-true}
-use Rattle.basics.specs.Choice.{cases}
+use Rattle.basics.specs.Cases.{cases}
 use Rattle.basics.proofs.Bools.{both-l, both-r, both-i, all-at, all-i, either-l, either-r}
 pub use Rattle.basics.proofs.Bools.{either-case}
 use Rattle.table.specs.Table.{Table}
-use Rattle.table.specs.Entries.{blockCount, varMode, varType, blockKind, owner, firstVar, vars, firstStmt}
+use Rattle.table.specs.Entries.{blockCount, varMode, varType, blockKind, owner, firstVar, vars, firstStmt, stmtLimit}
 use Rattle.sizes.specs.Sizes.{moduleWords}
 use Rattle.machine.specs.Memory.{Memory}
 use Rattle.machine.specs.Layout.{location, statusAt, moduleAt, statementAt, frameAt, topAt, worksAt, holderAt, depthAt, createdAt, failureAt, callerFrame, callStatement, callerWorks, calledBlock}
@@ -17,7 +17,7 @@ use Rattle.machine.specs.Entries.{stmtAt}
 use Rattle.machine.specs.Variables.{frameWords, offsetOf, isModule, isProcedure}
 use Rattle.machine.specs.Values.{holds}
 use Rattle.machine.specs.Step.{inRange}
-use Rattle.machine.specs.Rule.{nextFirst, liesIn, calls, isCreated, worked, lives, holdsOn, worksBy, moduleHolds, modulesHold, frameHolds, framesHold, frameOk, chain, moduleOk, startedOk, processOk, failureOk, rule}
+use Rattle.machine.specs.Rule.{liesIn, calls, isCreated, worked, lives, holdsOn, worksBy, moduleHolds, modulesHold, frameHolds, framesHold, frameOk, chain, moduleOk, startedOk, processOk, failureOk, rule}
 use Rattle.numbers.proofs.BlockPromise.{program-there, program-kind, owner-self, owner-there}
 use Rattle.machine.specs.Context.{blockOf, contextual}
 pub use Rattle.machine.proofs.Tests.{range-low, range-high, range-i}
@@ -37,13 +37,13 @@ module _ (T : Table) where
   unfolding liesIn
   lies-from b c e = leb-true (firstStmt T b) c (both-l _ _ e)
 
-  pub lies-to : (b c : ℕ) → liesIn T b c ≡ true → c < nextFirst T b
+  pub lies-to : (b c : ℕ) → liesIn T b c ≡ true → c < stmtLimit T b
   unfolding liesIn
-  lies-to b c e = ltb-true c (nextFirst T b) (both-r _ _ e)
+  lies-to b c e = ltb-true c (stmtLimit T b) (both-r _ _ e)
 
-  pub lies-i : (b c : ℕ) → firstStmt T b ≤ c → c < nextFirst T b → liesIn T b c ≡ true
+  pub lies-i : (b c : ℕ) → firstStmt T b ≤ c → c < stmtLimit T b → liesIn T b c ≡ true
   unfolding liesIn
-  lies-i b c x y = both-i _ _ (le-leb (firstStmt T b) c x) (lt-ltb c (nextFirst T b) y)
+  lies-i b c x y = both-i _ _ (le-leb (firstStmt T b) c x) (lt-ltb c (stmtLimit T b) y)
 
   pub procedure-there : (q : ℕ) → isProcedure T q ≡ true → q < blockCount T
   unfolding isProcedure

@@ -3,7 +3,7 @@ use Prim.Native.Nat.{ℕ}
 use mathlib.Core.Path.{_≡_, sym, _∙_}
 use mathlib.Core.Bool.{true}
 use mathlib.Core.List.{List}
-use Rattle.words.specs.Memory.{Bytes}
+use Rattle.words.specs.Bytes.{Bytes}
 use Rattle.table.specs.Table.{Table, tableOf}
 use Rattle.machine.specs.Memory.{Memory}
 use Rattle.machine.specs.Step.{done}
@@ -11,7 +11,7 @@ use Rattle.machine.specs.Rule.{rule}
 use Rattle.verdict.specs.Accepted.{Accepted}
 use Rattle.verdict.specs.Verdict.{verdict}
 use Rattle.verdict.proofs.Promise.{promise}
-use Rattle.sound.specs.Claims.{Small}
+use Rattle.sound.specs.Answers.{Small}
 use Rattle.sound.specs.Reached.{WordTable}
 use Rattle.sound.specs.StateRule.{Reachable, atBegin, byStep, StateRule}
 use Rattle.sound.proofs.HistoriesBegin.{word-table}

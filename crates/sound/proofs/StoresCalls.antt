@@ -9,7 +9,7 @@ use lib.ListN.{length, getD, replicate, length-append, length-replicate, getD-re
 use lib.Seq.{getD-append-add}
 use lib.Dec.{ltb}
 use borrow.Author.Tests.{ltb-true, ltb-false}
-use Rattle.basics.specs.Choice.{cases}
+use Rattle.basics.specs.Cases.{cases}
 use Rattle.table.specs.Table.{Table}
 use Rattle.table.specs.Entries.{blockCount, varMode, varType, blockKind, owner, firstVar, params, vars, firstStmt}
 use Rattle.numbers.proofs.BlockPromise.{params-vars, mode-local}

@@ -6,12 +6,12 @@ use mathlib.Core.List.{[], _∷_}
 use native.Mathlib.Omega.{arith}
 use lib.Dec.{eqb, ltb}
 use borrow.Author.Tests.{eqb-true, eqb-false, ltb-true, ltb-false, eq-eqb, le-leb}
-use Rattle.basics.specs.Choice.{cases}
+use Rattle.basics.specs.Cases.{cases}
 use Rattle.basics.proofs.Bools.{both-i}
 use Rattle.table.specs.Table.{Table}
 use Rattle.table.specs.Entries.{blockCount, varType, blockKind, firstVar, vars}
 use Rattle.machine.specs.Memory.{Memory, store, update, clear}
-use Rattle.machine.specs.Layout.{location, recordAt, statusAt, moduleAt, statementAt, frameAt, topAt, worksAt, holderAt, depthAt, createdAt}
+use Rattle.machine.specs.Layout.{location, recordAt, statusAt, moduleAt, statementAt, frameAt, topAt, worksAt, holderAt, depthAt, createdAt, locations}
 use Rattle.machine.specs.Variables.{offsetOf}
 use Rattle.machine.specs.Processes.{refers, created}
 use Rattle.machine.specs.Context.{blockOf}
@@ -20,7 +20,8 @@ use Rattle.machine.specs.Entries.{stmtAt}
 use Rattle.machine.specs.Rule.{lives, mayWait, liesIn, rule}
 use Rattle.machine.proofs.Memories.{update-at, update-other, store-below, store-above, store-at, clear-below, clear-above, clear-at}
 use Rattle.verdict.specs.Accepted.{Accepted}
-use Rattle.sound.specs.Claims.{IsValue, PlaceLaws, Started, Small}
+use Rattle.sound.specs.Claims.{IsValue, PlaceLaws, Started}
+use Rattle.sound.specs.Answers.{Small}
 use Rattle.sound.specs.InUse.{Created}
 use Rattle.sound.specs.Ruled.{Chained, Worked, Process, Ruled, Carries}
 use Rattle.sound.proofs.Ruled.{ruled, rules}
@@ -59,7 +60,7 @@ record-in : (p i : ℕ) → i < 20 → (recordAt p 0 ≤ recordAt p i) × (recor
 unfolding recordAt
 record-in p i l = (omega arith, omega arith)
 
-area-end : (p : ℕ) → 1 ≤ p → p ≤ 64 → location p 0 + 256 ≤ 16384
+area-end : (p : ℕ) → 1 ≤ p → p ≤ 64 → location p 0 + 256 ≤ locations
 unfolding location
 area-end p a b = omega arith
 
@@ -99,7 +100,7 @@ module _ (m : Memory) (n μ : ℕ) (two : 2 ≤ n) (most : n ≤ 64) where
           (λ x. records-apart q 1 k 8 a (omega arith) l (omega arith) (eqb-false q 1 x))
 
   -- the words of areas
-  created-low-word : (j : ℕ) → j < 16384 → created m n μ j ≡ clear m (location n 0) 256 j
+  created-low-word : (j : ℕ) → j < locations → created m n μ j ≡ clear m (location n 0) 256 j
   unfolding created
   created-low-word j l =
       let x0 = record-high n 0 in
@@ -110,7 +111,7 @@ module _ (m : Memory) (n μ : ℕ) (two : 2 ≤ n) (most : n ≤ 64) where
       ∙ update-other _ (statusAt n) 1 j (λ e. omega arith)
       ∙ clear-below _ (recordAt n 0) 20 j (omega arith)
 
-  area-low : (q j : ℕ) → 1 ≤ q → q ≤ 64 → j < 256 → location q j < 16384
+  area-low : (q j : ℕ) → 1 ≤ q → q ≤ 64 → j < 256 → location q j < locations
   area-low q j a b l = let x = location-up q j 256 l in let y = location-low q 256 a b (omega arith) in omega arith
 
   pub created-area : (q j : ℕ) → 1 ≤ q → q ≤ 64 → j < 256 → (q ≡ n → ⊥) → created m n μ (location q j) ≡ m (location q j)

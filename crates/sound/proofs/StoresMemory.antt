@@ -7,11 +7,11 @@ use native.Mathlib.Nat.{div-add-mod'}
 use lib.ListN.{length, getD}
 use lib.Dec.{eqb, ltb}
 use borrow.Author.Tests.{ltb-true, ltb-false}
-use Rattle.basics.specs.Choice.{cases}
+use Rattle.basics.specs.Cases.{cases}
 use Rattle.machine.specs.Memory.{Memory, update, within, store, clear}
-use Rattle.machine.specs.Layout.{location, recordAt}
+use Rattle.machine.specs.Layout.{location, recordAt, locations}
 use Rattle.machine.proofs.Memories.{within-from, within-to, store-below, store-above}
-use Rattle.sound.specs.Claims.{Small}
+use Rattle.sound.specs.Answers.{Small}
 
 -- words
 module _ (m : Memory) (i v : ℕ) where
@@ -45,7 +45,7 @@ pub location-of : (a : ℕ) → location (a / 256 + 1) (a % 256) ≡ a
 unfolding location
 location-of a = let e = div-add-mod' a 256 in omega arith
 
-pub location-low : (p j : ℕ) → 1 ≤ p → p ≤ 64 → j ≤ 256 → location p j ≤ 16384
+pub location-low : (p j : ℕ) → 1 ≤ p → p ≤ 64 → j ≤ 256 → location p j ≤ locations
 unfolding location
 location-low p j l h g = omega arith
 
@@ -61,12 +61,12 @@ areas-apart p q j k n u v d l h f g =
     (λ e. let x = ltb-true p q e in f (omega arith))
     (λ e. let x = ltb-false p q e in let y : q < p = omega arith in g (omega arith))
 
-pub record-high : (p k : ℕ) → 16384 ≤ recordAt p k
+pub record-high : (p k : ℕ) → locations ≤ recordAt p k
 unfolding recordAt
 record-high p k = omega arith
 
 -- what is stored in areas leaves the records
-pub store-record : (m : Memory) (a : ℕ) (ws : List ℕ) → a + length ws ≤ 16384 → (r k : ℕ) → store m a ws (recordAt r k) ≡ m (recordAt r k)
+pub store-record : (m : Memory) (a : ℕ) (ws : List ℕ) → a + length ws ≤ locations → (r k : ℕ) → store m a ws (recordAt r k) ≡ m (recordAt r k)
 store-record m a ws l r k = let z = record-high r k in store-above m a ws (recordAt r k) (omega arith)
 
 -- words of records are apart

@@ -5,14 +5,14 @@ use mathlib.Core.Bool.{true, false}
 use native.Mathlib.Omega.{arith}
 use lib.Dec.{eqb}
 use borrow.Author.Tests.{eqb-true, eqb-false, ne-eqb}
-use Rattle.basics.specs.Choice.{cases}
+use Rattle.basics.specs.Cases.{cases}
 use Rattle.table.specs.Table.{Table}
-use Rattle.table.specs.Entries.{firstStmt}
+use Rattle.table.specs.Entries.{firstStmt, stmtLimit}
 use Rattle.machine.specs.Memory.{Memory, update}
 use Rattle.machine.specs.Layout.{location, recordAt, statusAt, moduleAt, statementAt, frameAt, topAt, worksAt, holderAt, depthAt, createdAt, failureAt, calledBlock}
 use Rattle.machine.specs.Context.{blockOf}
 use Rattle.machine.specs.Entries.{stmtAt}
-use Rattle.machine.specs.Rule.{liesIn, nextFirst, mayWait, worked, rule}
+use Rattle.machine.specs.Rule.{liesIn, mayWait, worked, rule}
 use Rattle.machine.proofs.Memories.{update-at, update-other}
 use Rattle.verdict.specs.Accepted.{Accepted}
 use Rattle.sound.specs.Claims.{PlaceLaws, Started}
@@ -109,7 +109,7 @@ module _ (m : Memory) (r i v : ℕ) (a : 1 ≤ r) (l : i < 20) (no-module : i �
     set-failed d = rw (set-unlike 1 9 (omega arith) (omega arith) (λ x. d (sym x))) (h .failed)
 
 -- a chain at another statement of its block
-pub chain-at : (T : Table) (m : Memory) (p : ℕ) {d f w c top : ℕ} (b c' : ℕ) → (d ≡ 0 → b ≡ m (moduleAt p)) → ((d ≡ 0 → ⊥) → b ≡ calledBlock m p f) → firstStmt T b ≤ c' → c' < nextFirst T b → Chained T m p d f w c top → Chained T m p d f w c' top
+pub chain-at : (T : Table) (m : Memory) (p : ℕ) {d f w c top : ℕ} (b c' : ℕ) → (d ≡ 0 → b ≡ m (moduleAt p)) → ((d ≡ 0 → ⊥) → b ≡ calledBlock m p f) → firstStmt T b ≤ c' → c' < stmtLimit T b → Chained T m p d f w c top → Chained T m p d f w c' top
 chain-at T m p b c' x y l h (bottom k) =
     let e = x refl in
     bottom (record { no-frame = k .no-frame; own = k .own; ends = k .ends; from = rw e at l; to = rw e at h })

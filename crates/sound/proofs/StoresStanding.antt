@@ -5,20 +5,20 @@ use mathlib.Core.Bool.{true}
 use native.Mathlib.Omega.{arith}
 use lib.Dec.{eqb, ltb}
 use borrow.Author.Tests.{eqb-true, eqb-false}
-use Rattle.basics.specs.Choice.{cases}
+use Rattle.basics.specs.Cases.{cases}
 use Rattle.basics.proofs.Bools.{no-true}
 use Rattle.table.specs.Table.{Table}
-use Rattle.table.specs.Entries.{blockCount, stmtCount, firstStmt, stmtKind}
-use Rattle.nesting.specs.Nest.{stmtLimit}
+use Rattle.table.specs.Entries.{blockCount, stmtCount, firstStmt, stmtKind, stmtLimit}
 use Rattle.nesting.proofs.Promise.{begins, goes-on}
 use Rattle.machine.specs.Memory.{Memory, update}
 use Rattle.machine.specs.Layout.{location, recordAt, statementAt, frameAt, topAt, worksAt, holderAt, depthAt, createdAt}
 use Rattle.machine.specs.Entries.{stmtAt, statementOf}
 use Rattle.machine.specs.Calls.{standing}
-use Rattle.machine.specs.Rule.{nextFirst, calls, worked}
+use Rattle.machine.specs.Rule.{calls, worked}
 use Rattle.machine.proofs.Memories.{update-at, update-other}
 use Rattle.verdict.specs.Accepted.{Accepted}
-use Rattle.sound.specs.Claims.{PlaceLaws, Small}
+use Rattle.sound.specs.Claims.{PlaceLaws}
+use Rattle.sound.specs.Answers.{Small}
 use Rattle.sound.specs.Ruled.{Chained, held, Process, Ruled, Carries}
 use Rattle.sound.proofs.StoresMemory.{location-low, location-up, record-high, records-apart, words-apart, update-small}
 use Rattle.sound.proofs.StoresProcesses.{process-by, variables-same, chain-stays, alike-stays, process-alike, base-fits}
@@ -26,12 +26,12 @@ use Rattle.sound.proofs.Worked.{worked-created}
 
 -- each block has a first statement, and after a statement of a block that is not its end stands another
 module _ (T : Table) (ok : Accepted T) (b : ℕ) (l : b < blockCount T) where
-  pub block-begins : firstStmt T b < nextFirst T b
-  unfolding nextFirst stmtLimit
+  pub block-begins : firstStmt T b < stmtLimit T b
+  unfolding stmtLimit
   block-begins = begins T (ok .nesting) b l .below
 
-  pub block-goes : (c : ℕ) → firstStmt T b ≤ c → c < nextFirst T b → (stmtKind T c ≡ 13 → ⊥) → c + 1 < nextFirst T b
-  unfolding nextFirst stmtLimit
+  pub block-goes : (c : ℕ) → firstStmt T b ≤ c → c < stmtLimit T b → (stmtKind T c ≡ 13 → ⊥) → c + 1 < stmtLimit T b
+  unfolding stmtLimit
   block-goes c x y n = goes-on T (ok .nesting) b l c (record { from = x; below = y }) n .below
 
 -- a call is no block end

@@ -7,7 +7,8 @@ use native.Mathlib.Omega.{arith}
 use lib.ListN.{length}
 use lib.Dec.{eqb, leb}
 use borrow.Author.Tests.{eqb-true, eqb-false, leb-true}
-use Rattle.basics.specs.Choice.{cases, both}
+use Rattle.basics.specs.Cases.{cases}
+use Rattle.basics.specs.Choice.{both}
 use Rattle.basics.proofs.Bools.{both-l, both-r, either-case}
 use Rattle.table.specs.Table.{Table}
 use Rattle.sizes.specs.Sizes.{wordsOf, moduleWords}

@@ -6,7 +6,8 @@ use native.Mathlib.Omega.{arith}
 use native.Mathlib.Nat.{add-assoc, add-zero, div-add-mod', mod-eq-of-lt, div-eq-of-lt, mul-add-div-right, mul-add-mod-self-right}
 use lib.Dec.{eqb, ltb}
 use borrow.Author.Tests.{eqb-true, eq-eqb, ltb-true, ltb-false, lt-ltb}
-use Rattle.basics.specs.Choice.{cases, both, either}
+use Rattle.basics.specs.Cases.{cases}
+use Rattle.basics.specs.Choice.{both, either}
 use Rattle.basics.specs.Course.{upto, course}
 use Rattle.basics.proofs.Bools.{no-true, both-l, both-r, both-i, either-l, either-r, either-case}
 use Rattle.basics.proofs.Courses.{upto-below, upto-above, strong}

@@ -13,7 +13,7 @@ use Rattle.table.specs.Table.{Table}
 use Rattle.sizes.specs.Sizes.{wordsOf}
 use Rattle.sizes.proofs.Counting.{words-standard}
 use Rattle.machine.specs.Memory.{Memory, store, wordsAt}
-use Rattle.machine.specs.Layout.{recordAt, createdAt, moduleAt}
+use Rattle.machine.specs.Layout.{recordAt, createdAt, moduleAt, locations}
 use Rattle.machine.specs.Outcomes.{wordOf}
 use Rattle.machine.specs.Entries.{processType, typeAt}
 use Rattle.machine.specs.Processes.{refers}
@@ -25,7 +25,7 @@ use Rattle.sound.proofs.Values.{refersOrEmpty, integer-holds, boolean-i
 
 -- ---- references depend on the control records only: words from 16,384 on
 
-module _ (m n : Memory) (same : (j : ℕ) → 16384 ≤ j → n j ≡ m j) where
+module _ (m n : Memory) (same : (j : ℕ) → locations ≤ j → n j ≡ m j) where
   pub refers-same : (μ r : ℕ) → refers n μ r ≡ refers m μ r
   unfolding refers recordAt
   refers-same μ r = rw (same createdAt (omega arith), same (moduleAt r) (omega arith))

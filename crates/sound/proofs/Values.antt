@@ -6,7 +6,8 @@ use native.Mathlib.Omega.{arith}
 use native.Mathlib.Nat.{add-assoc, add-zero}
 use lib.Dec.{eqb, leb, ltb}
 use borrow.Author.Tests.{eqb-true, eq-eqb, le-leb, ltb-true, ltb-false}
-use Rattle.basics.specs.Choice.{cases, either, allBelow}
+use Rattle.basics.specs.Cases.{cases}
+use Rattle.basics.specs.Choice.{either, allBelow}
 use Rattle.basics.specs.Course.{upto, course}
 use Rattle.basics.proofs.Bools.{no-true, all-at, either-l, either-r, either-case, all-i}
 use Rattle.basics.proofs.Courses.{upto-below, upto-above, strong}

@@ -1,3 +1,4 @@
+-- Trusted: public promises are said with these definitions.
 -- What a var parameter is bound to stays: what its argument selected (01, A run, for demand 3). Assumes nothing.
 use Prim.Native.Nat.{ℕ, _+_, _<_}
 use mathlib.Core.Path.{_≡_}

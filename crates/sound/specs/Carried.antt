@@ -1,3 +1,4 @@
+-- Trusted: public promises are said with these definitions.
 -- What a statement that is carried out does, kind by kind (9 to 13; 01, A step): row 0 of 'Step answers'. Each rule gives the state and the
 -- device words that are left; words that it does not name stay as they were. Assumes nothing.
 use Prim.Native.Nat.{ℕ, suc, _+_}

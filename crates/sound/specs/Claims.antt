@@ -1,3 +1,4 @@
+-- Inner: for code and proofs only; no public promise is said with these definitions.
 -- What the parts of the soundness proof claim of each other: values and places, evaluation, steps. Each is proved in proofs/. Assumes nothing.
 use Prim.Native.Nat.{ℕ, _+_, _*_, _≤_, _<_}
 use mathlib.Core.Path.{_≡_}
@@ -15,7 +16,6 @@ use Rattle.machine.specs.Entries.{recordType, arrayType, typeAt}
 use Rattle.machine.specs.Processes.{refers}
 use Rattle.machine.specs.Values.{holds, part}
 use Rattle.machine.specs.Rule.{isCreated, lives, rule}
-use Rattle.machine.specs.Step.{Step, done}
 
 -- ---- values and places
 
@@ -60,25 +60,3 @@ pub data Good (T : Table) (m : Memory) (p τ : ℕ) : Outcome Operand → Type 0
   selects : (a : ℕ) → lives T m p (m (depthAt p)) (m (frameAt p)) (m (worksAt p)) τ a ≡ true → Good T m p τ (ok (place a τ))
   yields : (ws : List ℕ) → IsValue T m τ ws → Good T m p τ (ok (value τ ws))
   fails : (n : ℕ) → 16 ≤ n → n ≤ 24 → Good T m p τ (fail n)
-
--- ---- steps
-
--- each number is a word
-pub record Small (m : Memory) : Type 0 where
-  pub small : (i : ℕ) → m i < 65536
-
--- a number of the rows of 'Step answers' (01): 0 to 3, or that of a failure, 16 to 24
-pub data Listed (n : ℕ) : Type 0 where
-  regular : n ≤ 3 → Listed n
-  failure : 16 ≤ n → n ≤ 24 → Listed n
-
--- a step that is carried out, and what it leaves
-pub record Sound (T : Table) (s : Step) : Type 0 where
-  pub answer : ℕ
-  pub state : Memory
-  pub page : Memory
-  pub is : s ≡ done answer state page
-  pub ruled : rule T state ≡ true
-  pub words : Small state
-  pub devices : Small page
-  pub listed : Listed answer

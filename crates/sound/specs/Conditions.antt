@@ -1,3 +1,4 @@
+-- Trusted: public promises are said with these definitions.
 -- When a statement fails, waits or ends its process's own block, said by rules (01, Step answers). The rules of failures say where each
 -- failure arises, and which operand's failure is met first; that an operand has a value or a place is said by the evaluation.
 -- Assumes nothing.

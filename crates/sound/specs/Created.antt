@@ -1,3 +1,4 @@
+-- Trusted: public promises are said with these definitions.
 -- The processes created (11.4; 01, A run, for demand 3): process 1, and one more for each create carried out, of the module that its
 -- variable's type names. Each stays one, of its module. Assumes nothing.
 use Prim.Native.Nat.{ℕ, _+_, _≤_, _<_}

@@ -1,3 +1,4 @@
+-- Trusted: public promises are said with these definitions.
 -- One call, or several: a host that hands state and page on from call to call may cut a schedule where it likes (01, The four calls;
 -- A run, for demand 3). Assumes nothing.
 use Prim.Native.Nat.{ℕ, _≤_}

@@ -1,3 +1,4 @@
+-- Trusted: public promises are said with these definitions.
 -- Demand 3, one statement about a begin and a list of run calls (01, A run, for demand 3; Agreement). Assumes nothing.
 use Prim.Native.Nat.{ℕ, _+_, _<_}
 use mathlib.Core.Path.{_≡_}
@@ -10,7 +11,7 @@ use Rattle.machine.specs.Layout.{moduleAt, createdAt, failureAt}
 use Rattle.machine.specs.Step.{done, step}
 use Rattle.machine.specs.Rule.{rule}
 use Rattle.sound.specs.Histories.{Seen, asked, told, processes, answers, finally, Threaded, Every, Lasting, order, written, Served, Handed, stateAfter, History, first, steps}
-use Rattle.sound.specs.Claims.{Listed}
+use Rattle.sound.specs.Answers.{Listed}
 use Rattle.sound.specs.InUse.{ValuesHold}
 use Rattle.sound.specs.Bindings.{BindingsKept}
 use Rattle.sound.specs.Created.{creations, ProcessesKept, CreatedKept}

@@ -1,3 +1,4 @@
+-- Inner: for code and proofs only; no public promise is said with these definitions.
 -- What evaluation claims: Claims, with the words of values below 65,536, and the outcomes of variables and of expressions apart. Assumes nothing.
 use Prim.Native.Nat.{ℕ, suc, _+_, _≤_, _<_}
 use mathlib.Core.Path.{_≡_}
@@ -22,7 +23,8 @@ use Rattle.machine.specs.Rule as state
 use Rattle.machine.specs.Entries.{localCall, processCall, stmtAt}
 use Rattle.words.specs.Numbers.{intOf}
 use Rattle.words.specs.Devices.{isDevice}
-use Rattle.sound.specs.Claims.{IsValue, Small}
+use Rattle.sound.specs.Claims.{IsValue}
+use Rattle.sound.specs.Answers.{Small}
 
 -- each number of the list is a word
 pub record SmallWords (ws : List ℕ) : Type 0 where

@@ -1,3 +1,4 @@
+-- Trusted: public promises are said with these definitions.
 -- Runs: a begin that is not refused and a list of run calls, those refused among them (01, A run, for demand 3). Assumes nothing.
 use Prim.Native.Nat.{ℕ, _≤_}
 use mathlib.Core.Path.{_≡_}
@@ -6,12 +7,13 @@ use mathlib.Core.List.{List, [], _∷_, _++_}
 use lib.ListN.{length, take}
 use lib.Dec.{eqb}
 use Rattle.basics.specs.Choice.{pick}
-use Rattle.words.specs.Memory.{Bytes}
+use Rattle.words.specs.Bytes.{Bytes}
 use Rattle.table.specs.Table.{Table, tableOf}
 use Rattle.machine.specs.Memory.{Memory, memoryOf, bytesOf}
 use Rattle.machine.specs.Step.{step}
 use Rattle.machine.specs.Run.{onDone}
 use Rattle.machine.specs.Public.{Begun, begun, Called, called, beginCall, runCall}
+use Rattle.machine.specs.Layout.{stateWords, pageWords, pageSize}
 
 -- ---- steps
 
@@ -25,10 +27,10 @@ pub record Seen : Type 0 where
   pub left : List ℕ
 
 unfoldable pub stateBytes : Memory → List ℕ
-stateBytes m = bytesOf 17664 m
+stateBytes m = bytesOf stateWords m
 
 unfoldable pub pageBytes : Memory → List ℕ
-pageBytes page = bytesOf 4096 page
+pageBytes page = bytesOf pageWords page
 
 unfoldable pub seen : ℕ → Memory → Memory → ℕ → Memory → Memory → Seen
 seen p m page a s d = record {
@@ -155,7 +157,7 @@ module _ (verdict : ℕ → List ℕ → ℕ) (w : ℕ) where
   unfoldable pub Served : List ℕ → List ℕ → List Ask → Type 0
   Served t s [] = Unit
   Served t s (x ∷ xs) =
-      (x .table ≡ t → length (x .page) ≡ 8192 → length (x .schedule) ≤ length (x .answers) → refused s x ≡ false) × Served t (stateLeft (callOf s x)) xs
+      (x .table ≡ t → length (x .page) ≡ pageSize → length (x .schedule) ≤ length (x .answers) → refused s x ≡ false) × Served t (stateLeft (callOf s x)) xs
 
   -- the first step of a call sees the device words handed over, each other those that the last one left; the call leaves those of its last
   -- step, and its state

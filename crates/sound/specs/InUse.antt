@@ -1,3 +1,4 @@
+-- Trusted: public promises are said with these definitions.
 -- The variables in use, and that they hold values of their types, by parts (01, A run, for demand 3). Assumes nothing.
 use Prim.Native.Nat.{ℕ, suc, _+_, _*_, _≤_, _<_}
 use mathlib.Core.Path.{_≡_}

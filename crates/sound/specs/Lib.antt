@@ -1,4 +1,5 @@
 pub mod Claims
+pub mod Answers
 pub mod Ruled
 pub mod Evaluated
 pub mod Histories

@@ -1,3 +1,4 @@
+-- Trusted: public promises are said with these definitions.
 -- The calls of a process that have not ended: which steps make and end them, and what their parameters get (11.3, 12, 13; 01, A run, for
 -- demand 3). Assumes nothing.
 use Prim.Native.Nat.{ℕ, zero, suc, _+_, _<_}

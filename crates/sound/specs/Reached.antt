@@ -1,3 +1,4 @@
+-- Inner: for code and proofs only; no public promise is said with these definitions.
 -- What a step keeps besides the state rule: a memory has no words beyond its size. Assumes nothing.
 use Prim.Native.Nat.{ℕ, _≤_, _<_}
 use mathlib.Core.Path.{_≡_}
@@ -7,8 +8,9 @@ use Rattle.machine.specs.Memory.{Memory}
 use Rattle.machine.specs.Step.{done, step}
 use Rattle.machine.specs.Run.{begin}
 use Rattle.machine.specs.Rule.{rule}
+use Rattle.machine.specs.Layout.{stateWords, pageWords}
 use Rattle.sound.specs.Bindings.{BindingsKept}
-use Rattle.sound.specs.Claims.{Small, Sound}
+use Rattle.sound.specs.Answers.{Small, Sound}
 
 -- the words from n on are 0
 pub record Sized (n : ℕ) (m : Memory) : Type 0 where
@@ -18,16 +20,16 @@ pub record Sized (n : ℕ) (m : Memory) : Type 0 where
 pub record Reached (T : Table) (m : Memory) : Type 0 where
   pub ruled : rule T m ≡ true
   pub words : Small m
-  pub sized : Sized 17664 m
+  pub sized : Sized stateWords m
 
 pub record Page (page : Memory) : Type 0 where
   pub words : Small page
-  pub sized : Sized 4096 page
+  pub sized : Sized pageWords page
 
 -- a step writes inside the state and the page only
 pub record Kept (s d : Memory) : Type 0 where
-  pub state : Sized 17664 s
-  pub page : Sized 4096 d
+  pub state : Sized stateWords s
+  pub page : Sized pageWords d
 
 -- each number of the table is a word, so that a state can hold it
 pub record WordTable (T : Table) : Type 0 where

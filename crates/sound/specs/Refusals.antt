@@ -1,3 +1,4 @@
+-- Trusted: public promises are said with these definitions.
 -- What the result of a call says, for every input (01, Verdicts and other refusals): it is the lowest number that applies, and a refusal
 -- changes no lent byte. Check and look are lent their slices for reading only. Assumes nothing.
 use Prim.Native.Nat.{ℕ, _+_, _≤_, _<_}
@@ -7,11 +8,12 @@ use mathlib.Core.Logic.{_↔_}
 use mathlib.Core.List.{List}
 use lib.ListN.{length}
 use lib.Dec.{eqb}
-use Rattle.words.specs.Memory.{Bytes}
+use Rattle.words.specs.Bytes.{Bytes}
 use Rattle.table.specs.Table.{tableOf}
 use Rattle.machine.specs.Memory.{memoryOf}
 use Rattle.machine.specs.Rule.{rule}
 use Rattle.machine.specs.Public.{visible, begun, called, runLengths, beginRefusal, beginCall, runRefusal, runCall, lookCall}
+use Rattle.machine.specs.Layout.{stateSize}
 use Rattle.sound.specs.Histories.{begunResult, result}
 
 -- ---- the numbers that check gives
@@ -35,8 +37,8 @@ module _ (verdict : ℕ → List ℕ → ℕ) (w : ℕ) (table state : List ℕ)
   -- BEGIN
   pub record BeginResult : Type 0 where
     pub is : begunResult (beginCall verdict w table state) ≡ beginRefusal verdict w table state
-    pub lowest : Lowest (eqb (length state) 35328) (verdict w table) true (begunResult (beginCall verdict w table state))
-    pub success : (begunResult (beginCall verdict w table state) ≡ 0) ↔ AllRight (eqb (length state) 35328) (verdict w table) true
+    pub lowest : Lowest (eqb (length state) stateSize) (verdict w table) true (begunResult (beginCall verdict w table state))
+    pub success : (begunResult (beginCall verdict w table state) ≡ 0) ↔ AllRight (eqb (length state) stateSize) (verdict w table) true
     -- where it refuses, the state is as it was
     pub unchanged : (begunResult (beginCall verdict w table state) ≡ 0 → ⊥)
         → beginCall verdict w table state ≡ begun (begunResult (beginCall verdict w table state)) state
@@ -69,9 +71,9 @@ module _ (verdict : ℕ → List ℕ → ℕ) (w : ℕ) (table state : List ℕ)
     looked = lookCall verdict w table state process variable place
 
     pub record LookResult : Type 0 where
-      pub lowest : Lowest (eqb (length state) 35328) (verdict w table) ruled looked
-      pub eleven : (looked ≡ 11) ↔ (AllRight (eqb (length state) 35328) (verdict w table) ruled × (sees ≡ false))
-      pub success : (65536 ≤ looked) ↔ (AllRight (eqb (length state) 35328) (verdict w table) ruled × (sees ≡ true))
+      pub lowest : Lowest (eqb (length state) stateSize) (verdict w table) ruled looked
+      pub eleven : (looked ≡ 11) ↔ (AllRight (eqb (length state) stateSize) (verdict w table) ruled × (sees ≡ false))
+      pub success : (65536 ≤ looked) ↔ (AllRight (eqb (length state) stateSize) (verdict w table) ruled × (sees ≡ true))
       pub most : looked < 65536 + 65536
 
 -- ALL FOUR CALLS, for every input: a table, a state and a page are bytes

@@ -1,3 +1,4 @@
+-- Trusted: public promises are said with these definitions.
 -- The rows of 'Step answers' (01) as conditions on table, state, device words and process. They hold for a run that has not failed.
 -- Assumes nothing.
 use Prim.Native.Nat.{ℕ, _+_}

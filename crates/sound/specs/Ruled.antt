@@ -1,3 +1,4 @@
+-- Inner: for code and proofs only; no public promise is said with these definitions.
 -- The state rule as records: what a state that meets it gives, in facts of numbers. Assumes nothing.
 use Prim.Native.Nat.{ℕ, suc, _+_, _-_, _≤_, _<_}
 use mathlib.Core.Path.{_≡_}
@@ -5,7 +6,7 @@ use mathlib.Core.Bool.{true}
 use mathlib.Core.List.{List}
 use lib.ListN.{length, getD}
 use Rattle.table.specs.Table.{Table}
-use Rattle.table.specs.Entries.{blockCount, varMode, varType, blockKind, owner, firstVar, params, vars, firstStmt}
+use Rattle.table.specs.Entries.{blockCount, varMode, varType, blockKind, owner, firstVar, params, vars, firstStmt, stmtLimit}
 use Rattle.sizes.specs.Sizes.{moduleWords}
 use Rattle.machine.specs.Memory.{Memory}
 use Rattle.machine.specs.Layout.{location, statusAt, moduleAt, statementAt, frameAt, topAt, worksAt, holderAt, depthAt, createdAt, failureAt, callerFrame, callStatement, callerWorks, calledBlock}
@@ -15,7 +16,7 @@ use Rattle.machine.specs.Context.{blockOf}
 use Rattle.machine.specs.Values.{holds}
 use Rattle.sound.specs.Claims.{Keeps}
 use Rattle.machine.specs.Outcomes.{Outcome, ok, fail}
-use Rattle.machine.specs.Rule.{nextFirst, calls, mayWait, worked, worksBy, lives, rule}
+use Rattle.machine.specs.Rule.{calls, mayWait, worked, worksBy, lives, rule}
 
 -- process p executes its own block: the bottom of its chain
 pub record Bottom (T : Table) (m : Memory) (p f w c top : ℕ) : Type 0 where
@@ -23,7 +24,7 @@ pub record Bottom (T : Table) (m : Memory) (p f w c top : ℕ) : Type 0 where
   pub own : w ≡ p
   pub ends : top ≡ moduleWords T (m (moduleAt p))
   pub from : firstStmt T (m (moduleAt p)) ≤ c
-  pub to : c < nextFirst T (m (moduleAt p))
+  pub to : c < stmtLimit T (m (moduleAt p))
 
 -- a call of procedure q, with its frame at f in the area of process p and d calls below it, that stands at statement c and works on
 -- process w; its frame ends at top
@@ -38,7 +39,7 @@ pub record Framed (T : Table) (m : Memory) (p d f w c top q : ℕ) : Type 0 wher
   pub ends : f + 4 + frameWords T q ≡ top
   pub fits : top ≤ 256
   pub from : firstStmt T q ≤ c
-  pub to : c < nextFirst T q
+  pub to : c < stmtLimit T q
   -- a value parameter or local holds a value of its type, a var parameter names a live variable of its type
   pub values : (i : ℕ) → i < vars T q → (varMode T (firstVar T q + i) ≡ 2 → ⊥) → holds T m (varType T (firstVar T q + i)) (location p (f + 4 + offsetOf T q (firstVar T q + i))) ≡ true
   pub bound : (i : ℕ) → i < vars T q → varMode T (firstVar T q + i) ≡ 2 → lives T m p d (callerFrame m p f) (callerWorks m p f) (varType T (firstVar T q + i)) (m (location p (f + 4 + offsetOf T q (firstVar T q + i)))) ≡ true
@@ -86,7 +87,7 @@ pub record Standing (T : Table) (m : Memory) (p : ℕ) : Type 0 where
   pub some-works : 1 ≤ m (worksAt p)
   pub works : m (worksAt p) ≤ m createdAt
   pub from : firstStmt T (blockOf m p) ≤ m (statementAt p)
-  pub to : m (statementAt p) < nextFirst T (blockOf m p)
+  pub to : m (statementAt p) < stmtLimit T (blockOf m p)
   pub room : (m (depthAt p) ≡ 0 → ⊥) → m (frameAt p) + 4 ≤ 256
 
 -- the processes of m are processes of n, of the same modules, and started ones stay so

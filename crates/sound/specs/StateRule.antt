@@ -1,3 +1,4 @@
+-- Trusted: public promises are said with these definitions.
 -- What the state rule is worth (01, Verdicts and other refusals: The state rule). States and pages are memories of words. Assumes nothing.
 use Prim.Native.Nat.{ℕ}
 use mathlib.Core.Path.{_≡_}
@@ -10,7 +11,7 @@ use Rattle.machine.specs.Entries.{stmtAt}
 use Rattle.machine.specs.Step.{done, step}
 use Rattle.machine.specs.Run.{begin}
 use Rattle.machine.specs.Rule.{mayWait, rule}
-use Rattle.sound.specs.Claims.{Small, Sound}
+use Rattle.sound.specs.Answers.{Small, Sound}
 use Rattle.sound.specs.InUse.{Created, Call, ValuesHold}
 
 -- a state that begin and steps reach, of any processes and on any pages

@@ -8,13 +8,14 @@ use lib.Dec.{eqb, ltb}
 use lib.ListN.{length, getD, set, replicate, length-set, length-replicate, List·getD-eq-default}
 use lib.Seq.{getD-set-same, getD-set-other}
 use borrow.Author.Tests.{eq-eqb, ne-eqb, eqb-true, eqb-false, ltb-true, ltb-false}
-use Rattle.basics.specs.Choice.{cases}
+use Rattle.basics.specs.Cases.{cases}
 use Rattle.table.specs.Empty.{bytesRead}
 use Rattle.table.specs.Table.{Table, tableOf}
 use Rattle.table.specs.Entries.{typeCount, firstStmt, vars}
-use Rattle.words.specs.Memory.{Bytes}
+use Rattle.words.specs.Bytes.{Bytes}
 use Rattle.code.specs.Code.{decoded}
-use Rattle.sizes.specs.Sizes.{typesSized, varOffset, moduleWords, Room}
+use Rattle.sizes.specs.Sizes.{typesSized, varOffset, moduleWords}
+use Rattle.sizes.specs.Kept.{Room}
 use Rattle.sizes.proofs.Counting.{kind-none}
 use Rattle.sizes.proofs.Promise.{types-pass, module-most, var-exact}
 use Rattle.numbers.proofs.BlockPromise.{program-there, program-kind}
@@ -25,8 +26,8 @@ use Rattle.verdict.specs.Edition.{rowsBelow, typesBelow}
 use Rattle.verdict.proofs.Promise.{promise}
 use Rattle.verdict.proofs.Rooming.{rows-small}
 use Rattle.machine.specs.Memory.{update, zeros, memoryOf, bytesOf}
-use Rattle.machine.specs.Lent.{Lent, Changed}
-use Rattle.machine.specs.Layout.{statusAt, statementAt, frameAt, topAt, worksAt, holderAt, depthAt, createdAt}
+use Rattle.machine.specs.Lent.{Lent, Changed, State, Becomes}
+use Rattle.machine.specs.Layout.{statusAt, statementAt, frameAt, topAt, worksAt, holderAt, depthAt, createdAt, stateWords, stateSize}
 use Rattle.machine.specs.Calls.{standing}
 use Rattle.machine.specs.Run.{begin}
 use Rattle.machine.specs.Public.{begun, beginCall, beginRefusal}
@@ -63,20 +64,20 @@ cleared-all n s₀ s i k l c e h = record { long = c .same ∙ l .long; is = fun
 -- ---- words set one after the other
 
 pub first-made : (s₀ s₁ s₂ s₃ : List ℕ)
-    → Changed 17664 s₁ (update (memoryOf s₀) (statusAt 1) 2)
-    → Changed 17664 s₂ (update (memoryOf s₁) (holderAt 1) 1)
-    → Changed 17664 s₃ (update (memoryOf s₂) createdAt 1)
-    → Changed 17664 s₃ (firstMade (memoryOf s₀))
+    → Becomes s₁ (update (memoryOf s₀) (statusAt 1) 2)
+    → Becomes s₂ (update (memoryOf s₁) (holderAt 1) 1)
+    → Becomes s₃ (update (memoryOf s₂) createdAt 1)
+    → Becomes s₃ (firstMade (memoryOf s₀))
 unfolding firstMade
 first-made s₀ s₁ s₂ s₃ a b c = rw (← (a .is), ← (b .is)) c
 
 pub first-stands : (s₀ s₁ s₂ s₃ s₄ s₅ : List ℕ) (c t : ℕ)
-    → Changed 17664 s₁ (update (memoryOf s₀) (statementAt 1) c)
-    → Changed 17664 s₂ (update (memoryOf s₁) (frameAt 1) 0)
-    → Changed 17664 s₃ (update (memoryOf s₂) (topAt 1) t)
-    → Changed 17664 s₄ (update (memoryOf s₃) (worksAt 1) 1)
-    → Changed 17664 s₅ (update (memoryOf s₄) (depthAt 1) 0)
-    → Changed 17664 s₅ (standing (memoryOf s₀) 1 c 0 t 1 0)
+    → Becomes s₁ (update (memoryOf s₀) (statementAt 1) c)
+    → Becomes s₂ (update (memoryOf s₁) (frameAt 1) 0)
+    → Becomes s₃ (update (memoryOf s₂) (topAt 1) t)
+    → Becomes s₄ (update (memoryOf s₃) (worksAt 1) 1)
+    → Becomes s₅ (update (memoryOf s₄) (depthAt 1) 0)
+    → Becomes s₅ (standing (memoryOf s₀) 1 c 0 t 1 0)
 unfolding standing
 first-stands s₀ s₁ s₂ s₃ s₄ s₅ c t a b d e f = rw (← (a .is), ← (b .is), ← (d .is), ← (e .is)) f
 
@@ -98,18 +99,18 @@ module _ (T : Table) (ok : Accepted T) where
 
 pub begin-bytes : (T : Table) (s₁ s₂ s₃ : List ℕ) (c t : ℕ)
     → c ≡ firstStmt T 0 → t ≡ moduleWords T 0
-    → Changed 17664 s₁ zeros
-    → Changed 17664 s₂ (firstMade (memoryOf s₁))
-    → Changed 17664 s₃ (standing (memoryOf s₂) 1 c 0 t 1 0)
+    → Becomes s₁ zeros
+    → Becomes s₂ (firstMade (memoryOf s₁))
+    → Becomes s₃ (standing (memoryOf s₂) 1 c 0 t 1 0)
     → Bytes s₃
-    → s₃ ≡ bytesOf 17664 (begin T)
+    → s₃ ≡ bytesOf stateWords (begin T)
 unfolding begin firstMade
 begin-bytes T s₁ s₂ s₃ c t hc ht a b d bytes =
-    sym (bytes-memory 17664 s₃ bytes (d .long)) ∙ ap (bytesOf 17664) (d .is ∙ rw (b .is, a .is, hc, ht))
+    sym (bytes-memory stateWords s₃ bytes (d .long)) ∙ ap (bytesOf stateWords) (d .is ∙ rw (b .is, a .is, hc, ht))
 
 -- ---- the call
 
-pub lent-bytes : (s : List ℕ) → length s ≡ 35328 → Lent 17664 s
+pub lent-bytes : (s : List ℕ) → length s ≡ stateSize → State s
 lent-bytes s e = record { long = e }
 
 pub begin-room : (w : ℕ) (T : Table) → OfEdition w T → Room T (replicate (typesBelow w) 0)
@@ -125,15 +126,15 @@ pub check-small : (t c : List ℕ) (v : ℕ) → ((i : ℕ) → getD t i 0 < 256
 check-small t c v bytes h z = check-edition 1 t c v (rows-small t bytes 0) h z
 
 module _ (w : ℕ) (t s : List ℕ) where
-  pub begun-short : (length s ≡ 35328 → ⊥) → begun 1 s ≡ beginCall verdict w t s
+  pub begun-short : (length s ≡ stateSize → ⊥) → begun 1 s ≡ beginCall verdict w t s
   unfolding beginCall beginRefusal
-  begun-short n = rw (ne-eqb (length s) 35328 n)
+  begun-short n = rw (ne-eqb (length s) stateSize n)
 
-  module _ (v : ℕ) (l : length s ≡ 35328) (e : v ≡ verdict w t) where
+  module _ (v : ℕ) (l : length s ≡ stateSize) (e : v ≡ verdict w t) where
     pub begun-refused : (v ≡ 0 → ⊥) → begun v s ≡ beginCall verdict w t s
     unfolding beginCall beginRefusal
-    begun-refused n = rw (eq-eqb (length s) 35328 l, ← e, ne-eqb v 0 n)
+    begun-refused n = rw (eq-eqb (length s) stateSize l, ← e, ne-eqb v 0 n)
 
-    pub begun-done : (c s₁ : List ℕ) → v ≡ 0 → decoded c ≡ tableOf w t → s₁ ≡ bytesOf 17664 (begin (decoded c)) → begun 0 s₁ ≡ beginCall verdict w t s
+    pub begun-done : (c s₁ : List ℕ) → v ≡ 0 → decoded c ≡ tableOf w t → s₁ ≡ bytesOf stateWords (begin (decoded c)) → begun 0 s₁ ≡ beginCall verdict w t s
     unfolding beginCall beginRefusal
-    begun-done c s₁ z d h = let g = rw d at h in rw (eq-eqb (length s) 35328 l, ← e, eq-eqb v 0 z, g)
+    begun-done c s₁ z d h = let g = rw d at h in rw (eq-eqb (length s) stateSize l, ← e, eq-eqb v 0 z, g)

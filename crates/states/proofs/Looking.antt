@@ -7,11 +7,13 @@ use native.Mathlib.Omega.{arith}
 use lib.Dec.{eqb, leb, ltb}
 use lib.ListN.{length}
 use borrow.Author.Tests.{eq-eqb, ne-eqb, eqb-true, eqb-false, le-leb, lt-leb, leb-true, lt-ltb, le-ltb, ltb-true, ltb-false}
-use Rattle.basics.specs.Choice.{pick, cases, both}
+use Rattle.basics.specs.Choice.{pick, both}
+use Rattle.basics.specs.Cases.{cases}
 use Rattle.basics.proofs.Bools.{no-true, both-l, both-r, all-at}
 use Rattle.table.specs.Table.{Table, tableOf}
 use Rattle.table.specs.Entries.{varCount, blockCount, varMode, varType, blockKind, firstVar, params, vars}
-use Rattle.sizes.specs.Sizes.{wordsOf, varOffset, Sizes}
+use Rattle.sizes.specs.Sizes.{wordsOf, varOffset}
+use Rattle.sizes.specs.Kept.{Sizes}
 use Rattle.sizes.proofs.Sums.{sum-same}
 use Rattle.sizes.proofs.Judging.{var-in}
 use Rattle.sizes.proofs.Promise.{module-most, var-exact, size-exact}
@@ -20,7 +22,7 @@ use Rattle.typing.proofs.Promise.{module-param}
 use Rattle.verdict.specs.Verdict.{verdict}
 use Rattle.verdict.specs.Accepted.{Accepted}
 use Rattle.machine.specs.Memory.{Memory, within, memoryOf}
-use Rattle.machine.specs.Layout.{location, statusAt, moduleAt, createdAt}
+use Rattle.machine.specs.Layout.{location, statusAt, moduleAt, createdAt, stateSize}
 use Rattle.machine.specs.Variables.{varWords, firstWords, offsetOf, belongs, isModule}
 use Rattle.machine.specs.Step.{inRange}
 use Rattle.machine.specs.Rule.{moduleOk, processOk, rule}
@@ -264,21 +266,21 @@ module _ (T : Table) (m : Memory) (p v k : ℕ) (c : Bool) (ec : c ≡ visible T
 -- ---- the call, where it is known whether the state meets its rule
 
 module _ (w : ℕ) (table state : List ℕ) (p v k : ℕ) where
-  pub looked-short : (length state ≡ 35328 → ⊥) → 1 ≡ lookCall verdict w table state p v k
+  pub looked-short : (length state ≡ stateSize → ⊥) → 1 ≡ lookCall verdict w table state p v k
   unfolding lookCall lookRefusal refusal
-  looked-short n = rw (ne-eqb (length state) 35328 n)
+  looked-short n = rw (ne-eqb (length state) stateSize n)
 
-  module _ (x : ℕ) (l : length state ≡ 35328) (e : x ≡ verdict w table) where
+  module _ (x : ℕ) (l : length state ≡ stateSize) (e : x ≡ verdict w table) where
     pub looked-refused : (x ≡ 0 → ⊥) → x ≡ lookCall verdict w table state p v k
     unfolding lookCall lookRefusal refusal
-    looked-refused n = rw (eq-eqb (length state) 35328 l, ← e, ne-eqb x 0 n, ne-eqb x 0 n)
+    looked-refused n = rw (eq-eqb (length state) stateSize l, ← e, ne-eqb x 0 n, ne-eqb x 0 n)
 
     pub looked-judged : (r : ℕ) → x ≡ 0 → r ≡ lookJudged (tableOf w table) (memoryOf state) p v k → r ≡ lookCall verdict w table state p v k
     unfolding lookCall lookRefusal refusal lookJudged
     looked-judged r z h =
         h ∙ cases (rule (tableOf w table) (memoryOf state))
-        (λ q. rw (eq-eqb (length state) 35328 l, ← e, eq-eqb x 0 z, q))
-        (λ q. rw (eq-eqb (length state) 35328 l, ← e, eq-eqb x 0 z, q))
+        (λ q. rw (eq-eqb (length state) stateSize l, ← e, eq-eqb x 0 z, q))
+        (λ q. rw (eq-eqb (length state) stateSize l, ← e, eq-eqb x 0 z, q))
 
 pub judged-rule : (T : Table) (m : Memory) (c : Bool) → c ≡ rule T m → c ≡ true → rule T m ≡ true
 judged-rule T m c e z = sym e ∙ z

@@ -4,12 +4,13 @@ ghost use mathlib.Core.Bool.{true};
 ghost use Prim.Native.Nat.{_≤_, _<_, _+_};
 ghost use Rattle.table.specs.Entries.{blockCount, blockKind};
 ghost use Rattle.code.specs.Code.{decoded};
-ghost use Rattle.sizes.specs.Sizes.{Sizes, moduleWords};
+ghost use Rattle.sizes.specs.Kept.{Sizes};
+ghost use Rattle.sizes.specs.Sizes.{moduleWords};
 ghost use Rattle.verdict.specs.Verdict.{verdict};
 ghost use Rattle.verdict.specs.Accepted.{Accepted};
 ghost use Rattle.machine.specs.Memory.{memoryOf, bytesOf, zeros};
-ghost use Rattle.machine.specs.Lent.{Lent, Changed};
-ghost use Rattle.machine.specs.Layout.{location, moduleAt, createdAt};
+ghost use Rattle.machine.specs.Lent.{State, Becomes};
+ghost use Rattle.machine.specs.Layout.{location, moduleAt, createdAt, stateWords};
 ghost use Rattle.machine.specs.Calls.{standing};
 ghost use Rattle.machine.specs.Variables.{offsetOf, belongs};
 ghost use Rattle.machine.specs.Run as runs;
@@ -32,8 +33,8 @@ fn narrow(x: usize) -> u16
 
 // Makes every word 0.
 fn clear_all(state: &mut [u8])
-    requires { ⌜ Lent 17664 (now state) ⌝ }
-    ensures { λ _. ⌜ Changed 17664 (now (state .exit)) zeros ⌝ }
+    requires { ⌜ State (now state) ⌝ }
+    ensures { λ _. ⌜ Becomes (now (state .exit)) zeros ⌝ }
 {
     let count = state.len();
     let mut i = 0;
@@ -45,24 +46,24 @@ fn clear_all(state: &mut [u8])
 
 // Process 1 is started and holds its own variables; it is the one process created.
 fn make_first(state: &mut [u8])
-    requires { ⌜ Lent 17664 (now state) ⌝ }
-    ensures { λ _. ⌜ Changed 17664 (now (state .exit)) (firstMade (memoryOf (now (state .entry)))) ⌝ }
+    requires { ⌜ State (now state) ⌝ }
+    ensures { λ _. ⌜ Becomes (now (state .exit)) (firstMade (memoryOf (now (state .entry)))) ⌝ }
 {
-    machine::set_record_word(state, 1, 0, 2);
-    machine::set_record_word(state, 1, 6, 1);
-    machine::set_record_word(state, 1, 8, 1);
+    machine::set_record_word(state, 1, machine::STATUS, 2);
+    machine::set_record_word(state, 1, machine::HOLDER, 1);
+    machine::set_record_word(state, 1, machine::CREATED, 1);
 }
 
 // Where process 1 stands, in no call: its statement and the first free word of its area.
 fn stand_first(state: &mut [u8], statement: u16, top: u16)
-    requires { ⌜ Lent 17664 (now state) ⌝ }
-    ensures { λ _. ⌜ Changed 17664 (now (state .exit)) (standing (memoryOf (now (state .entry))) 1 statement 0 top 1 0) ⌝ }
+    requires { ⌜ State (now state) ⌝ }
+    ensures { λ _. ⌜ Becomes (now (state .exit)) (standing (memoryOf (now (state .entry))) 1 statement 0 top 1 0) ⌝ }
 {
-    machine::set_record_word(state, 1, 2, statement);
-    machine::set_record_word(state, 1, 3, 0);
-    machine::set_record_word(state, 1, 4, top);
-    machine::set_record_word(state, 1, 5, 1);
-    machine::set_record_word(state, 1, 7, 0);
+    machine::set_record_word(state, 1, machine::STATEMENT, statement);
+    machine::set_record_word(state, 1, machine::FRAME, 0);
+    machine::set_record_word(state, 1, machine::TOP, top);
+    machine::set_record_word(state, 1, machine::WORKS, 1);
+    machine::set_record_word(state, 1, machine::DEPTH, 0);
 }
 
 // The words of the program's variables.
@@ -78,8 +79,8 @@ fn program_words(c: &code::Slots, sizes: &[u16]) -> usize
 pub fn begin_state(c: &code::Slots, sizes: &[u16], state: &mut [u8])
     requires { ⌜ Sizes (decoded (now c)) (now sizes) ⌝ }
     requires { ⌜ Accepted (decoded (now c)) ⌝ }
-    requires { ⌜ Lent 17664 (now state) ⌝ }
-    ensures { λ _. ⌜ now (state .exit) ≡ bytesOf 17664 (runs.begin (decoded (now (c .entry)))) ⌝ }
+    requires { ⌜ State (now state) ⌝ }
+    ensures { λ _. ⌜ now (state .exit) ≡ bytesOf stateWords (runs.begin (decoded (now (c .entry)))) ⌝ }
 {
     let statement = narrow(code::first_stmt(c, 0));
     let top = narrow(program_words(c, sizes));
@@ -90,13 +91,13 @@ pub fn begin_state(c: &code::Slots, sizes: &[u16], state: &mut [u8])
 
 // Process p is created, and is started or ended.
 fn is_shown(state: &[u8], p: usize) -> bool
-    requires { ⌜ Lent 17664 (now state) ⌝ }
+    requires { ⌜ State (now state) ⌝ }
     requires { ⌜ memoryOf (now state) createdAt ≤ 64 ⌝ }
     ensures { λ r. ⌜ r ≡ shown (memoryOf (now (state .entry))) p ⌝ }
 {
     if 1 <= p {
-        if p <= wide(machine::record_word(state, 1, 8)) {
-            let status = machine::record_word(state, p, 0);
+        if p <= wide(machine::record_word(state, 1, machine::CREATED)) {
+            let status = machine::record_word(state, p, machine::STATUS);
             if 2 <= status {
                 return status <= 3;
             }
@@ -125,12 +126,12 @@ fn belongs_to(c: &code::Slots, b: usize, v: usize) -> bool
 fn is_visible(c: &code::Slots, sizes: &[u16], state: &[u8], p: usize, v: usize, k: usize) -> bool
     requires { ⌜ Sizes (decoded (now c)) (now sizes) ⌝ }
     requires { ⌜ Accepted (decoded (now c)) ⌝ }
-    requires { ⌜ Lent 17664 (now state) ⌝ }
+    requires { ⌜ State (now state) ⌝ }
     requires { ⌜ rule (decoded (now c)) (memoryOf (now state)) ≡ true ⌝ }
     ensures { λ r. ⌜ (r ≡ visible (decoded (now (c .entry))) (memoryOf (now (state .entry))) p v k) × (r ≡ true → v < 65536) ⌝ }
 {
     if is_shown(state, p) {
-        let b = wide(machine::record_word(state, p, 1));
+        let b = wide(machine::record_word(state, p, machine::MODULE));
         if belongs_to(c, b, v) {
             return k < sizes::size_of(c, sizes, code::var_type(c, v));
         }
@@ -156,13 +157,13 @@ fn variable_offset(c: &code::Slots, sizes: &[u16], b: usize, v: usize) -> usize
 fn visible_word(c: &code::Slots, sizes: &[u16], state: &[u8], p: usize, v: usize, k: usize) -> u16
     requires { ⌜ Sizes (decoded (now c)) (now sizes) ⌝ }
     requires { ⌜ Accepted (decoded (now c)) ⌝ }
-    requires { ⌜ Lent 17664 (now state) ⌝ }
+    requires { ⌜ State (now state) ⌝ }
     requires { ⌜ rule (decoded (now c)) (memoryOf (now state)) ≡ true ⌝ }
     requires { ⌜ visible (decoded (now c)) (memoryOf (now state)) p v k ≡ true ⌝ }
     requires { ⌜ v < 65536 ⌝ }
     ensures { λ r. ⌜ r ≡ memoryOf (now (state .entry)) (location p (offsetOf (decoded (now (c .entry))) (memoryOf (now (state .entry)) (moduleAt p)) v + k)) ⌝ }
 {
-    let b = wide(machine::record_word(state, p, 1));
+    let b = wide(machine::record_word(state, p, machine::MODULE));
     let at = variable_offset(c, sizes, b, v);
     machine::area_word(state, p, at + k)
 }
@@ -178,7 +179,7 @@ pub fn look_word(
 ) -> u32
     requires { ⌜ Sizes (decoded (now c)) (now sizes) ⌝ }
     requires { ⌜ Accepted (decoded (now c)) ⌝ }
-    requires { ⌜ Lent 17664 (now state) ⌝ }
+    requires { ⌜ State (now state) ⌝ }
     requires { ⌜ rule (decoded (now c)) (memoryOf (now state)) ≡ true ⌝ }
     ensures { λ r. ⌜ r ≡ look (decoded (now (c .entry))) (memoryOf (now (state .entry))) process variable place ⌝ }
 {
@@ -203,7 +204,7 @@ pub fn look_judged(
 ) -> u32
     requires { ⌜ Sizes (decoded (now c)) (now sizes) ⌝ }
     requires { ⌜ Accepted (decoded (now c)) ⌝ }
-    requires { ⌜ Lent 17664 (now state) ⌝ }
+    requires { ⌜ State (now state) ⌝ }
     requires { ⌜ ruled ≡ rule (decoded (now c)) (memoryOf (now state)) ⌝ }
     ensures { λ r. ⌜ r ≡ lookJudged (decoded (now (c .entry))) (memoryOf (now (state .entry))) process variable place ⌝ }
 {
@@ -216,8 +217,8 @@ pub fn look_judged(
 // Begins a run of an accepted table: the array of the words of types is that of the small edition.
 fn begin_accepted(c: &code::Slots, state: &mut [u8])
     requires { ⌜ OfEdition 1 (decoded (now c)) ⌝ }
-    requires { ⌜ Lent 17664 (now state) ⌝ }
-    ensures { λ _. ⌜ now (state .exit) ≡ bytesOf 17664 (runs.begin (decoded (now (c .entry)))) ⌝ }
+    requires { ⌜ State (now state) ⌝ }
+    ensures { λ _. ⌜ now (state .exit) ≡ bytesOf stateWords (runs.begin (decoded (now (c .entry)))) ⌝ }
 {
     let mut sizes = [0u16; 258];
     sizes::find_sizes(c, &mut sizes[..]);

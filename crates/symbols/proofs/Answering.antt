@@ -11,7 +11,8 @@ use lib.Seq.{drop-cons, drop-drop, sets, length-sets, sets-eq}
 use lib.Dec.{eqb, leb}
 use borrow.Author.Needs.{needs}
 use borrow.Author.Tests.{eq-eqb, ne-eqb, le-leb, lt-leb}
-use Rattle.basics.specs.Choice.{pick, cases, both}
+use Rattle.basics.specs.Choice.{pick, both}
+use Rattle.basics.specs.Cases.{cases}
 use Rattle.basics.proofs.Bools.{no-true, both-i, both-false-r}
 use Rattle.symbols.specs.Runs.{newLines}
 use Rattle.symbols.specs.Symbols.{symbolLength, symbolKind, commentLength, Symbol, Reading, fault, found, more, symbolsFrom, symbolsOf}

@@ -11,7 +11,8 @@ use lib.Seq.{drop-cons, drop-drop, getD-drop}
 use lib.Dec.{eqb}
 use borrow.Author.Needs.{needs}
 use borrow.Author.Tests.{eq-eqb, ne-eqb}
-use Rattle.basics.specs.Choice.{pick, cases}
+use Rattle.basics.specs.Choice.{pick}
+use Rattle.basics.specs.Cases.{cases}
 use Rattle.symbols.specs.Characters.{inComment}
 use Rattle.symbols.specs.Runs.{run, newLines}
 use Rattle.symbols.specs.Symbols.{commentLength}

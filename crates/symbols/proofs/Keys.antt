@@ -11,7 +11,8 @@ use lib.Seq.{drop-cons, length-take-le}
 use lib.Dec.{eqb, leb}
 use borrow.Author.Needs.{needs}
 use borrow.Author.Tests.{eq-eqb, ne-eqb, eqb-true, eqb-false, leb-true, leb-false, le-leb}
-use Rattle.basics.specs.Choice.{pick, cases, both, either, between}
+use Rattle.basics.specs.Choice.{pick, both, either, between}
+use Rattle.basics.specs.Cases.{cases}
 use Rattle.symbols.specs.Steps.{oneOf, packed}
 use Rattle.basics.proofs.Bools.{both-l, both-r, both-i, between-true, no-true}
 use Rattle.symbols.specs.Characters.{letter, digit, inName, small}

@@ -7,7 +7,8 @@ use native.Mathlib.Omega.{arith}
 use lib.ListN.{length, length-append}
 use lib.Dec.{eqb}
 use borrow.Author.Tests.{eqb-true, eqb-false, eq-eqb, ne-eqb}
-use Rattle.basics.specs.Choice.{pick, cases, both, either, between}
+use Rattle.basics.specs.Choice.{pick, both, either, between}
+use Rattle.basics.specs.Cases.{cases}
 use Rattle.basics.proofs.Bools.{both-l, both-r, no-true}
 use Rattle.symbols.specs.Characters.{letter, digit, octalDigit, inName, standing, graphic}
 use Rattle.symbols.specs.Runs.{newLines}

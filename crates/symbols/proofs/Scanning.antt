@@ -11,7 +11,8 @@ use lib.Seq.{drop-cons, drop-drop}
 use lib.Dec.{eqb, ltb}
 use borrow.Author.Needs.{needs}
 use borrow.Author.Tests.{eq-eqb, ne-eqb, eqb-true, eqb-false, ltb-true, ltb-false}
-use Rattle.basics.specs.Choice.{pick, cases}
+use Rattle.basics.specs.Choice.{pick}
+use Rattle.basics.specs.Cases.{cases}
 use Rattle.symbols.specs.Characters.{letter, digit, inName, inComment}
 use Rattle.symbols.specs.Runs.{run, newLines}
 use Rattle.symbols.specs.Constants.{numeralLength, characterLength, charactersLength, constantLength}

@@ -9,7 +9,8 @@ use lib.Seq.{drop-cons}
 use borrow.Author.Needs.{needs}
 use borrow.Author.Tests.{ne-eqb}
 use mathlib.Core.Bool.{true}
-use Rattle.basics.specs.Choice.{both, cases}
+use Rattle.basics.specs.Choice.{both}
+use Rattle.basics.specs.Cases.{cases}
 use Rattle.basics.proofs.Bools.{both-r, no-true}
 use Rattle.symbols.specs.Vocabulary.{specialSymbols, begins, longest, specialLength}
 use Rattle.symbols.proofs.Going.{drop-end}

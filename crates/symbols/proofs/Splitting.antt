@@ -8,7 +8,8 @@ use lib.ListN.{length, getD, take, drop, length-append, length-drop, take-append
 use lib.Seq.{drop-at, take-at, getD-at, length-take-le, take-suc}
 use lib.Dec.{eqb, leb}
 use borrow.Author.Tests.{eq-eqb, ne-eqb, eqb-true, eqb-false, leb-true, leb-false}
-use Rattle.basics.specs.Choice.{pick, cases, both, either, between}
+use Rattle.basics.specs.Choice.{pick, both, either, between}
+use Rattle.basics.specs.Cases.{cases}
 use Rattle.basics.proofs.Bools.{both-l, both-r, between-true, no-true}
 use Rattle.symbols.specs.Characters.{letter, digit, octalDigit, inName, inComment, graphic}
 use Rattle.symbols.specs.Runs.{run, newLines}

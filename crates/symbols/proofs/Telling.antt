@@ -10,7 +10,8 @@ use lib.Seq.{drop-cons}
 use lib.Dec.{eqb}
 use borrow.Author.Needs.{needs}
 use borrow.Author.Tests.{eq-eqb, ne-eqb, eqb-true, eqb-false}
-use Rattle.basics.specs.Choice.{pick, cases, both, either, between}
+use Rattle.basics.specs.Choice.{pick, both, either, between}
+use Rattle.basics.specs.Cases.{cases}
 use Rattle.symbols.specs.Characters.{letter, digit}
 use Rattle.symbols.specs.Runs.{run}
 use Rattle.symbols.specs.Constants.{numeralLength, characterLength, charactersLength, constantLength}

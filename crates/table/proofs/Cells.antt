@@ -7,7 +7,7 @@ use lib.Dec.{ltb}
 use borrow.Author.Tests.{lt-ltb, le-ltb, ltb-true, ltb-false}
 use native.Mathlib.Nat.{suc-mul, mul-le-mul-right}
 use native.Mathlib.Omega.{arith}
-use Rattle.basics.specs.Choice.{cases}
+use Rattle.basics.specs.Cases.{cases}
 use Rattle.table.specs.Bytes.{num, shorts, fields, rowSize, fieldAt, fieldWidth, begins}
 use Rattle.table.specs.Table.{Table, cellAt, tableAt}
 use Rattle.table.specs.Entries.{declared}

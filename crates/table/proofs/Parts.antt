@@ -11,7 +11,8 @@ use native.Mathlib.Nat.{add-mul, suc-mul, mul-le-mul, mul-le-mul-right, add-sub-
 use native.Mathlib.Omega.{arith}
 use mir.Val.{Fits}
 use mir.Syntax.{w64}
-use Rattle.basics.specs.Choice.{pick, cases, allBelow}
+use Rattle.basics.specs.Choice.{pick, allBelow}
+use Rattle.basics.specs.Cases.{cases}
 use Rattle.table.specs.Bytes.{num, shorts, words, rowSize, fieldAt, fieldWidth, begins}
 use Rattle.table.specs.Table.{countAt, cellAt, tableAt}
 use Rattle.table.specs.Entries.{argNode}

@@ -7,7 +7,8 @@ use lib.ListN.{getD, replicate}
 use lib.Dec.{ltb}
 use native.Mathlib.Omega.{arith}
 use borrow.Author.Tests.{ltb-true}
-use Rattle.basics.specs.Choice.{cases, both}
+use Rattle.basics.specs.Cases.{cases}
+use Rattle.basics.specs.Choice.{both}
 use Rattle.basics.proofs.Bools.{both-l, both-r}
 use Rattle.table.specs.Bytes.{begins}
 use Rattle.table.specs.Empty.{field, fieldsOf, beforeSpace, afterSpace, listing, bytesRead}

@@ -12,7 +12,8 @@ use native.Mathlib.Nat.{add-zero}
 use native.Mathlib.Omega.{arith}
 use mir.Val.{Fits}
 use mir.Syntax.{w64}
-use Rattle.basics.specs.Choice.{pick, cases}
+use Rattle.basics.specs.Choice.{pick}
+use Rattle.basics.specs.Cases.{cases}
 use Rattle.basics.proofs.Bools.{no-true}
 use Rattle.basics.proofs.Chains.{chain-none, chain-more, chain-fail, chain-all}
 use Rattle.table.specs.Bytes.{num, rowSize, sectionEnd, sectionFits, whole, begins}

@@ -1,3 +1,4 @@
+-- Trusted: public promises are said with these definitions.
 -- Sections of rows in a list of bytes, where most fields have w bytes: 1 in the small edition (01, The table). Assumes nothing.
 use Prim.Native.Nat.{ℕ, _+_, _-_, _*_}
 use mathlib.Core.List.{List, [], _∷_}

@@ -1,5 +1,6 @@
+-- Trusted: public promises are said with these definitions.
 -- The entries of a table by name (01, The table). Assumes nothing.
-use Prim.Native.Nat.{ℕ, _-_}
+use Prim.Native.Nat.{ℕ, _+_, _-_}
 use lib.Dec.{ltb}
 use Rattle.basics.specs.Choice.{pick}
 use Rattle.table.specs.Table.{Table}
@@ -106,3 +107,7 @@ stmtD T i = T .cell 6 i 4
 
 abbrev pub stmtLink : Table → ℕ → ℕ
 stmtLink T i = T .cell 6 i 5
+
+-- the number after the last statement of block b: they run to the next block's first, or to the end
+unfoldable pub stmtLimit : Table → ℕ → ℕ
+stmtLimit T b = pick (ltb (b + 1) (blockCount T)) (firstStmt T (b + 1)) (stmtCount T)

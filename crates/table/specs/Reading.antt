@@ -1,3 +1,4 @@
+-- Inner: for code and proofs only; no public promise is said with these definitions.
 -- What the readers answer. Assumes nothing.
 use Prim.Native.Nat.{ℕ, _+_, _-_, _*_, _≤_, _<_}
 use mathlib.Core.Path.{_≡_}
@@ -5,7 +6,7 @@ use mathlib.Core.Bool.{true}
 use mathlib.Core.List.{List}
 use lib.ListN.{length, getD}
 use Rattle.basics.specs.Choice.{pick}
-use Rattle.basics.specs.Chain.{Chain}
+use Rattle.basics.specs.Loops.{Chain}
 use Rattle.table.specs.Bytes.{num, rowSize, begins, sectionEnd, sectionFits, whole}
 use Rattle.table.specs.Table.{countAt}
 use Rattle.table.specs.declared.Section.{Section}

@@ -1,3 +1,4 @@
+-- Trusted: public promises are said with these definitions.
 -- The table of a program: seven sections of rows of numbers. All above this layer speaks of it and not of bytes. Assumes nothing.
 use Prim.Native.Nat.{ℕ, _+_, _*_}
 use mathlib.Core.List.{List}

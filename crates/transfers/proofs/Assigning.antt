@@ -11,13 +11,13 @@ use Rattle.types.specs.Types.{typeOf}
 use Rattle.types.specs.Match.{matches}
 use Rattle.sizes.specs.Sizes.{wordsOf}
 use Rattle.numbers.proofs.OperandPromise.{assign-variable, assign-value}
-use Rattle.words.specs.Outcomes.{failureNumber, outcomeOf}
+use Rattle.words.specs.Values.{failureNumber, outcomeOf}
 use Rattle.words.specs.declared.values.Failure.{Failure}
 use Rattle.words.specs.declared.values.Value.{Value}
 use Rattle.words.specs.declared.values.Value.the-variants.{Word, Fail}
 use Rattle.machine.specs.Memory.{Memory, memoryOf, update, store, wordsAt}
-use Rattle.machine.specs.Layout.{statementAt, failureAt}
-use Rattle.machine.specs.Lent.{Lent, Changed}
+use Rattle.machine.specs.Layout.{statementAt, failureAt, stateWords, locations}
+use Rattle.machine.specs.Lent.{State, Becomes}
 use Rattle.machine.specs.Outcomes.{ok, fail, stuck, need, place, value, onValue}
 use Rattle.machine.specs.Entries.{stmtAt}
 use Rattle.machine.specs.Variables.{fits}
@@ -45,9 +45,9 @@ use Rattle.transfers.proofs.Steps.{goes-on, stands-there, stands-below,
 -- ---- the laws of `copy`
 
 pub copy-returns : (s s1 s2 : List ℕ) (x : Context) (from to n : ℕ)
-    → Changed 17664 s1 (store (memoryOf s) to (wordsAt (memoryOf s) from n))
-    → Changed 17664 s2 (update (memoryOf s1) (statementAt (x .process)) (x .statement + 1))
-    → Changed 17664 s2 (copied (memoryOf s) x from to n)
+    → Becomes s1 (store (memoryOf s) to (wordsAt (memoryOf s) from n))
+    → Becomes s2 (update (memoryOf s1) (statementAt (x .process)) (x .statement + 1))
+    → Becomes s2 (copied (memoryOf s) x from to n)
 unfolding copied
 copy-returns s s1 s2 x from to n c d = record { long = d .long; is = d .is ∙ rw (c .is) }
 
@@ -81,7 +81,7 @@ module _ (t m p : List ℕ) (x : Context) (h : Standing t m p x) (hk : stmtKind 
 
     module _ (l : Place) (hl : selected l (typeOf (decoded t) a) ≡ out t m p x a) where
       pub assign-fails : (e : Failure) (r : ℕ) (s1 : List ℕ) → l ≡ place.Fail e → r ≡ failureNumber e
-          → Changed 17664 s1 (update (memoryOf m) failureAt (failureNumber e))
+          → Becomes s1 (update (memoryOf m) failureAt (failureNumber e))
           → Stepped r s1 p (carried (decoded t) (memoryOf m) (memoryOf p) (contextIn x))
       unfolding doAssign
       assign-fails e r s1 g k c =
@@ -100,7 +100,7 @@ module _ (t m p : List ℕ) (x : Context) (i : ℕ) (c : Assigning t m p x i) wh
   pub assigning-ready : Ready t m p x
   assigning-ready = c .standing .ready
 
-  pub assigning-lent : Lent 17664 m
+  pub assigning-lent : State m
   assigning-lent = stands-lent t m p x (c .standing)
 
   pub assigning-bounds : (1 ≤ x .process) × ((x .process ≤ 64) × (x .statement < 65535))
@@ -113,7 +113,7 @@ module _ (t m p : List ℕ) (x : Context) (i : ℕ) (c : Assigning t m p x i) wh
       (typed-variable (decoded t) (memoryOf m) (memoryOf p) (contextIn x) (c .standing .ready .ranged) (stmtA (decoded t) (x .statement))
       (variable-there t m p x (c .standing) (c .kind) .variable)))
 
-  pub assigning-low : i < 17664
+  pub assigning-low : i < stateWords
   assigning-low = let l = fits-low (decoded t) i (typeOf (decoded t) (stmtA (decoded t) (x .statement))) target-fits in omega arith
 
   -- the value, then the test that it matches
@@ -158,14 +158,14 @@ module _ (t m p : List ℕ) (x : Context) (i : ℕ) (c : Assigning t m p x i) wh
 
     module _ (v : Value) (hv : outcomeOf v ≡ firstWord (out t m p x b)) where
       pub assigning-fails : (e : Failure) (r : ℕ) (s1 : List ℕ) → v ≡ Fail e → r ≡ failureNumber e
-          → Changed 17664 s1 (update (memoryOf m) failureAt (failureNumber e))
+          → Becomes s1 (update (memoryOf m) failureAt (failureNumber e))
           → Stepped r s1 p (carried (decoded t) (memoryOf m) (memoryOf p) (contextIn x))
       assigning-fails e r s1 g k d =
           let q : out t m p x (stmtB (decoded t) (x .statement)) ≡ fail (failureNumber e) = rw hb at (failed _ _ (rw g at hv)) in
           stands-fail t m p x (c .standing) (failureNumber e) r s1 (then ∙ value-failed _ _ (failureNumber e) q) k d
 
       pub assigning-returns : (n w : ℕ) (s1 s2 : List ℕ) → n ≡ wordsOf (decoded t) (typeOf (decoded t) b) → n ≤ 1 → v ≡ Word w
-          → Changed 17664 s1 (update (memoryOf m) i w) → Changed 17664 s2 (update (memoryOf s1) (statementAt (x .process)) (x .statement + 1))
+          → Becomes s1 (update (memoryOf m) i w) → Becomes s2 (update (memoryOf s1) (statementAt (x .process)) (x .statement + 1))
           → Stepped 0 s2 p (carried (decoded t) (memoryOf m) (memoryOf p) (contextIn x))
       assigning-returns n w s1 s2 hn l g d₁ d₂ =
           let q = typed-expression (decoded t) (memoryOf m) (memoryOf p) (contextIn x) (c .standing .ready .ranged) (stmtB (decoded t) (x .statement)) (value-there .expression) in
@@ -202,7 +202,7 @@ module _ (t m p : List ℕ) (x : Context) (i : ℕ) (c : Assigning t m p x i) wh
 
       module _ (l : Place) (hl : selected l (typeOf (decoded t) v) ≡ out t m p x v) where
         pub words-fails : (e : Failure) (r : ℕ) (s1 : List ℕ) → l ≡ place.Fail e → r ≡ failureNumber e
-            → Changed 17664 s1 (update (memoryOf m) failureAt (failureNumber e))
+            → Becomes s1 (update (memoryOf m) failureAt (failureNumber e))
             → Stepped r s1 p (carried (decoded t) (memoryOf m) (memoryOf p) (contextIn x))
         words-fails e r s1 g k d =
             stands-fail t m p x (c .standing) (failureNumber e) r s1
@@ -239,10 +239,10 @@ module _ (t m p : List ℕ) (x : Context) (i : ℕ) (c : Assigning t m p x i) wh
                 words = record { source = above j n _ count a; target = above i n _ target-words b; apart = copied-apart };
               }
             where
-              above : (a n k : ℕ) → n ≡ k → a + k ≤ 16384 → a + n ≤ 17664
+              above : (a n k : ℕ) → n ≡ k → a + k ≤ locations → a + n ≤ stateWords
               above a n k e l = omega arith
 
-          pub words-returns : (s1 : List ℕ) → Changed 17664 s1 (copied (memoryOf m) x j i n)
+          pub words-returns : (s1 : List ℕ) → Becomes s1 (copied (memoryOf m) x j i n)
               → Stepped 0 s1 p (carried (decoded t) (memoryOf m) (memoryOf p) (contextIn x))
           unfolding copied
           words-returns s1 d = stands-done t m p x (c .standing) 0 s1 _ (stores (wordsAt (memoryOf m) j n) found) d

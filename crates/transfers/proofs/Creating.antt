@@ -7,11 +7,11 @@ use borrow.Author.Tests.{eq-eqb, ne-eqb}
 use Rattle.table.specs.Entries.{typeP, stmtKind, stmtA}
 use Rattle.types.specs.Types.{typeOf}
 use Rattle.numbers.proofs.OperandPromise.{create-variable}
-use Rattle.words.specs.Outcomes.{failureNumber}
+use Rattle.words.specs.Values.{failureNumber}
 use Rattle.words.specs.declared.values.Failure.{Failure}
 use Rattle.machine.specs.Memory.{memoryOf, update}
-use Rattle.machine.specs.Layout.{statementAt, createdAt, failureAt}
-use Rattle.machine.specs.Lent.{Lent, Changed}
+use Rattle.machine.specs.Layout.{statementAt, createdAt, failureAt, pageWords}
+use Rattle.machine.specs.Lent.{Lent, Becomes}
 use Rattle.machine.specs.Outcomes.{ok, fail, stuck, failWhere, place}
 use Rattle.machine.specs.Entries.{stmtAt}
 use Rattle.machine.specs.Processes.{created}
@@ -35,14 +35,14 @@ use Rattle.transfers.proofs.Steps.{stands-there, stands-below, stands-f
 
 -- ---- the laws of `create_next`
 
-module _ (s d : List ℕ) (x : Context) (i μ n : ℕ) (l : Lent 4096 d) (hn : n ≡ memoryOf s createdAt) where
-  pub create-fails : (r : ℕ) (s1 : List ℕ) → n ≡ 64 → r ≡ 24 → Changed 17664 s1 (update (memoryOf s) failureAt 24)
+module _ (s d : List ℕ) (x : Context) (i μ n : ℕ) (l : Lent pageWords d) (hn : n ≡ memoryOf s createdAt) where
+  pub create-fails : (r : ℕ) (s1 : List ℕ) → n ≡ 64 → r ≡ 24 → Becomes s1 (update (memoryOf s) failureAt 24)
       → Stepped r s1 d (settled (memoryOf s) (memoryOf d) (creates (memoryOf s) (memoryOf d) x i μ))
   unfolding settled creates failWhere
   create-fails r s1 e k c = record { long = c .long; wide = l .long; is = rw (eq-eqb _ 64 (sym hn ∙ e), k, c .is) }
 
   pub create-returns : (s1 : List ℕ) (k q : ℕ) → (n ≡ 64 → ⊥) → k ≡ n + 1 → q ≡ x .statement + 1
-      → Changed 17664 s1 (update (update (created (memoryOf s) k μ) i k) (statementAt (x .process)) q)
+      → Becomes s1 (update (update (created (memoryOf s) k μ) i k) (statementAt (x .process)) q)
       → Stepped 0 s1 d (settled (memoryOf s) (memoryOf d) (creates (memoryOf s) (memoryOf d) x i μ))
   unfolding settled creates failWhere
   create-returns s1 k q e hk hq c =
@@ -78,7 +78,7 @@ module _ (t m p : List ℕ) (x : Context) (h : Standing t m p x) (hk : stmtKind 
 
     module _ (l : Place) (hl : selected l (typeOf (decoded t) a) ≡ out t m p x a) where
       pub create-stops : (e : Failure) (r : ℕ) (s1 : List ℕ) → l ≡ place.Fail e → r ≡ failureNumber e
-          → Changed 17664 s1 (update (memoryOf m) failureAt (failureNumber e))
+          → Becomes s1 (update (memoryOf m) failureAt (failureNumber e))
           → Stepped r s1 p (carried (decoded t) (memoryOf m) (memoryOf p) (contextIn x))
       unfolding doCreate
       create-stops e r s1 g k c =

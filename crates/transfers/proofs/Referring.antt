@@ -6,17 +6,18 @@ use mathlib.Core.List.{List}
 use lib.Dec.{eqb, leb}
 use native.Mathlib.Omega.{arith}
 use borrow.Author.Tests.{eqb-true, eqb-false, leb-true, eq-eqb, ne-eqb}
-use Rattle.basics.specs.Choice.{cases, both}
+use Rattle.basics.specs.Cases.{cases}
+use Rattle.basics.specs.Choice.{both}
 use Rattle.basics.proofs.Bools.{both-l, both-r}
 use Rattle.table.specs.Table.{Table}
 use Rattle.table.specs.Entries.{nodeCount, typeKind, typeP}
 use Rattle.types.specs.Types.{typeOf}
-use Rattle.numbers.specs.Sorts.{Variable}
+use Rattle.numbers.specs.Nodes.{Variable}
 use Rattle.numbers.specs.Ranges.{inRange}
-use Rattle.words.specs.Outcomes.{failureNumber}
+use Rattle.words.specs.Values.{failureNumber}
 use Rattle.words.specs.declared.values.Failure.{Failure}
 use Rattle.machine.specs.Memory.{Memory, memoryOf}
-use Rattle.machine.specs.Layout.{moduleAt, createdAt}
+use Rattle.machine.specs.Layout.{moduleAt, createdAt, locations}
 use Rattle.machine.specs.Context as machine
 use Rattle.machine.specs.Outcomes.{Outcome, ok, fail, stuck, andThen, need, failWhere, Operand, place, value, placed, onPlace}
 use Rattle.machine.specs.Entries.{processType, typeAt}
@@ -148,7 +149,7 @@ module _ (t m p : List ℕ) (x : Context) (h : Ready t m p x) (n : ℕ)
       here : Selected (decoded t) (typeOf (decoded t) n) (ok (place a (typeOf (decoded t) n)))
       here = subst (Selected (decoded t) (typeOf (decoded t) n)) is-place is-selected
 
-      pub reference-low : a < 16384
+      pub reference-low : a < locations
       reference-low = fits-low (decoded t) a (typeOf (decoded t) n) (selected-fits here)
 
       pub reference-returns : (w : ℕ) (r : Reference) → w ≡ memoryOf m a → referred r ≡ wordRefers w

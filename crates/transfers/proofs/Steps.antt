@@ -7,8 +7,8 @@ use native.Mathlib.Omega.{arith}
 use Rattle.table.specs.Table.{Table}
 use Rattle.table.specs.Entries.{stmtCount}
 use Rattle.machine.specs.Memory.{Memory, memoryOf, update}
-use Rattle.machine.specs.Layout.{failureAt, statementAt}
-use Rattle.machine.specs.Lent.{Lent, Changed}
+use Rattle.machine.specs.Layout.{failureAt, statementAt, stateSize}
+use Rattle.machine.specs.Lent.{State, Becomes}
 use Rattle.machine.specs.Outcomes.{ok, fail}
 use Rattle.machine.specs.Entries.{stmtAt}
 use Rattle.machine.specs.Statements.{effect, goTo, goOn, perform}
@@ -18,10 +18,10 @@ use Rattle.operands.specs.Ready.{contextIn, Ready}
 use Rattle.effects.specs.Effects.{carried, Stepped, Standing}
 use Rattle.effects.proofs.Carrying.{statement-there, stepped, stepped-fail}
 
-pub lent-state : (m : List ℕ) → length m ≡ 35328 → Lent 17664 m
+pub lent-state : (m : List ℕ) → length m ≡ stateSize → State m
 lent-state m e = record { long = e }
 
-pub lent-after : (s1 : List ℕ) (m : Memory) → Changed 17664 s1 m → Lent 17664 s1
+pub lent-after : (s1 : List ℕ) (m : Memory) → Becomes s1 m → State s1
 lent-after s1 m c = record { long = c .long }
 
 pub goes-on : (T : Table) (m page s : Memory) (x : Context)
@@ -33,7 +33,7 @@ module _ (t m p : List ℕ) (x : Context) (h : Standing t m p x) where
   pub stands-ready : Ready t m p x
   stands-ready = h .ready
 
-  pub stands-lent : Lent 17664 m
+  pub stands-lent : State m
   stands-lent = lent-state m (h .ready .state)
 
   pub stands-there : x .statement < stmtCount (decoded t)
@@ -50,7 +50,7 @@ module _ (t m p : List ℕ) (x : Context) (h : Standing t m p x) where
   -- the statement has failed
   pub stands-fail : (n r : ℕ) (s1 : List ℕ)
       → perform (decoded t) (memoryOf m) (memoryOf p) (contextIn x) (stmtAt (decoded t) (x .statement)) ≡ fail n
-      → r ≡ n → Changed 17664 s1 (update (memoryOf m) failureAt n)
+      → r ≡ n → Becomes s1 (update (memoryOf m) failureAt n)
       → Stepped r s1 p (carried (decoded t) (memoryOf m) (memoryOf p) (contextIn x))
   unfolding contextIn
   stands-fail n r s1 e k c = stepped-fail (decoded t) m p s1 p (contextIn x) n r e k c (h .ready .page)
@@ -58,7 +58,7 @@ module _ (t m p : List ℕ) (x : Context) (h : Standing t m p x) where
   -- it has left the page what it was
   pub stands-done : (a : ℕ) (s1 : List ℕ) (m1 : Memory)
       → perform (decoded t) (memoryOf m) (memoryOf p) (contextIn x) (stmtAt (decoded t) (x .statement)) ≡ ok (effect a m1 (memoryOf p))
-      → Changed 17664 s1 m1
+      → Becomes s1 m1
       → Stepped a s1 p (carried (decoded t) (memoryOf m) (memoryOf p) (contextIn x))
   unfolding contextIn
   stands-done a s1 m1 e c =

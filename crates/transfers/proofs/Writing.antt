@@ -6,24 +6,25 @@ use mathlib.Core.List.{List}
 use lib.Dec.{eqb}
 use lib.ListN.{length}
 use native.Mathlib.Omega.{arith}
-use Rattle.basics.specs.Choice.{cases}
+use Rattle.basics.specs.Cases.{cases}
 use Rattle.table.specs.Table.{Table}
 use Rattle.table.specs.Entries.{stmtKind, stmtA, stmtB}
 use Rattle.types.specs.Types.{typeOf}
 use Rattle.numbers.proofs.OperandPromise.{write-address, write-value}
 use Rattle.words.specs.Memory.{putAtByte, putWord}
 use Rattle.words.specs.Numbers.{intOf}
-use Rattle.words.specs.Devices.{isDevice, positionOf, writeDevice, pageAfter}
+use Rattle.words.specs.Devices.{isDevice, positionOf}
+use Rattle.words.specs.Pages.{writeDevice, pageAfter}
 use Rattle.words.specs.Outcomes as words
-use Rattle.words.specs.Outcomes.{failureNumber, outcomeOf}
+use Rattle.words.specs.Values.{failureNumber, outcomeOf}
 use Rattle.words.specs.declared.values.Failure.{Failure}
 use Rattle.words.specs.declared.values.Value.{Value}
 use Rattle.words.specs.declared.values.Value.the-variants.{Word, Fail}
 use Rattle.words.proofs.MemoryLaws.{length-put-at}
 use Rattle.words.proofs.DeviceLaws.{position-even, position-le}
 use Rattle.machine.specs.Memory.{memoryOf, update}
-use Rattle.machine.specs.Layout.{statementAt, failureAt}
-use Rattle.machine.specs.Lent.{Lent, Changed}
+use Rattle.machine.specs.Layout.{statementAt, failureAt, pageSize}
+use Rattle.machine.specs.Lent.{State, Becomes}
 use Rattle.machine.specs.Outcomes.{Outcome, fail, stuck, need, failWhere, Operand, onWord, wordOf}
 use Rattle.machine.specs.Entries.{stmtAt}
 use Rattle.machine.specs.Operands.{operand, deviceWord}
@@ -47,7 +48,7 @@ use Rattle.transfers.proofs.Steps.{stands-there, stands-below, stands-b
 -- ---- the laws of `write_word`
 
 -- the word of the page that the store changes
-page-put : (d : List ℕ) (i v : ℕ) → length d ≡ 8192 → i < 65536 → v < 65536 → isDevice (intOf i) ≡ true
+page-put : (d : List ℕ) (i v : ℕ) → length d ≡ pageSize → i < 65536 → v < 65536 → isDevice (intOf i) ≡ true
     → memoryOf (putAtByte d (positionOf (intOf i)) v) ≡ update (memoryOf d) (deviceWord i) v
 unfolding deviceWord putWord
 page-put d i v l a b t =
@@ -73,9 +74,9 @@ is-device i v w e =
     (λ t. t)
     (λ t. no-word w 21 (rw t at e))
 
-module _ (s d d1 : List ℕ) (x : Context) (i v : ℕ) (l : length d ≡ 8192) (w : Value) (hw : outcomeOf w ≡ writeDevice i v) (hd : d1 ≡ pageAfter d i v) where
+module _ (s d d1 : List ℕ) (x : Context) (i v : ℕ) (l : length d ≡ pageSize) (w : Value) (hw : outcomeOf w ≡ writeDevice i v) (hd : d1 ≡ pageAfter d i v) where
   pub write-fails : (e : Failure) (r : ℕ) (s1 : List ℕ) → w ≡ Fail e → r ≡ failureNumber e
-      → Changed 17664 s1 (update (memoryOf s) failureAt (failureNumber e))
+      → Becomes s1 (update (memoryOf s) failureAt (failureNumber e))
       → Stepped r s1 d1 (settled (memoryOf s) (memoryOf d) (writes (memoryOf s) (memoryOf d) x i v))
   unfolding settled writes failWhere pageAfter
   write-fails e r s1 g k c =
@@ -84,7 +85,7 @@ module _ (s d d1 : List ℕ) (x : Context) (i v : ℕ) (l : length d ≡ 8192) (
       record { long = c .long; wide = rw same l; is = rw (q .0, same, k, c .is, q .1) }
 
   pub write-returns : (u : ℕ) (s1 : List ℕ) → w ≡ Word u → i < 65536 → v < 65536
-      → Changed 17664 s1 (update (memoryOf s) (statementAt (x .process)) (x .statement + 1))
+      → Becomes s1 (update (memoryOf s) (statementAt (x .process)) (x .statement + 1))
       → Stepped 0 s1 d1 (settled (memoryOf s) (memoryOf d) (writes (memoryOf s) (memoryOf d) x i v))
   unfolding settled writes failWhere pageAfter
   write-returns u s1 g a b c =
@@ -127,7 +128,7 @@ module _ (t m p : List ℕ) (x : Context) (h : Standing t m p x) (hk : stmtKind 
 
     module _ (v : Value) (hv : outcomeOf v ≡ firstWord (out t m p x a)) where
       pub address-fails : (e : Failure) (r : ℕ) (s1 : List ℕ) → v ≡ Fail e → r ≡ failureNumber e
-          → Changed 17664 s1 (update (memoryOf m) failureAt (failureNumber e))
+          → Becomes s1 (update (memoryOf m) failureAt (failureNumber e))
           → Stepped r s1 p (carried (decoded t) (memoryOf m) (memoryOf p) (contextIn x))
       unfolding onWord
       address-fails e r s1 g k c =
@@ -143,10 +144,10 @@ module _ (t m p : List ℕ) (x : Context) (i : ℕ) (c : Writing t m p x i) wher
   pub writing-ready : Ready t m p x
   writing-ready = c .standing .ready
 
-  pub writing-lent : Lent 17664 m
+  pub writing-lent : State m
   writing-lent = stands-lent t m p x (c .standing)
 
-  pub writing-page : length p ≡ 8192
+  pub writing-page : length p ≡ pageSize
   writing-page = c .standing .ready .page
 
   pub writing-bounds : (1 ≤ x .process) × ((x .process ≤ 64) × (x .statement < 65535))
@@ -176,7 +177,7 @@ module _ (t m p : List ℕ) (x : Context) (i : ℕ) (c : Writing t m p x i) wher
 
     module _ (v : Value) (hv : outcomeOf v ≡ firstWord (out t m p x b)) where
       pub writing-fails : (e : Failure) (r : ℕ) (s1 : List ℕ) → v ≡ Fail e → r ≡ failureNumber e
-          → Changed 17664 s1 (update (memoryOf m) failureAt (failureNumber e))
+          → Becomes s1 (update (memoryOf m) failureAt (failureNumber e))
           → Stepped r s1 p (carried (decoded t) (memoryOf m) (memoryOf p) (contextIn x))
       unfolding onWord
       writing-fails e r s1 g k d =

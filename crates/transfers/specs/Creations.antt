@@ -1,8 +1,9 @@
+-- Inner: for code and proofs only; no public promise is said with these definitions.
 -- The creation of a process for a variable (11.4). Assumes nothing.
 use Prim.Native.Nat.{ℕ, _+_, _≤_, _<_}
 use lib.Dec.{eqb}
 use Rattle.machine.specs.Memory.{Memory, update}
-use Rattle.machine.specs.Layout.{statementAt, createdAt}
+use Rattle.machine.specs.Layout.{statementAt, createdAt, stateWords}
 use Rattle.machine.specs.Outcomes.{Outcome, ok, failWhere}
 use Rattle.machine.specs.Processes.{created}
 use Rattle.machine.specs.Statements.{Effect, effect}
@@ -20,5 +21,5 @@ pub record Creating (m : Memory) (x : Context) (i μ : ℕ) : Type 0 where
   pub processHigh : x .process ≤ 64
   pub statement : x .statement < 65535
   pub count : m createdAt ≤ 64
-  pub place : i < 17664
+  pub place : i < stateWords
   pub block : μ < 65536

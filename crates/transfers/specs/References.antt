@@ -1,3 +1,4 @@
+-- Inner: for code and proofs only; no public promise is said with these definitions.
 -- What a process variable refers to (5.2). Assumes nothing.
 use Prim.Native.Nat.{ℕ}
 use mathlib.Core.Path.{_≡_}
@@ -5,8 +6,8 @@ use lib.Dec.{eqb}
 use Rattle.basics.specs.Choice.{pick}
 use Rattle.table.specs.Table.{Table}
 use Rattle.table.specs.Entries.{nodeCount}
-use Rattle.numbers.specs.Sorts.{Variable}
-use Rattle.words.specs.Outcomes.{failureNumber}
+use Rattle.numbers.specs.Nodes.{Variable}
+use Rattle.words.specs.Values.{failureNumber}
 use Rattle.machine.specs.Memory.{Memory}
 use Rattle.machine.specs.Context.{Context}
 use Rattle.machine.specs.Outcomes.{Outcome, ok, fail, stuck, Operand}

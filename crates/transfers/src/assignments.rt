@@ -11,7 +11,7 @@ ghost use Rattle.table.specs.Entries.{stmtKind, stmtB};
 ghost use Rattle.types.specs.Types.{typeOf};
 ghost use Rattle.sizes.specs.Sizes.{wordsOf};
 ghost use Rattle.machine.specs.Memory.{memoryOf};
-ghost use Rattle.machine.specs.Lent.{Lent, Changed};
+ghost use Rattle.machine.specs.Lent.{State, Becomes};
 ghost use Rattle.code.specs.Code.{decoded};
 ghost use Rattle.operands.specs.Ready.{contextIn};
 ghost use Rattle.effects.specs.Effects.{carried, Stepped, Standing};
@@ -19,9 +19,9 @@ ghost use Rattle.transfers.specs.Assignments.{Assigning, Copying, copied
 
 // The n words from `from` on, to `to`, directly (02, d); then the process goes on.
 fn copy(state: &mut [u8], x: Context, from: usize, to: usize, n: usize)
-    requires { ⌜ Lent 17664 (now state) ⌝ }
+    requires { ⌜ State (now state) ⌝ }
     requires { ⌜ Copying x from to n ⌝ }
-    ensures { λ _. ⌜ Changed 17664 (now (state .exit)) (copied (memoryOf (now (state .entry))) x from to n) ⌝ }
+    ensures { λ _. ⌜ Becomes (now (state .exit)) (copied (memoryOf (now (state .entry))) x from to n) ⌝ }
 {
     frames::move_words(state, from, to, n);
     effects::go_on(state, x);
@@ -59,7 +59,7 @@ fn assign_at(c: &code::Slots, state: &mut [u8], page: &[u8], x: Context, i: usiz
     match v {
         Value::Fail(f) => effects::fail(state, f),
         Value::Word(w) => {
-            machine::set_word(state, 17664, i, w);
+            machine::set_word(state, machine::STATE_WORDS, i, w);
             effects::go_on(state, x);
             0
         }

@@ -6,8 +6,9 @@ use words::values::Failure;
 ghost use mathlib.Core.Path.{_≡_};
 ghost use Rattle.table.specs.Entries.{stmtKind};
 ghost use Rattle.machine.specs.Memory.{memoryOf};
-ghost use Rattle.machine.specs.Lent.{Lent};
+ghost use Rattle.machine.specs.Lent.{Lent, State};
 ghost use Rattle.machine.specs.Step.{settled};
+ghost use Rattle.machine.specs.Layout.{pageWords};
 ghost use Rattle.code.specs.Code.{decoded};
 ghost use Rattle.operands.specs.Ready.{contextIn};
 ghost use Rattle.effects.specs.Effects.{carried, Stepped, Standing};
@@ -16,12 +17,12 @@ ghost use Rattle.transfers.specs.Creations.{Creating, creates};
 // A process of module `block`, for the variable at location i: the next number, or 24 while 64 processes exist (01). The page is left
 // what it is.
 fn create_next(state: &mut [u8], page: &[u8], x: Context, i: usize, block: usize) -> u8
-    requires { ⌜ Lent 17664 (now state) ⌝ }
-    requires { ⌜ Lent 4096 (now page) ⌝ }
+    requires { ⌜ State (now state) ⌝ }
+    requires { ⌜ Lent pageWords (now page) ⌝ }
     requires { ⌜ Creating (memoryOf (now state)) x i block ⌝ }
     ensures { λ r. ⌜ Stepped r (now (state .exit)) (now (page .entry)) (settled (memoryOf (now (state .entry))) (memoryOf (now (page .entry))) (creates (memoryOf (now (state .entry))) (memoryOf (now (page .entry))) x i block)) ⌝ }
 {
-    let n = machine::record_word(state, 1, 8);
+    let n = machine::record_word(state, 1, machine::CREATED);
     if n == 64 {
         return effects::fail(state, Failure::ProcessLimit);
     }

@@ -7,8 +7,9 @@ ghost use Prim.Native.Nat.{_≤_, _<_};
 ghost use lib.ListN.{length};
 ghost use Rattle.table.specs.Entries.{stmtKind};
 ghost use Rattle.machine.specs.Memory.{memoryOf};
-ghost use Rattle.machine.specs.Lent.{Lent};
+ghost use Rattle.machine.specs.Lent.{State};
 ghost use Rattle.machine.specs.Step.{settled};
+ghost use Rattle.machine.specs.Layout.{pageSize};
 ghost use Rattle.code.specs.Code.{decoded};
 ghost use Rattle.operands.specs.Ready.{contextIn};
 ghost use Rattle.effects.specs.Effects.{carried, Stepped, Standing};
@@ -16,8 +17,8 @@ ghost use Rattle.transfers.specs.Devices.{Writing, writes};
 
 // The word v, to the device location with this address.
 fn write_word(state: &mut [u8], page: &mut [u8], x: Context, address: u16, v: u16) -> u8
-    requires { ⌜ Lent 17664 (now state) ⌝ }
-    requires { ⌜ length (now page) ≡ 8192 ⌝ }
+    requires { ⌜ State (now state) ⌝ }
+    requires { ⌜ length (now page) ≡ pageSize ⌝ }
     requires { ⌜ (1 ≤ x .process) × ((x .process ≤ 64) × (x .statement < 65535)) ⌝ }
     ensures { λ r. ⌜ Stepped r (now (state .exit)) (now (page .exit)) (settled (memoryOf (now (state .entry))) (memoryOf (now (page .entry))) (writes (memoryOf (now (state .entry))) (memoryOf (now (page .entry))) x address v)) ⌝ }
 {

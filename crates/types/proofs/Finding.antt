@@ -12,7 +12,8 @@ use Rattle.basics.proofs.Holding.{holds-none, holds-more, holds-in}
 use Rattle.table.specs.Table.{Table}
 use Rattle.table.specs.Entries.{nodeCount, typeP, typeLow, typeHigh, fieldType, varType, nodeKind, nodeP, nodeQ, nodeV}
 use Rattle.table.specs.Reading.{Field}
-use Rattle.types.specs.Types.{noType, fieldOf, unaryType, binaryType, operandType, nodeType, typeOf, Types}
+use Rattle.types.specs.Types.{noType, fieldOf, unaryType, binaryType, operandType, nodeType, typeOf}
+use Rattle.types.specs.Kept.{Types}
 use Rattle.types.specs.Match.{offset, span, elements}
 
 -- leaves called with locals

@@ -1,7 +1,8 @@
+-- Trusted: public promises are said with these definitions.
 -- Types that match (report 9.1; 01, Verdicts). Assumes nothing.
 use Prim.Native.Nat.{ℕ, _+_, _-_}
 use mathlib.Core.Bool.{Bool, true, false}
-use lib.Dec.{eqb, ltb}
+use lib.Dec.{eqb, ltb, leb}
 use Rattle.basics.specs.Choice.{pick}
 use Rattle.table.specs.Table.{Table}
 use Rattle.table.specs.Entries.{typeKind, typeQ, typeLow, typeHigh}
@@ -26,3 +27,7 @@ unfoldable pub matches : Table → ℕ → ℕ → Bool
 matches T τ σ =
     pick (eqb τ σ) true
     (pick (isString T τ) (pick (isString T σ) (eqb (elements T τ) (elements T σ)) false) false)
+
+-- the word v is a value of the standard type τ: integer 0 any, boolean 1 0..1, character 2 0..127 (report 5.1)
+unfoldable pub inStandard : ℕ → ℕ → Bool
+inStandard τ v = pick (eqb τ 1) (leb v 1) (pick (eqb τ 2) (leb v 127) true)

@@ -1,11 +1,9 @@
+-- Trusted: public promises are said with these definitions.
 -- The type of a node, read off the table with no rule tested (report 5: every constant, variable or expression is of one and only one type). Assumes nothing.
-use Prim.Native.Nat.{ℕ, _+_, _≤_}
-use mathlib.Core.List.{List}
-use lib.ListN.{length}
+use Prim.Native.Nat.{ℕ, _+_}
 use lib.Dec.{eqb, leb, ltb}
 use Rattle.basics.specs.Choice.{pick}
 use Rattle.basics.specs.Course.{course}
-use Rattle.basics.specs.Holds.{Holds}
 use Rattle.table.specs.Table.{Table}
 use Rattle.table.specs.Entries.{nodeCount, typeKind, typeP, typeQ, fieldType, varType, nodeKind, nodeP, nodeQ, nodeV}
 
@@ -51,10 +49,3 @@ nodeType T n r =
 -- THE TYPE of node n; an operand that does not stand before its node has none
 unfoldable pub typeOf : Table → ℕ → ℕ
 typeOf T n = course noType (nodeType T) n
-
--- an array that has room for the types of all nodes; one that holds them
-pub record Room (T : Table) (l : List ℕ) : Type 0 where
-  pub room : nodeCount T ≤ length l
-
-pub record Types (T : Table) (l : List ℕ) : Type 0 where
-  pub holds : Holds (typeOf T) (nodeCount T) l

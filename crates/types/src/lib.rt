@@ -5,7 +5,8 @@ ghost use Rattle.basics.specs.Course.{upto};
 ghost use Rattle.basics.specs.Holds.{Holds};
 ghost use Rattle.code.specs.Code.{decoded};
 ghost use Rattle.table.specs.Reading.{Field};
-ghost use Rattle.types.specs.Types.{fieldOf, elementOf, unaryType, binaryType, operandType, nodeType, typeOf, noType, Room, Types};
+ghost use Rattle.types.specs.Types.{fieldOf, elementOf, unaryType, binaryType, operandType, nodeType, typeOf, noType};
+ghost use Rattle.types.specs.Kept.{Room, Types};
 ghost use Rattle.types.specs.Match.{offset, span, elements, isString, matches};
 
 fn wide(x: u16) -> usize

@@ -9,8 +9,8 @@ use Rattle.basics.specs.Course.{upto, course}
 use Rattle.table.specs.Table.{Table}
 use Rattle.table.specs.Entries.{declared}
 use Rattle.types.specs.Types.{unaryType, binaryType, operandType, nodeType, typeOf}
-use Rattle.types.specs.Match.{offset, span, elements, isString, matches}
-use Rattle.typing.specs.Typing.{isVariable, isExpression, constantTyped, unaryTyped, alikeTyped, binaryTyped, nodeTyped, argumentTyped, parameterTyped, argumentsTyped, callTyped, stmtTyped, paramsSimple, typed}
+use Rattle.types.specs.Match.{offset, span, elements, isString, matches, inStandard}
+use Rattle.typing.specs.Typing.{isVariable, isExpression, unaryTyped, alikeTyped, binaryTyped, nodeTyped, argumentTyped, parameterTyped, argumentsTyped, callTyped, stmtTyped, paramsSimple, typed}
 
 -- the table of these rows, section by section
 rowsTable : List (List (List ℕ)) → Table
@@ -43,8 +43,8 @@ unfolding rowsTable sampleTypes matches isString elements span offset declared
 matching-types = (refl, refl, refl, refl, refl, refl, refl, refl, refl)
 
 -- 127 is a character, 128 is none; booleans are ordered, a declared type is not
-constants : (constantTyped 2 127 ≡ true) × (constantTyped 2 128 ≡ false) × (constantTyped 1 2 ≡ false) × (constantTyped 0 65535 ≡ true)
-unfolding constantTyped
+constants : (inStandard 2 127 ≡ true) × (inStandard 2 128 ≡ false) × (inStandard 1 2 ≡ false) × (inStandard 0 65535 ≡ true)
+unfolding inStandard
 constants = (refl, refl, refl, refl)
 
 ordered : (alikeTyped 3 1 ≡ true) × (alikeTyped 3 3 ≡ false) × (alikeTyped 12 1 ≡ true) × (alikeTyped 12 2 ≡ false)
@@ -70,5 +70,5 @@ programs :
     × (typed (sampleProgram 12 2) ≡ true)
     × (typed (sampleProgram 1 2) ≡ false)
     × (typed (sampleProgram 7 1) ≡ false)
-unfolding rowsTable sampleProgram typed allBelow both nodeTyped stmtTyped paramsSimple constantTyped unaryTyped binaryTyped alikeTyped callTyped argumentsTyped parameterTyped argumentTyped isVariable isExpression typeOf course upto nodeType operandType binaryType unaryType matches isString declared
+unfolding rowsTable sampleProgram typed allBelow both nodeTyped stmtTyped paramsSimple inStandard unaryTyped binaryTyped alikeTyped callTyped argumentsTyped parameterTyped argumentTyped isVariable isExpression typeOf course upto nodeType operandType binaryType unaryType matches isString declared
 programs = (refl, refl, refl, refl)

@@ -4,7 +4,8 @@ use mathlib.Core.Path.{_≡_, _∙_}
 use mathlib.Core.Bool.{Bool, true, false}
 use mathlib.Core.List.{List}
 use borrow.Author.Tests.{eq-eqb, ne-eqb}
-use Rattle.basics.specs.Choice.{allBelow, Passed}
+use Rattle.basics.specs.Choice.{allBelow}
+use Rattle.basics.specs.Loops.{Passed}
 use Rattle.basics.proofs.Passes.{passed-none, passed-more, passed-fail, passed-all}
 use Rattle.table.specs.Table.{Table, tableAt}
 use Rattle.code.specs.Code.{decoded, Decodes}
@@ -13,7 +14,8 @@ use Rattle.table.specs.Reading.{Field}
 use Rattle.table.specs.Parts.{argumentPart, argumentIn}
 use Rattle.table.specs.declared.Sections.{Sections}
 use Rattle.table.proofs.Parts.{each-argument}
-use Rattle.typing.specs.Typing.{argumentTyped, parameterTyped, parameterIn, argumentsTyped, paramSimple}
+use Rattle.typing.specs.Typing.{argumentTyped, parameterTyped, argumentsTyped, paramSimple}
+use Rattle.typing.specs.Parts.{parameterIn}
 
 module _ (f : ℕ → Bool) (n c : ℕ) (e : c ≡ n) where
   pub count-fail : (i : ℕ) (r : Bool) → r ≡ f i → i < c → r ≡ false → false ≡ allBelow n f

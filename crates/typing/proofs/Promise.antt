@@ -5,13 +5,14 @@ use mathlib.Core.Bool.{Bool, true, false}
 use lib.Dec.{eqb, leb}
 use borrow.Author.Tests.{eqb-true, leb-true, ne-eqb, le-leb, lt-leb}
 use native.Mathlib.Omega.{arith}
-use Rattle.basics.specs.Choice.{pick, cases, allBelow}
+use Rattle.basics.specs.Choice.{pick, allBelow}
+use Rattle.basics.specs.Cases.{cases}
 use Rattle.basics.proofs.Bools.{no-true, all-at}
 use Rattle.table.specs.Table.{Table}
 use Rattle.table.specs.Entries.{typeKind, typeP, varMode, varType, blockKind, owner, firstVar, params, argNode, nodeKind, nodeP, nodeQ, nodeV, stmtKind, stmtA, stmtB, stmtC, stmtD, nodeCount, stmtCount, blockCount}
 use Rattle.types.specs.Types.{typeOf}
-use Rattle.types.specs.Match.{matches}
-use Rattle.typing.specs.Typing.{isVariable, isExpression, constantTyped, elementTyped, unaryTyped, alikeTyped, binaryTyped, nodeTyped, argumentTyped, parameterTyped, argumentsTyped, processCallTyped, startTyped, callTyped, writeTyped, stmtTyped, simple, paramSimple, paramsSimple, typed}
+use Rattle.types.specs.Match.{matches, inStandard}
+use Rattle.typing.specs.Typing.{isVariable, isExpression, elementTyped, unaryTyped, alikeTyped, binaryTyped, nodeTyped, argumentTyped, parameterTyped, argumentsTyped, processCallTyped, startTyped, callTyped, writeTyped, stmtTyped, simple, paramSimple, paramsSimple, typed}
 
 -- the argument node n suits the parameter x
 pub record Suits (T : Table) (x n : ℕ) : Type 0 where
@@ -90,11 +91,11 @@ module _ (T : Table) (h : typed T ≡ true) where
 
     module _ (k : nodeKind T n ≡ 0) where
       pub boolean-constant : nodeP T n ≡ 1 → nodeV T n ≤ 1
-      unfolding nodeTyped constantTyped
+      unfolding nodeTyped inStandard
       boolean-constant e = leb-true (nodeV T n) 1 (rw (k, e) at node)
 
       pub character-constant : nodeP T n ≡ 2 → nodeV T n ≤ 127
-      unfolding nodeTyped constantTyped
+      unfolding nodeTyped inStandard
       character-constant e = leb-true (nodeV T n) 127 (rw (k, e) at node)
 
     pub field-of-record : nodeKind T n ≡ 2 → typeKind T (typeOf T (nodeP T n)) ≡ 1

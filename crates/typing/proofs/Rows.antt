@@ -10,8 +10,8 @@ use Rattle.table.specs.Table.{Table}
 use Rattle.table.specs.Entries.{typeKind}
 use Rattle.table.specs.Reading.{Field}
 use Rattle.types.specs.Types.{typeOf}
-use Rattle.types.specs.Match.{matches}
-use Rattle.typing.specs.Typing.{constantTyped, elementTyped, unaryTyped, binaryTyped, argumentsTyped, processCallTyped, startTyped, writeTyped, simple}
+use Rattle.types.specs.Match.{matches, inStandard}
+use Rattle.typing.specs.Typing.{elementTyped, unaryTyped, binaryTyped, argumentsTyped, processCallTyped, startTyped, writeTyped, simple}
 
 module _ (T : Table) (x τ : ℕ) (h : x ≡ τ) where
   pub of-type : (r : ℕ) → Field (typeOf T x) r → Field (typeOf T τ) r
@@ -25,7 +25,7 @@ module _ (T : Table) (x τ : ℕ) (h : x ≡ τ) where
     of-simple e = rw (← h) e
 
     module _ (y σ : ℕ) (g : y ≡ σ) where
-      pub of-constant : r ≡ constantTyped x y → r ≡ constantTyped τ σ
+      pub of-constant : r ≡ inStandard x y → r ≡ inStandard τ σ
       of-constant e = rw (← h, ← g) e
 
       pub of-element : r ≡ elementTyped T x y → r ≡ elementTyped T τ σ

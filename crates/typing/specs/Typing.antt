@@ -1,15 +1,14 @@
+-- Trusted: public promises are said with these definitions.
 -- THE RULE of refusal 9: operands, guards, indexes, arguments and parameters have the types that their places ask (01, Verdicts).
 -- The type of a node is read off the table (`typeOf`), so each rule is a test of one row. Assumes nothing.
 use Prim.Native.Nat.{ℕ, _+_}
 use mathlib.Core.Bool.{Bool, true, false}
-use mathlib.Core.List.{List}
 use lib.Dec.{eqb, leb}
 use Rattle.basics.specs.Choice.{pick, allBelow}
 use Rattle.table.specs.Table.{Table}
 use Rattle.table.specs.Entries.{typeKind, typeP, varMode, varType, blockKind, owner, firstVar, params, argNode, nodeKind, nodeP, nodeQ, nodeV, stmtKind, stmtA, stmtB, stmtC, stmtD, nodeCount, stmtCount, blockCount}
-use Rattle.table.specs.Parts.{argumentIn}
 use Rattle.types.specs.Types.{typeOf}
-use Rattle.types.specs.Match.{matches}
+use Rattle.types.specs.Match.{matches, inStandard}
 
 -- the sorts of nodes: variables are kinds 1 to 3, expressions 0 and 4 to 7 (01, The table)
 unfoldable pub isVariable : Table → ℕ → Bool
@@ -17,10 +16,6 @@ isVariable T n = pick (leb 1 (nodeKind T n)) (leb (nodeKind T n) 3) false
 
 unfoldable pub isExpression : Table → ℕ → Bool
 isExpression T n = pick (eqb (nodeKind T n) 0) true (pick (leb 4 (nodeKind T n)) (leb (nodeKind T n) 7) false)
-
--- a constant's word lies in its type: any integer, 0..1, 0..127 (report 5.1)
-unfoldable pub constantTyped : ℕ → ℕ → Bool
-constantTyped τ v = pick (eqb τ 1) (leb v 1) (pick (eqb τ 2) (leb v 127) true)
 
 -- an element of a variable of type τ, its index of type σ: the index type of an array (report 8.5)
 unfoldable pub elementTyped : Table → ℕ → ℕ → Bool
@@ -43,7 +38,7 @@ binaryTyped T o τ σ = pick (leb o 2) (matches T τ σ) (pick (eqb τ σ) (alik
 -- whole 1 and value 4 ask nothing
 unfoldable pub nodeTyped : Table → ℕ → Bool
 nodeTyped T n =
-    pick (eqb (nodeKind T n) 0) (constantTyped (nodeP T n) (nodeV T n))
+    pick (eqb (nodeKind T n) 0) (inStandard (nodeP T n) (nodeV T n))
     (pick (eqb (nodeKind T n) 2) (eqb (typeKind T (typeOf T (nodeP T n))) 1)
     (pick (eqb (nodeKind T n) 3) (elementTyped T (typeOf T (nodeP T n)) (typeOf T (nodeQ T n)))
     (pick (eqb (nodeKind T n) 5) (unaryTyped (nodeQ T n) (typeOf T (nodeP T n)))
@@ -115,7 +110,3 @@ typed T =
     pick (allBelow (nodeCount T) (nodeTyped T))
     (pick (allBelow (stmtCount T) (stmtTyped T)) (allBelow (blockCount T) (paramsSimple T)) false)
     false
-
--- the arguments of a call as its part of the table holds them (the finder's law makes them the table's)
-unfoldable pub parameterIn : Table → ℕ → List ℕ → ℕ → ℕ → Bool
-parameterIn T w part x k = argumentTyped T (x + k) (argumentIn part w k)

@@ -2,11 +2,14 @@
 ghost use mathlib.Core.Path.{_≡_};
 ghost use Prim.Native.Nat.{_+_, _≤_, _<_};
 ghost use Rattle.basics.specs.Choice.{allBelow};
+ghost use Rattle.types.specs.Match.{inStandard};
 ghost use Rattle.code.specs.Code.{decoded, Decodes};
 ghost use Rattle.table.specs.Entries.{nodeP, nodeQ, stmtA, stmtB, nodeCount, stmtCount, blockCount};
 ghost use Rattle.table.specs.Reading.{Field};
-ghost use Rattle.types.specs.Types.{typeOf, Types};
-ghost use Rattle.typing.specs.Typing.{isVariable, isExpression, constantTyped, elementTyped, unaryTyped, alikeTyped, binaryTyped, nodeTyped, argumentTyped, argumentsTyped, processCallTyped, startTyped, callTyped, writeTyped, stmtTyped, simple, paramSimple, paramsSimple, typed, parameterIn};
+ghost use Rattle.types.specs.Types.{typeOf};
+ghost use Rattle.types.specs.Kept.{Types};
+ghost use Rattle.typing.specs.Typing.{isVariable, isExpression, elementTyped, unaryTyped, alikeTyped, binaryTyped, nodeTyped, argumentTyped, argumentsTyped, processCallTyped, startTyped, callTyped, writeTyped, stmtTyped, simple, paramSimple, paramsSimple, typed};
+ghost use Rattle.typing.specs.Parts.{parameterIn};
 
 fn is_variable(c: &code::Slots, n: usize) -> bool
     ensures { λ r. ⌜ r ≡ isVariable (decoded (now (c .entry))) n ⌝ }
@@ -33,7 +36,7 @@ fn is_expression(c: &code::Slots, n: usize) -> bool
 
 // The word v is a constant of the standard type x.
 fn constant_typed(x: usize, v: usize) -> bool
-    ensures { λ r. ⌜ r ≡ constantTyped x v ⌝ }
+    ensures { λ r. ⌜ r ≡ inStandard x v ⌝ }
 {
     if x == 1 {
         return v <= 1;

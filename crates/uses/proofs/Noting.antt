@@ -7,8 +7,10 @@ use native.Mathlib.Omega.{arith}
 use lib.ListN.{length, getD, List·getD-eq-default}
 use lib.Dec.{eqb}
 use borrow.Author.Tests.{eq-eqb, ne-eqb, eqb-true, eqb-false}
-use Rattle.basics.specs.Choice.{cases, allBelow}
-use Rattle.basics.specs.Marks.{occurs, gather, marked, Seen}
+use Rattle.basics.specs.Cases.{cases}
+use Rattle.basics.specs.Choice.{allBelow}
+use Rattle.basics.specs.Marks.{occurs, gather}
+use Rattle.basics.specs.Loops.{marked, Seen}
 use Rattle.basics.proofs.Marking.{length-marked, seen-zeros, seen-more, gather-more}
 use Rattle.table.specs.Table.{Table}
 use Rattle.table.specs.Entries.{argCount, argNode, nodeCount, nodeKind, nodeP, nodeQ, stmtCount, stmtKind, stmtA, stmtB}

@@ -1,3 +1,4 @@
+-- Inner: for code and proofs only; no public promise is said with these definitions.
 -- The marks in a lent array of bytes. Assumes nothing.
 use Prim.Native.Nat.{ℕ, _≤_, _<_}
 use mathlib.Core.Path.{_≡_}
@@ -5,7 +6,7 @@ use mathlib.Core.Bool.{Bool}
 use mathlib.Core.List.{List, [], _∷_}
 use lib.ListN.{length, getD}
 use lib.Dec.{eqb}
-use Rattle.basics.specs.Marks.{marked}
+use Rattle.basics.specs.Loops.{marked}
 
 -- the marks when each number of a list is noted, the last first
 unfoldable pub markedAll : List ℕ → List ℕ → List ℕ

@@ -1,3 +1,4 @@
+-- Trusted: public promises are said with these definitions.
 -- The uses of nodes, and the rule that each node has exactly one (01, refusal 5). Assumes nothing.
 use Prim.Native.Nat.{ℕ}
 use mathlib.Core.Bool.{Bool}

@@ -1,3 +1,4 @@
+-- Inner: for code and proofs only; no public promise is said with these definitions.
 -- What a check leaves, in the edition of width w: the verdict r on the bytes t, and of bytes that are accepted the table in the slots c.
 -- Assumes nothing.
 use Prim.Native.Nat.{ℕ}

@@ -1,3 +1,4 @@
+-- Trusted: public promises are said with these definitions.
 -- The verdict on a table: the lowest refusal that applies, 0 where none does (01, Verdicts and other refusals). Assumes nothing.
 use Prim.Native.Nat.{ℕ}
 use mathlib.Core.List.{List}

@@ -7,7 +7,7 @@ use borrow.Author.Tests.{lt-ltb, le-ltb, ltb-true, ltb-false}
 use lib.Bits.{bitAnd, bitOr, and-step, or-step, and-lt, or-lt}
 use lib.Dec.{eqb, ltb}
 use lib.IntN.{pos, negsuc, _-ℤ_}
-use Rattle.basics.specs.Choice.{cases}
+use Rattle.basics.specs.Cases.{cases}
 use Rattle.words.specs.Numbers.{intOf}
 use Rattle.words.specs.Operators.{bit, notW, andW, orW, notB, andB, orB}
 

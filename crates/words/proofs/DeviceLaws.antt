@@ -10,12 +10,14 @@ use lib.IntN.{ℤ, negsuc, natAbs}
 use lib.ListN.{length}
 use mir.Syntax.{w16, w32}
 use mir.Val.{Fits, toZ, ofZ}
-use Rattle.basics.specs.Choice.{cases, both}
+use Rattle.basics.specs.Cases.{cases}
+use Rattle.basics.specs.Choice.{both}
 use Rattle.basics.proofs.Bools.{no-true, both-l, both-r}
 use Rattle.words.specs.Memory.{wordAtByte, putAtByte}
 use Rattle.words.specs.Numbers.{intOf, between}
 use Rattle.words.specs.Outcomes.{word, fail}
-use Rattle.words.specs.Devices.{isDevice, positionOf, readDevice, writeDevice, pageAfter}
+use Rattle.words.specs.Devices.{isDevice, positionOf}
+use Rattle.words.specs.Pages.{readDevice, writeDevice, pageAfter}
 use Rattle.words.proofs.Arithmetic.{back}
 
 module _ (a : ℕ) (k : a < 65536) where

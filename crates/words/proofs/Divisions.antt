@@ -11,7 +11,7 @@ use lib.Signed.{quotZ, remZ}
 use mir.Syntax.{w16, w32}
 use mir.Val.{Fits, SFits, toZ, ofZ}
 use mir.ValLaws.{toZ-ofZ}
-use Rattle.basics.specs.Choice.{cases}
+use Rattle.basics.specs.Cases.{cases}
 use Rattle.words.specs.Numbers.{intOf}
 use Rattle.words.specs.Magnitudes.{negative, magnitudeOf, signedZ}
 use Rattle.words.specs.Outcomes.{Outcome, fail}

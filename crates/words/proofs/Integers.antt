@@ -9,7 +9,8 @@ use lib.IntN.{ℤ, pos, negsuc}
 use lib.Signed.{mag}
 use mir.Syntax.{w16}
 use mir.ValLaws.{toZ-ofZ, ofZ-toZ, toZ-fits}
-use Rattle.basics.specs.Choice.{cases, both}
+use Rattle.basics.specs.Cases.{cases}
+use Rattle.basics.specs.Choice.{both}
 use Rattle.words.specs.Numbers.{intOf, wordOf, between}
 use Rattle.words.specs.Outcomes.{word}
 use Rattle.words.specs.Operators.{ranged}

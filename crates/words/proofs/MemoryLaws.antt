@@ -8,8 +8,9 @@ use borrow.Author.Tests.{ltb-true, ltb-false, eqb-true, eqb-false}
 use lib.Dec.{ltb, eqb}
 use lib.ListN.{length, getD, set, length-set}
 use lib.Seq.{getD-set-same, getD-set-other}
-use Rattle.basics.specs.Choice.{cases}
-use Rattle.words.specs.Memory.{wordAtByte, putAtByte, wordAt, putWord, Bytes}
+use Rattle.basics.specs.Cases.{cases}
+use Rattle.words.specs.Memory.{wordAtByte, putAtByte, wordAt, putWord}
+use Rattle.words.specs.Bytes.{Bytes}
 
 -- ---- at a byte
 module _ (s : List ℕ) (p v : ℕ) where

@@ -8,7 +8,8 @@ use lib.Dec.{ltb, leb}
 use lib.IntN.{ℤ, pos, negsuc}
 use mir.Syntax.{w16, w32}
 use mir.Val.{Fits, toZ, ofZ}
-use Rattle.basics.specs.Choice.{cases, both}
+use Rattle.basics.specs.Cases.{cases}
+use Rattle.basics.specs.Choice.{both}
 use Rattle.words.specs.Numbers.{intOf, between}
 use Rattle.words.specs.Types.{lowest, highest, inType}
 use Rattle.words.proofs.Integers.{in-range, int-range}

@@ -1,7 +1,11 @@
 pub mod Memory
+pub mod Bytes
 pub mod Numbers
 pub mod Magnitudes
 pub mod Outcomes
+pub mod Values
 pub mod Operators
+pub mod Relations
 pub mod Types
 pub mod Devices
+pub mod Pages

@@ -1,3 +1,4 @@
+-- Inner: for code and proofs only; no public promise is said with these definitions.
 -- An integer as sign and magnitude: for the code of division. No public contract cites these. Assumes nothing.
 use Prim.Native.Nat.{ℕ, _-_, min}
 use mathlib.Core.Bool.{Bool, true, false}

@@ -1,5 +1,6 @@
+-- Inner: for code and proofs only; no public promise is said with these definitions.
 -- Words in a list of bytes: two bytes, low byte first (01). Assumes nothing.
-use Prim.Native.Nat.{ℕ, _+_, _*_, _/_, _%_, _<_}
+use Prim.Native.Nat.{ℕ, _+_, _*_, _/_, _%_}
 use mathlib.Core.List.{List}
 use lib.ListN.{getD, set}
 
@@ -16,7 +17,3 @@ wordAt s i = wordAtByte s (i * 2)
 
 unfoldable pub putWord : List ℕ → ℕ → ℕ → List ℕ
 putWord s i v = putAtByte s (i * 2) v
-
--- each number of the list is a byte
-pub record Bytes (s : List ℕ) : Type 0 where
-  pub small : (i : ℕ) → getD s i 0 < 256

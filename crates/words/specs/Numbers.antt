@@ -1,3 +1,4 @@
+-- Trusted: public promises are said with these definitions.
 -- The integers from -32768 to 32767 (5.1.1) and the words that stand for them. Assumes nothing.
 use Prim.Native.Nat.{ℕ}
 use mathlib.Core.Bool.{Bool}

@@ -1,6 +1,7 @@
+-- Trusted: public promises are said with these definitions.
 -- The operators on words: relations (10.1), integer operators (10.2), boolean operators (10.3). Assumes nothing.
 use Prim.Native.Nat.{ℕ, zero, suc, _-_, _/_, _%_}
-use mathlib.Core.Bool.{Bool, not}
+use mathlib.Core.Bool.{Bool}
 use lib.Bits.{bitAnd, bitOr}
 use lib.Dec.{eqb}
 use lib.IntN.{ℤ, pos, negsuc, negℤ, _+ℤ_, _-ℤ_, _*ℤ_}
@@ -34,24 +35,11 @@ divW a b = pick (eqb b 0) (fail 17) (ranged (quotZ (intOf a) (intOf b)))
 unfoldable pub modW : ℕ → ℕ → Outcome
 modW a b = pick (eqb b 0) (fail 17) (ranged (remZ (intOf a) (intOf b)))
 
--- 10.1: as words, which are equal where the integers are (proofs/Integers, int-same)
-abbrev pub eqW : ℕ → ℕ → Bool
-eqW a b = eqb a b
-
-abbrev pub neW : ℕ → ℕ → Bool
-neW a b = not (eqb a b)
-
 unfoldable pub ltW : ℕ → ℕ → Bool
 ltW a b = ltZ (intOf a) (intOf b)
 
 unfoldable pub leW : ℕ → ℕ → Bool
 leW a b = leZ (intOf a) (intOf b)
-
-abbrev pub gtW : ℕ → ℕ → Bool
-gtW a b = ltW b a
-
-abbrev pub geW : ℕ → ℕ → Bool
-geW a b = leW b a
 
 -- bit k of a word, counted from the lowest
 unfoldable pub bit : ℕ → ℕ → ℕ

@@ -1,3 +1,4 @@
+-- Trusted: public promises are said with these definitions.
 -- The standard types (5.1), 0 integer, 1 boolean, 2 character, and type transfers (9.2). Assumes nothing.
 use Prim.Native.Nat.{ℕ}
 use mathlib.Core.Bool.{Bool}

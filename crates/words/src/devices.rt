@@ -8,8 +8,9 @@ use super::values::Value;
 ghost use mathlib.Core.Path.{_≡_};
 ghost use lib.ListN.{length};
 ghost use Rattle.words.specs.Numbers.{intOf};
-ghost use Rattle.words.specs.Outcomes.{outcomeOf};
-ghost use Rattle.words.specs.Devices.{isDevice, readDevice, writeDevice, pageAfter};
+ghost use Rattle.words.specs.Values.{outcomeOf};
+ghost use Rattle.words.specs.Devices.{isDevice};
+ghost use Rattle.words.specs.Pages.{readDevice, writeDevice, pageAfter};
 
 fn is_device(address: u16) -> bool
     ensures { λ r. ⌜ r ≡ isDevice (intOf address) ⌝ }

@@ -6,10 +6,10 @@ use super::values::Failure;
 use super::values::Value;
 ghost use mathlib.Core.Path.{_≡_};
 ghost use Prim.Native.Nat.{_/_, _<_, _≤_};
-ghost use Rattle.words.specs.Outcomes.{outcomeOf};
+ghost use Rattle.words.specs.Values.{outcomeOf};
 ghost use Rattle.words.specs.Magnitudes.{negative, magnitudeOf, signedZ};
-ghost use Rattle.words.specs.Operators.{ranged, addW, subW, negW, mulW, divW, modW};
-ghost use Rattle.words.specs.Operators.{eqW, neW, ltW, leW, gtW, geW, notW, andW, orW, notB, andB, orB, boolWord};
+ghost use Rattle.words.specs.Operators.{ranged, addW, subW, negW, mulW, divW, modW, ltW, leW, notW, andW, orW, notB, andB, orB, boolWord};
+ghost use Rattle.words.specs.Relations.{eqW, neW, gtW, geW};
 
 // A result outside the range of integers fails (10.2).
 fn in_range(z: i32) -> Value

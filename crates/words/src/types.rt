@@ -4,7 +4,7 @@ use super::numbers::is_between;
 use super::values::Failure;
 use super::values::Value;
 ghost use mathlib.Core.Path.{_≡_};
-ghost use Rattle.words.specs.Outcomes.{outcomeOf};
+ghost use Rattle.words.specs.Values.{outcomeOf};
 ghost use Rattle.words.specs.Types.{inType, transferW};
 
 pub struct Integer {}

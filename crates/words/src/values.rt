@@ -1,6 +1,6 @@
 // What an operation answers: a word, or the failure of the step (01, step answers).
 ghost use mathlib.Core.Path.{_≡_};
-ghost use Rattle.words.specs.Outcomes.{failureNumber};
+ghost use Rattle.words.specs.Values.{failureNumber};
 
 pub enum Failure {
     ResultRange,

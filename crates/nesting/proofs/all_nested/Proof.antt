@@ -1,7 +1,7 @@
 use native.Mathlib.Omega.{arith}
 use borrow.Author.Needs.{needs}
 use Prim.Native.Nat.{_≤_, _-_}
-use Rattle.basics.specs.Chain.{Chain}
+use Rattle.basics.specs.Loops.{Chain}
 use Rattle.code.specs.Code.{decoded}
 use Rattle.nesting.specs.Nest.{blockEnd, blockOk}
 use Rattle.nesting.proofs.Flat.{rounds}

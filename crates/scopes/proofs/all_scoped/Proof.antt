@@ -2,7 +2,7 @@ use Prim.Native.Nat.{_≤_, _-_}
 use native.Mathlib.Omega.{arith}
 use borrow.Author.Needs.{needs}
 use Rattle.code.specs.Code.{decoded}
-use Rattle.basics.specs.Chain.{Chain}
+use Rattle.basics.specs.Loops.{Chain}
 use Rattle.scopes.proofs.Scoping.{statements}
 use Rattle.nesting.specs.Nest.{blockStep}
 use Rattle.scopes.specs.Scopes.{stmtScoped}

@@ -2,9 +2,9 @@ use Prim.Native.Nat.{_≤_, _-_}
 use native.Mathlib.Omega.{arith}
 use borrow.Author.Needs.{needs}
 use Rattle.code.specs.Code.{decoded}
-use Rattle.basics.specs.Choice.{Passed}
+use Rattle.basics.specs.Loops.{Passed}
 use Rattle.scopes.proofs.Scoping.{parts}
-use Rattle.scopes.specs.Scopes.{scopedIn}
+use Rattle.scopes.specs.Parts.{scopedIn}
 use Rattle.scopes.proofs.part_scoped.Statement.{statement}
 use Rattle.scopes.proofs.part_scoped.Tie as tie
 

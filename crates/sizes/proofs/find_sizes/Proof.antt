@@ -5,7 +5,7 @@ use native.Mathlib.Omega.{arith}
 use borrow.Author.Needs.{needs}
 use Rattle.basics.specs.Holds.{Holds}
 use Rattle.code.specs.Code.{decoded}
-use Rattle.sizes.specs.Sizes.{kept}
+use Rattle.sizes.specs.Kept.{kept}
 use Rattle.sizes.proofs.Counting.{part-long, sizes-none, sizes-known, sizes-more, sizes-all}
 use Rattle.sizes.proofs.find_sizes.Statement.{statement}
 use Rattle.sizes.proofs.find_sizes.Tie as tie

@@ -1,10 +1,10 @@
 use Prim.Native.Nat.{_≤_, _-_}
 use native.Mathlib.Omega.{arith}
 use borrow.Author.Needs.{needs}
-use Rattle.basics.specs.Choice.{Passed}
+use Rattle.basics.specs.Loops.{Passed}
 use Rattle.code.specs.Code.{decoded}
 use Rattle.typing.proofs.Passing.{parameters}
-use Rattle.typing.specs.Typing.{parameterIn}
+use Rattle.typing.specs.Parts.{parameterIn}
 use Rattle.typing.proofs.part_typed.Statement.{statement}
 use Rattle.typing.proofs.part_typed.Tie as tie
 

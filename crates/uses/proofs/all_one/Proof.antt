@@ -1,7 +1,7 @@
 use native.Mathlib.Omega.{arith}
 use borrow.Author.Needs.{needs}
 use Prim.Native.Nat.{_≤_, _-_}
-use Rattle.basics.specs.Choice.{Passed}
+use Rattle.basics.specs.Loops.{Passed}
 use Rattle.basics.proofs.Passes.{passes}
 use Rattle.uses.specs.Marked.{oneMark}
 use Rattle.uses.proofs.all_one.Statement.{statement}

@@ -1,6 +1,7 @@
 use Prim.Native.Nat.{_≤_, _-_}
 use native.Mathlib.Omega.{arith}
-use Rattle.basics.specs.Chain.{taken, stepTake, testTake, Chain}
+use Rattle.basics.specs.Chain.{taken, stepTake, testTake}
+use Rattle.basics.specs.Loops.{Chain}
 use Rattle.numbers.specs.Declarations.{fieldsTaken, isRecord, recordFirst, recordCount}
 use Rattle.code.specs.Code.{decoded}
 use Rattle.numbers.proofs.Taking.{orders}

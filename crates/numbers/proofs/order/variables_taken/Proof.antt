@@ -1,6 +1,7 @@
 use Prim.Native.Nat.{_≤_, _-_}
 use native.Mathlib.Omega.{arith}
-use Rattle.basics.specs.Chain.{taken, stepTake, testTake, Chain, always}
+use Rattle.basics.specs.Chain.{taken, stepTake, testTake, always}
+use Rattle.basics.specs.Loops.{Chain}
 use Rattle.numbers.specs.Blocks.{variablesTaken}
 use Rattle.table.specs.Entries.{firstVar, vars}
 use Rattle.code.specs.Code.{decoded}
