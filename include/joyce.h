@@ -1,12 +1,13 @@
-/* joyce.h: the C interface of the checker and stepper of Joyce program tables. This page is the manual of the calls, and has a name for every
- * number that a table holds; docs/LANGUAGE.md is the guide to tables, with examples.
+/* joyce.h: the C interface of the checker and stepper of Joyce program tables, and of the splitter of Joyce texts. This page is the manual of the
+ * calls, and has a name for every number that a table holds; docs/LANGUAGE.md is the guide to tables, and docs/TEXT.md that to texts, with examples.
  *
- * A host lends bytes, calls, and gets a number back. There are four calls:
+ * A host lends bytes, calls, and gets a number back. There are five calls:
  *
- *     joyce_check   is this table a program?
- *     joyce_begin   a state in which the program stands at its beginning
- *     joyce_run     steps, one for each process number of a schedule
- *     joyce_look    one word of one variable
+ *     joyce_check     is this table a program?
+ *     joyce_begin     a state in which the program stands at its beginning
+ *     joyce_run       steps, one for each process number of a schedule
+ *     joyce_look      one word of one variable
+ *     joyce_symbols   the symbols of a text: what they are and where they stand
  *
  *     static uint8_t state[JOYCE_STATE_SIZE], page[JOYCE_PAGE_SIZE];
  *     uint8_t turns[3] = {1, 2, 1}, answers[3];
@@ -23,16 +24,16 @@
  * Any input. Any bytes of any lengths, and any numbers, have a result: each call returns, for every input, one of the numbers that its
  * comment lists. It needs no test before it.
  *
- * Refusals. A result of 1..11 is a refusal, and a refusal changes no lent byte. The lowest number that applies is returned: lengths come
- * first, then the table, then the state, then what is looked at. All calls give a table the same verdict: begin, run and look refuse it
- * with the number of joyce_check.
+ * Refusals. A result of 1..11, or of 25, is a refusal, and a refusal changes no lent byte. The lowest number that applies is returned: lengths
+ * come first, then the table, then the state, then what is looked at; or the text. All calls that take a table give it the same verdict:
+ * begin, run and look refuse it with the number of joyce_check.
  *
  * Pointers. A slice is a pointer and a number of bytes. The pointer may be null only where the number is 0; else it is the first of as many
  * bytes, and needs no alignment. Slices to const are read and not written. A call reads and writes no other byte of the caller's, and keeps no
  * pointer when it returns.
  *
- * Sharing. A slice that a call writes (the state in joyce_begin; state, page and answers in joyce_run) may not overlap another slice of the
- * same call. Slices that are only read may: table and schedule, say.
+ * Sharing. A slice that a call writes (the state in joyce_begin; state, page and answers in joyce_run; out in joyce_symbols) may not overlap
+ * another slice of the same call. Slices that are only read may: table and schedule, say.
  *
  * Threads. The library has no variables: all that a run is stands in its state. Calls may be made from any threads at the same time, as long as
  * nobody writes a slice that another call uses meanwhile. So threads may share one table, and each needs a state, a page and answers of its own. A
@@ -74,17 +75,19 @@ extern "C" {
 #endif
 
 /* The version of this interface. The first number changes where a host must be changed, the second where something is added. There is no
- * function for it: the archive exports the four proved calls and nothing else, and is linked statically with the header that it came with. */
+ * function for it: the archive exports the five proved calls and nothing else, and is linked statically with the header that it came with. */
 #define JOYCE_VERSION_MAJOR 1
-#define JOYCE_VERSION_MINOR 2
-#define JOYCE_VERSION_PATCH 1
-#define JOYCE_VERSION "1.2.1"
+#define JOYCE_VERSION_MINOR 3
+#define JOYCE_VERSION_PATCH 0
+#define JOYCE_VERSION "1.3.0"
 
 /* Sizes, in bytes. */
 #define JOYCE_STATE_SIZE 35328 /* a state: 64 areas of 512 bytes, then 64 control records of 40 */
 #define JOYCE_PAGE_SIZE 8192   /* a device page */
 #define JOYCE_TABLE_MAX 7657   /* the longest seven sections; every longer table is refused with JOYCE_SECTIONS */
 #define JOYCE_ACCEPTED_MAX 6633 /* the longest table that can be accepted */
+#define JOYCE_TEXT_MAX 65535   /* the longest text */
+#define JOYCE_SYMBOL_SIZE 7    /* what joyce_symbols writes for a symbol */
 
 /* Limits of a program and of its run. */
 #define JOYCE_PROCESSES_MAX 64    /* processes in one run; they are numbered from 1 */
@@ -180,6 +183,18 @@ enum joyce_statement {
     JOYCE_STATEMENT_BLOCK_END = 13    /* a block */
 };
 
+/* ---- The numbers of a text's symbols */
+
+/* The kind of a symbol. */
+enum joyce_symbol {
+    JOYCE_SYMBOL_SPECIAL = 1,   /* + - * / = <> < <= > >= := ( ) [ ] . .. , : ; */
+    JOYCE_SYMBOL_WORD = 2,      /* and, array, begin .. while: those of the report, and mod */
+    JOYCE_SYMBOL_NAME = 3,      /* a letter, then letters and digits: no word, but a standard name too */
+    JOYCE_SYMBOL_NUMERAL = 4,   /* digits, or # and octal digits */
+    JOYCE_SYMBOL_CHARACTER = 5, /* 'a', '@39': one character */
+    JOYCE_SYMBOL_STRING = 6     /* two or more */
+};
+
 /* ---- Results and answers */
 
 /* What the calls return. Which call returns which stands at the call. */
@@ -215,8 +230,12 @@ enum joyce_result {
     JOYCE_STATE = 10,
     /* there is no such word to look at */
     JOYCE_ABSENT = 11,
+    /* at some place of the text neither a symbol nor a comment begins; a constant or a comment that is not closed is none */
+    JOYCE_NO_SYMBOL = 25,
     /* joyce_look found the word: this number plus the word, 0..65,535 */
-    JOYCE_WORD = 65536
+    JOYCE_WORD = 65536,
+    /* joyce_symbols split the text: this number plus the number of its symbols, 0..65,535 */
+    JOYCE_SYMBOLS = 65536
 };
 
 /* The answer of a step, one byte. From 16 on the run has failed. */
@@ -316,6 +335,44 @@ uint32_t joyce_run(const uint8_t *table, size_t table_len, uint8_t *state, size_
  */
 uint32_t joyce_look(const uint8_t *table, size_t table_len, const uint8_t *state, size_t state_len, uint32_t process, uint32_t variable,
                     uint32_t place);
+
+/* Splits a Joyce text into its symbols. docs/TEXT.md has what symbols and comments are.
+ *
+ * Returns, the first that applies:
+ *     JOYCE_LENGTH      text_len is above JOYCE_TEXT_MAX, or out_len is less than JOYCE_SYMBOL_SIZE times text_len; a longer one is fine
+ *     JOYCE_NO_SYMBOL   at some place of the text neither a symbol nor a comment begins
+ *     JOYCE_SYMBOLS + n where n, 0..65,535, is the number of symbols
+ *
+ * Afterwards, on JOYCE_SYMBOLS + n, the first JOYCE_SYMBOL_SIZE times n bytes of out have the symbols in the order of the text, seven bytes each: the
+ * kind, one of enum joyce_symbol; then three words, low byte first: the line, from 1; the place of the first byte in the text, from 0; the length in
+ * bytes. The bytes after them are as they were. On a refusal all of out is as it was.
+ *
+ * Room is asked for by the length of the text, not by the number of symbols. An empty text has no symbol, and needs no room: both pointers may be null
+ * then. The text may be any bytes, and need not end with a 0 or a new line; a byte 0 in it is no character, and so refused with JOYCE_NO_SYMBOL.
+ * Places rise and symbols do not overlap. Equal texts have equal symbols: there is one list of symbols at most. The text is read twice, once before
+ * anything is written. The time grows with the length.
+ */
+uint32_t joyce_symbols(const uint8_t *text, size_t text_len, uint8_t *out, size_t out_len);
+
+/* A symbol of a text, read off its seven bytes. */
+struct joyce_piece {
+    unsigned kind;   /* enum joyce_symbol */
+    unsigned line;   /* from 1 */
+    unsigned place;  /* of its first byte in the text, from 0 */
+    unsigned length; /* in bytes */
+};
+
+/* The symbol with that number, from 0, of those that joyce_symbols wrote. */
+static inline struct joyce_piece joyce_symbol_at(const uint8_t *out, size_t number)
+{
+    const uint8_t *at = out + JOYCE_SYMBOL_SIZE * number;
+    struct joyce_piece piece;
+    piece.kind = at[0];
+    piece.line = at[1] + 256u * at[2];
+    piece.place = at[3] + 256u * at[4];
+    piece.length = at[5] + 256u * at[6];
+    return piece;
+}
 
 /* The integer, -32,768..32,767, that a word of joyce_look or of a device page stands for. */
 static inline int joyce_integer(uint32_t word)

@@ -21,6 +21,8 @@ THEOREMS = {
     "crates/sound/proofs/RefusalsHold.antt": ["results"],
     "crates/sound/proofs/StateRuleHolds.antt": ["state-rule"],
     "crates/sound/proofs/PlacesApart.antt": ["step-places"],
+    "crates/symbols/proofs/Splitting.antt": ["list-is", "list-found", "list-unique", "no-list", "places-rise"],
+    "crates/symbols/proofs/Lines.antt": ["lines-counted"],
 }
 
 USE = re.compile(r"^(?:ghost )?use Rattle·(\w+)(?:·specs|·proofs)?\.specs\.(\w+)(?:\.\{([^}]*)\}| as (\w+));?$", re.M)
@@ -96,7 +98,7 @@ def named(text, uses, here=None):
 def promises():
     """What the contracts of the calls and the theorems' statements name."""
     text = pathlib.Path(CALLS).read_text(encoding="utf-8")
-    found, missing = named(" ".join(re.findall(r"ensures \{(.*?)\}\n", text, re.S)), Names(text)), []
+    found, missing = named(" ".join(re.findall(r"ensures (?:\w+ )?\{(.*?)\}\n", text, re.S)), Names(text)), []
     for path, theorems in THEOREMS.items():
         text = pathlib.Path(path).read_text(encoding="utf-8")
         for theorem in theorems:

@@ -1,8 +1,9 @@
-// What C calls: see include/joyce.h. Each call is thin over the crates below. Its contract is one equation for every input; those of begin
-// and run stand in specs/Calls.antt, where a log of calls cites them too.
+// What C calls: see include/joyce.h. Each call is thin over the crates below. Its contract gives result and slices by equations for every input;
+// those of begin and run stand in specs/Calls.antt, where a log of calls cites them too.
 ghost use mathlib.Core.Path.{_≡_};
 ghost use Rattle.verdict.specs.Verdict.{verdict};
 ghost use Rattle.machine.specs.Public.{lookCall};
+ghost use Rattle.symbols.specs.Answer.{symbolsAnswer, symbolsOut};
 ghost use Rattle.joyce.specs.Calls.{BeginLeaves, RunLeaves};
 
 // The verdict on a table of the small edition, for every input: 0, or the lowest of the refusals 2 to 9 that applies.
@@ -47,4 +48,13 @@ pub extern "C" fn joyce_look(
     ensures { λ r. ⌜ r ≡ lookCall verdict 1 (now (table .entry)) (now (state .entry)) process variable place ⌝ }
 {
     stepper::look(table, state, process, variable, place)
+}
+
+// Splits a text into its symbols, seven bytes each, and gives their number and 65,536; or refuses and changes nothing.
+#[no_mangle]
+pub extern "C" fn joyce_symbols(text: &[u8], out: &mut [u8]) -> u32
+    ensures answer { λ r. ⌜ r ≡ symbolsAnswer (now (text .entry)) (now (out .entry)) ⌝ }
+    ensures slice { λ r. ⌜ now (out .exit) ≡ symbolsOut (now (text .entry)) (now (out .entry)) ⌝ }
+{
+    symbols::symbols(text, out)
 }

@@ -1,4 +1,4 @@
--- Inner: for code and proofs only; no public promise is said with these definitions.
+-- Trusted: public promises are said with these definitions.
 -- Numerals, character symbols and constants (6.1 to 6.3): how many bytes they take at the front of a text, 0 where none begins. Assumes nothing.
 use Prim.Native.Nat.{ℕ, zero, suc, _+_, _-_}
 use mathlib.Core.List.{List, [], _∷_}

@@ -1,4 +1,4 @@
--- Inner: for code and proofs only; no public promise is said with these definitions.
+-- Trusted: public promises are said with these definitions.
 -- What symbols and comments are (3.2, 3.3, 6.1 to 6.3), apart from how they are found. Assumes nothing.
 use Prim.Native.Nat.{ℕ, suc, _+_, _≤_}
 use mathlib.Core.Path.{_≡_}

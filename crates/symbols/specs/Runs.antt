@@ -1,4 +1,4 @@
--- Inner: for code and proofs only; no public promise is said with these definitions.
+-- Trusted: public promises are said with these definitions.
 -- How far a class of bytes goes on, and how many new lines are passed. Assumes nothing.
 use Prim.Native.Nat.{ℕ, zero, suc, _+_}
 use mathlib.Core.Bool.{Bool, true, false}

@@ -1,4 +1,4 @@
--- Inner: for code and proofs only; no public promise is said with these definitions.
+-- Trusted: public promises are said with these definitions.
 -- The symbols of a text (3.2, 02 (a)). Assumes nothing.
 use Prim.Native.Nat.{ℕ, zero, suc, _+_, _-_}
 use mathlib.Core.Bool.{Bool}

@@ -1,4 +1,4 @@
--- Inner: for code and proofs only; no public promise is said with these definitions.
+-- Trusted: public promises are said with these definitions.
 -- Special symbols, word symbols and names (3.2, 3.3). Assumes nothing.
 use Prim.Native.Nat.{ℕ, suc, max}
 use mathlib.Core.Bool.{Bool, true, false}
