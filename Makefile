@@ -6,8 +6,9 @@
 #                               (default /usr/local); DESTDIR is honoured
 #     make uninstall PREFIX=DIR
 #     make test                 the gate
-#     make fuzz                 a fuzzer of the four calls, with clang's libFuzzer: target/fuzz, and inputs to begin with in target/corpus;
-#                               SANITIZERS=fuzzer,address,undefined for a slower one that sees more
+#     make fuzz                 fuzzers with clang's libFuzzer: target/fuzz of the calls that take tables, with inputs to begin with in target/corpus,
+#                               and target/fuzz-symbols of joyce_symbols, with target/texts;
+#                               SANITIZERS=fuzzer,address,undefined for slower ones that see more
 #     make clean                removes what make built; proofs are kept
 .POSIX:
 .SUFFIXES:
@@ -34,9 +35,10 @@ $(LIBRARY): FORCE
 FORCE:
 
 TOOL = tools/joyce.c tools/tool.c tools/check.c tools/run.c tools/look.c tools/explain.c tools/explain_form.c tools/explain_numbers.c \
-	tools/explain_types.c tools/show.c tools/view.c tools/text.c tools/table.c tools/labels.c tools/names.c tools/picture.c
+	tools/explain_types.c tools/show.c tools/view.c tools/text.c tools/table.c tools/labels.c tools/names.c tools/picture.c tools/symbols.c \
+	tools/scan.c
 TOOL_HEADERS = tools/tool.h tools/check.h tools/explain.h tools/judge.h tools/show.h tools/view.h tools/text.h tools/table.h tools/labels.h tools/names.h \
-	tools/picture.h
+	tools/picture.h tools/scan.h
 
 target/joyce: $(LIBRARY) $(TOOL) $(TOOL_HEADERS) include/joyce.h
 	$(C99) $(TOOL) $(LIBRARY) $(LDFLAGS) -o $@
@@ -65,14 +67,20 @@ test:
 SANITIZERS = fuzzer
 FUZZ = fuzz/calls.c fuzz/mutator.c bench/plain.c bench/interpreter.c
 
-fuzz: $(LIBRARY) $(FUZZ) fuzz/short.c include/joyce.h
+FUZZ_SYMBOLS = fuzz/symbols.c bench/scanner.c
+
+fuzz: $(LIBRARY) $(FUZZ) fuzz/short.c $(FUZZ_SYMBOLS) fuzz/texts.c include/joyce.h
 	clang -std=c11 -g -O2 $(WARNINGS) -fsanitize=$(SANITIZERS) -DPLAIN $(FUZZ_FLAGS) -Iinclude -Ibench $(FUZZ) $(LIBRARY) -o target/fuzz
 	$(CC) -std=c11 -O2 $(WARNINGS) -Iinclude fuzz/calls.c fuzz/short.c fuzz/mutator.c $(LIBRARY) -o target/inputs
 	mkdir -p target/corpus
 	target/inputs crates/verdicts/data/verdicts.bin 1000 target/corpus
+	clang -std=c11 -g -O2 $(WARNINGS) -fsanitize=$(SANITIZERS) $(FUZZ_FLAGS) -Iinclude -Ibench $(FUZZ_SYMBOLS) $(LIBRARY) -o target/fuzz-symbols
+	$(CC) -std=c11 -O2 $(WARNINGS) -Iinclude -Ibench fuzz/texts.c $(FUZZ_SYMBOLS) $(LIBRARY) -o target/inputs-symbols
+	mkdir -p target/texts
+	target/inputs-symbols tests/symbols/symbols.bin 1000 target/texts
 
 clean:
-	rm -f target/joyce target/film target/rewind target/fuzz target/inputs
-	rm -rf target/corpus target/install
+	rm -f target/joyce target/film target/rewind target/fuzz target/inputs target/fuzz-symbols target/inputs-symbols
+	rm -rf target/corpus target/texts target/install
 
 .PHONY: all example install uninstall test fuzz clean FORCE

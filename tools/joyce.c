@@ -1,4 +1,4 @@
-/* The tool of joyce.h: it checks tables, runs them and looks into states. See `usage` below, and docs/TOOL.md. */
+/* The tool of joyce.h: it checks tables, runs them, looks into states and splits texts. See `usage` below, and docs/TOOL.md. */
 #include "joyce.h"
 #include "names.h"
 #include "tool.h"
@@ -13,6 +13,7 @@ static const char usage[] =
     "  joyce run TABLE SCHEDULE            runs a program; a byte of the schedule is the process that takes the turn\n"
     "  joyce look TABLE STATE [PROCESS]    prints processes, calls and variables\n"
     "  joyce look TABLE STATE PROCESS VARIABLE [PLACE]   prints words of a variable\n"
+    "  joyce symbols TEXT                  splits a text into its symbols, or says where none begins\n"
     "  joyce numbers                       says what every number means\n"
     "  joyce version | help                and --version, --help, -h\n"
     "options, before or after the files, as --times 3 or --times=3; after -- all words are files:\n"
@@ -32,7 +33,7 @@ static const char usage[] =
     "  --save-state FILE    keeps the state afterwards\n"
     "  --save-page FILE     keeps the device page afterwards\n"
     "exit status: 0 done, 1 refused by the library, 2 a file or the command line, 3 the run failed, 4 the tool's explanation of a\n"
-    "table is not the library's\n";
+    "table or a text is not the library's\n";
 
 void print_usage(void)
 {
@@ -61,6 +62,8 @@ static int run_words(int count, char **words)
         return run_command(count - 1, words + 1);
     if (strcmp(command, "look") == 0)
         return look_command(count - 1, words + 1);
+    if (strcmp(command, "symbols") == 0)
+        return symbols_command(count - 1, words + 1);
     if (is_one_of(command, "version", "--version", "-V"))
         return print_version();
     if (is_one_of(command, "help", "--help", "-h")) {

@@ -18,6 +18,7 @@ const char *result_words(uint32_t result)
     case JOYCE_TYPES: return "a wrong type, or wrong arguments";
     case JOYCE_STATE: return "the state is no state of this program";
     case JOYCE_ABSENT: return "no such word: the process is not started, the variable is not of its module, or the place lies outside it";
+    case JOYCE_NO_SYMBOL: return "at some place of the text neither a symbol nor a comment begins";
     default: return "no result of the library";
     }
 }
@@ -47,6 +48,7 @@ void print_numbers(void)
     puts("results of calls");
     for (uint32_t result = JOYCE_OK; result <= JOYCE_ABSENT; result++)
         printf("  %2u  %s\n", (unsigned)result, result_words(result));
+    printf("  %2u  %s\n", JOYCE_NO_SYMBOL, result_words(JOYCE_NO_SYMBOL));
     puts("answers of steps");
     for (unsigned answer = JOYCE_DONE; answer <= JOYCE_PROCESSES; answer++)
         if (answer <= JOYCE_NO_PROCESS || answer >= JOYCE_FAILURE)

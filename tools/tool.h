@@ -14,6 +14,7 @@ int check_command(int count, char **words);
 int show_command(int count, char **words);
 int run_command(int count, char **words);
 int look_command(int count, char **words);
+int symbols_command(int count, char **words);
 
 void print_usage(void);
 

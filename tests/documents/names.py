@@ -65,9 +65,9 @@ for crate, name in re.findall(r"`([a-z]+)::([a-z_]+)`", page):
 report("functions", missing, count)
 
 # tests/folder: name, name. A test is run by its name in C, or its line is printed by the folder's script
-for folder, runner in [("check", "run"), ("calls", "run_test")]:
+for folder, runner in [("check", "run"), ("calls", "run_test"), ("symbols", "run")]:
     missing, count = [], 0
-    tests = text(sorted(pathlib.Path("tests", folder).iterdir()))
+    tests = text(sorted(path for path in pathlib.Path("tests", folder).iterdir() if path.suffix != ".bin"))
     for listed in re.findall(rf"\btests/{folder}: " + names, page):
         for name in listed.split(", "):
             count += 1
