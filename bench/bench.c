@@ -4,30 +4,15 @@
  *     bench count BOARD..                makes each call that is measured once; under callgrind, each leaves a dump with its name
  *
  * bench/run makes COUNTS of those dumps: lines of board, whose, what, number. Built with -DPLAIN, the plain interpreter stands in for ours. */
-#define _POSIX_C_SOURCE 199309L
+#include "measure.h"
 #include "plain.h"
 #ifndef PLAIN
 #include "joyce.h"
 #endif
 
-#ifdef __has_include
-#if __has_include(<valgrind/callgrind.h>)
-#include <valgrind/callgrind.h>
-#endif
-#endif
-#ifndef CALLGRIND_DUMP_STATS_AT
-#define CALLGRIND_ZERO_STATS ((void)0)
-#define CALLGRIND_DUMP_STATS_AT(what) ((void)(what))
-#endif
-
 #include <stdbool.h>
-#include <stdio.h>
-#include <stdlib.h>
-#include <string.h>
-#include <time.h>
 
 enum { STATE = 35328, PAGE = 8192, LONGEST = 7657, STEPS = 100000, FAILURE = 2 * (16384 + 9) };
-enum { OURS, PLAIN_ONE, BOTH };
 enum { CALLS = 200 };
 
 struct calls {
@@ -58,12 +43,6 @@ struct board {
     uint8_t later_state[STATE], later_page[PAGE]; /* half the schedule later */
     double took[KINDS][BOTH], instructions[KINDS][BOTH];
 };
-
-static void stop(const char *name, const char *why)
-{
-    fprintf(stderr, "%s: %s\n", name, why);
-    exit(1);
-}
 
 static size_t read_file(const char *name, const char *ending, uint8_t *bytes, size_t most)
 {
@@ -119,14 +98,6 @@ static struct board *load(const char *name)
 
 /* ---- time */
 
-/* The processor's time, so that what others take of it does not count. */
-static double now(void)
-{
-    struct timespec t;
-    clock_gettime(CLOCK_PROCESS_CPUTIME_ID, &t);
-    return (double)t.tv_sec * 1e9 + (double)t.tv_nsec;
-}
-
 /* Calls of one kind, made again and again. One-step calls follow the second half of the schedule. */
 static double turn(const struct calls *c, struct board *b, int kind)
 {
@@ -167,12 +138,9 @@ static void measure(struct board **boards, int n, int rounds)
 
 /* ---- instructions */
 
-/* The instructions since the last of these are those of a call of a kind. */
-static void dump(const struct board *b, int k, int kind)
+static void dump_call(const struct board *b, int k, int kind)
 {
-    char what[200];
-    snprintf(what, sizeof what, "%s %s %s", b->name, calls[k].name, kinds[kind]);
-    CALLGRIND_DUMP_STATS_AT(what);
+    dump(b->name, calls[k].name, kinds[kind]);
 }
 
 /* One call of each kind. */
@@ -183,54 +151,33 @@ static void count(struct board *b)
     for (int k = 0; k < BOTH; k++) {
         CALLGRIND_ZERO_STATS;
         calls[k].check(b->table, b->length);
-        dump(b, k, CHECK);
+        dump_call(b, k, CHECK);
         CALLGRIND_ZERO_STATS;
         calls[k].begin(b->table, b->length, state, STATE);
-        dump(b, k, BEGIN);
+        dump_call(b, k, BEGIN);
         memcpy(page, b->page, PAGE);
         CALLGRIND_ZERO_STATS;
         run(&calls[k], b, state, page, 0, b->steps);
-        dump(b, k, ALL);
+        dump_call(b, k, ALL);
         memcpy(state, b->later_state, STATE);
         memcpy(page, b->later_page, PAGE);
         CALLGRIND_ZERO_STATS;
         run(&calls[k], b, state, page, half, 0);
-        dump(b, k, NOTHING);
+        dump_call(b, k, NOTHING);
         CALLGRIND_ZERO_STATS;
         run(&calls[k], b, state, page, half, 1);
-        dump(b, k, ONE);
+        dump_call(b, k, ONE);
     }
 }
 
-static void read_counts(struct board *b, const char *name)
+static void read_counts(struct board *b, const char *counts)
 {
-    char board[100], whose[20], what[20];
-    double instructions;
-    FILE *file = fopen(name, "r");
-    while (file && fscanf(file, "%99s %19s %19s %lf", board, whose, what, &instructions) == 4)
-        for (int kind = 0; kind < KINDS; kind++)
-            for (int k = 0; k < BOTH; k++)
-                if (!strcmp(board, b->name) && !strcmp(whose, calls[k].name) && !strcmp(what, kinds[kind]))
-                    b->instructions[kind][k] = instructions;
-    if (file)
-        fclose(file);
+    for (int kind = 0; kind < KINDS; kind++)
+        for (int k = 0; k < BOTH; k++)
+            b->instructions[kind][k] = counted(counts, b->name, calls[k].name, kinds[kind]);
 }
 
 /* ---- tables */
-
-static void print_pair(const double pair[BOTH], int digits)
-{
-    if (pair[OURS] > 0 && pair[PLAIN_ONE] > 0)
-        printf(" %.*f | %.*f | %.2f |", digits, pair[OURS], digits, pair[PLAIN_ONE], pair[OURS] / pair[PLAIN_ONE]);
-    else
-        printf(" - | - | - |");
-}
-
-static void print_head(const char *title, const char *first, const char *ns, const char *instructions)
-{
-    printf("\n%s\n\n| %s | ours, %s | plain, %s | ratio | ours, %s | plain, %s | ratio |\n", title, first, ns, ns, instructions, instructions);
-    printf("|%s---|---|---|---|---|---|\n", strchr(first, '|') ? "---|---|" : "---|");
-}
 
 /* What a step adds to a call without one. */
 static void print_steps(const struct board *b)
