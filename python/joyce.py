@@ -1,18 +1,20 @@
-"""The four calls of libjoyce, from Python by ctypes. One file: copy it, or put its folder into PYTHONPATH.
+"""The five calls of libjoyce, from Python by ctypes. One file: copy it, or put its folder into PYTHONPATH.
 
     import joyce
     run = joyce.Run(table)                  # bytes; joyce.Refused where begin refuses
     answers = run.run([1, 1, 2])            # one step each
     run.look(1, 0)                          # process 1, variable 0, place 0
     run.put(-8192, 5); run.get(-2)          # device words
+    joyce.split(b"x := 1")                  # the symbols of a text; joyce.Refused where it has none
 
-The calls themselves are check, begin, run and look below; they return the numbers of joyce.h. pack makes a table of lists of entries, and
+The calls themselves are check, begin, run, look and symbols below; they return the numbers of joyce.h. pack makes a table of lists of entries, and
 unpack lists of a table. The enums have the names and numbers of joyce.h.
 
 The archive is linked into a shared object _joyce.so the first time, by $CC or gcc, beside it or, where that cannot be written, in a folder of its own
 that goes when Python ends. $JOYCE_LIBRARY names the archive or a shared object; else it is target/staticlib/libjoyce.a of the repository, or
 lib/libjoyce.a of the prefix that this file was installed below, in share/joyce. Linux on x86-64 only, as the archive."""
 import atexit
+import collections
 import ctypes
 import enum
 import os
@@ -23,8 +25,9 @@ import subprocess
 import tempfile
 
 STATE_SIZE, PAGE_SIZE, TABLE_MAX = 35328, 8192, 7657
+TEXT_MAX, SYMBOL_SIZE = 65535, 7
 ADDRESS_MIN, ADDRESS_MAX = -8192, -2
-WORD, FAILURE = 65536, 16
+WORD, SYMBOLS, FAILURE = 65536, 65536, 16
 
 Standard = enum.IntEnum("Standard", "INTEGER BOOLEAN CHARACTER DECLARED", start=0)
 Type = enum.IntEnum("Type", "RECORD ARRAY PROCESS", start=1)
@@ -35,7 +38,10 @@ Unary = enum.IntEnum("Unary", "MINUS NOT VAL", start=1)
 Binary = enum.IntEnum("Binary", "EQUAL UNEQUAL LESS AT_MOST GREATER AT_LEAST ADD SUBTRACT MULTIPLY DIVIDE MOD AND OR", start=1)
 Statement = enum.IntEnum(
     "Statement", "SKIP ASSIGN CALL PROCESS_CALL CREATE START IF WHILE WHEN CYCLE ARM END WRITE BLOCK_END", start=0)
-Result = enum.IntEnum("Result", "OK LENGTH SECTIONS KINDS NUMBERS USES NESTING SIZES SCOPES TYPES STATE ABSENT", start=0)
+Symbol = enum.IntEnum("Symbol", "SPECIAL WORD NAME NUMERAL CHARACTER STRING", start=1)
+Result = enum.IntEnum("Result", {
+    "OK": 0, "LENGTH": 1, "SECTIONS": 2, "KINDS": 3, "NUMBERS": 4, "USES": 5, "NESTING": 6, "SIZES": 7, "SCOPES": 8, "TYPES": 9, "STATE": 10,
+    "ABSENT": 11, "NO_SYMBOL": 25})
 Answer = enum.IntEnum("Answer", {
     "DONE": 0, "WAITS": 1, "ENDED": 2, "NO_PROCESS": 3, "OVERFLOW": 16, "DIVISOR": 17, "INDEX": 18, "EMPTY": 19, "TWICE": 20,
     "ADDRESS": 21, "AREA": 22, "TRANSFER": 23, "PROCESSES": 24})
@@ -136,7 +142,7 @@ def _load():
 
 _library = _load()
 _slice = [ctypes.c_void_p, ctypes.c_size_t]
-for _name, _slices, _numbers in [("check", 1, 0), ("begin", 2, 0), ("run", 5, 0), ("look", 2, 3)]:
+for _name, _slices, _numbers in [("check", 1, 0), ("begin", 2, 0), ("run", 5, 0), ("look", 2, 3), ("symbols", 2, 0)]:
     _function = getattr(_library, f"joyce_{_name}")
     _function.argtypes = _slice * _slices + [ctypes.c_uint32] * _numbers
     _function.restype = ctypes.c_uint32
@@ -169,6 +175,26 @@ def run(table, state, page, schedule, answers):
 def look(table, state, process, variable, place):
     """65,536 plus a word, or a refusal."""
     return _library.joyce_look(*_lend(table, state), process, variable, place)
+
+
+def symbols(text, out):
+    """Writes seven bytes for each symbol into the bytearray out; 65,536 plus their number, or a refusal."""
+    return _library.joyce_symbols(*_lend(text, out))
+
+
+# A symbol of a text: its kind, its line from 1, the place of its first byte from 0, and its bytes.
+Piece = collections.namedtuple("Piece", "kind line place bytes")
+
+
+def split(text):
+    """The symbols of a text of bytes, as a list of pieces."""
+    text = bytes(text)
+    out = bytearray(SYMBOL_SIZE * len(text))
+    found = symbols(text, out)
+    if found < SYMBOLS:
+        raise Refused(found)
+    whole = struct.iter_unpack("<BHHH", out[:SYMBOL_SIZE * (found - SYMBOLS)])
+    return [Piece(Symbol(kind), line, place, text[place:place + length]) for kind, line, place, length in whole]
 
 
 class Run:

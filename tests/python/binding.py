@@ -39,15 +39,15 @@ def numbers():
     header = pathlib.Path("include/joyce.h").read_text(encoding="utf-8")
     compared = 0
     for name, kind in [("standard", joyce.Standard), ("type", joyce.Type), ("mode", joyce.Mode), ("block", joyce.Block), ("node", joyce.Node),
-                       ("unary", joyce.Unary), ("binary", joyce.Binary), ("statement", joyce.Statement), ("result", joyce.Result),
-                       ("answer", joyce.Answer)]:
+                       ("unary", joyce.Unary), ("binary", joyce.Binary), ("statement", joyce.Statement), ("symbol", joyce.Symbol),
+                       ("result", joyce.Result), ("answer", joyce.Answer)]:
         body = re.search(rf"enum joyce_{name} {{(.*?)}};", header, re.S)[1]
         listed = {n: int(v) for n, v in re.findall(rf"JOYCE_(?:{name.upper()}_)?(\w+) = (\d+)", body)}
-        listed.pop("ACCEPTED", None)
-        listed.pop("WORD", None)
+        for other in ["ACCEPTED", "WORD", "SYMBOLS"] if name == "result" else []:
+            listed.pop(other)
         assert listed == {m.name: m.value for m in kind}, name
         compared += len(listed)
-    for name in ["STATE_SIZE", "PAGE_SIZE", "TABLE_MAX", "FAILURE"]:
+    for name in ["STATE_SIZE", "PAGE_SIZE", "TABLE_MAX", "TEXT_MAX", "SYMBOL_SIZE", "FAILURE"]:
         assert int(re.search(rf"#define JOYCE_{name} (\d+)", header)[1]) == getattr(joyce, name), name
     assert compared > 60
 
@@ -150,6 +150,27 @@ def refusals():
         except error:
             continue
         raise AssertionError(sections)
+
+
+@test
+def texts():
+    """Symbols with their kinds, lines and places; refusals, and a slice that is longer than needed."""
+    kind = joyce.Symbol
+    assert joyce.split(b'Mod "a\n" x2<>#17\n\'@39\' \'A@64\'') == [
+        (kind.WORD, 1, 0, b"Mod"), (kind.NAME, 2, 9, b"x2"), (kind.SPECIAL, 2, 11, b"<>"), (kind.NUMERAL, 2, 13, b"#17"),
+        (kind.CHARACTER, 3, 17, b"'@39'"), (kind.STRING, 3, 23, b"'A@64'")]
+    assert joyce.split(b"") == joyce.split(b" \n") == []
+    for text in [b'"open', b"'open", b"#8", b"a\tb", b"''"]:
+        assert refused(joyce.split, text) == joyce.Result.NO_SYMBOL, text
+    assert refused(joyce.split, bytes(joyce.TEXT_MAX + 1)) == joyce.Result.LENGTH
+    out = bytearray(b"?" * 20)
+    assert joyce.symbols(b"a+", out[:13]) == joyce.Result.LENGTH
+    assert joyce.symbols(b"+ ", out) == joyce.SYMBOLS + 1 and out == bytes([1, 1, 0, 0, 0, 1, 0]) + b"?" * 13
+    assert str(joyce.Refused(25)) == "refused with 25: no_symbol"
+    board = pathlib.Path("examples/board.joyce").read_bytes()
+    assert all(board[piece.place:].startswith(piece.bytes) for piece in joyce.split(board))
+    lines = pathlib.Path("examples/board.symbols").read_text(encoding="utf-8").splitlines()[1:]
+    assert [f"{p.kind.name.lower()} {p.bytes.decode()}" for p in joyce.split(board)] == [line.split(": ", 1)[1] for line in lines]
 
 
 @test
