@@ -1,4 +1,4 @@
-/* A fuzz target of the four calls, for libFuzzer (make fuzz) or AFL++, and for fuzz/short.c, which makes inputs of its own.
+/* A fuzz target of the four calls that take tables, for libFuzzer (make fuzz) or AFL++, and for fuzz/short.c, which makes inputs of its own.
  *
  * An input: a byte of flags; a byte n, and n damages to the state, each a word (where) and a byte (what is flipped); a byte n, and n bytes of
  * schedule; three bytes, what to look at; and the rest, which is the table.

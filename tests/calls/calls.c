@@ -1,4 +1,4 @@
-/* Tests of the four calls as a C program meets them. A line 'ok calls/NAME' or 'FAIL calls/NAME: why' a test.
+/* Tests of the four calls that take tables, as a C program meets them. A line 'ok calls/NAME' or 'FAIL calls/NAME: why' a test.
  *
  *     calls VERDICTS
  *
