@@ -10,8 +10,8 @@ enum { LENGTH = 1, NO_SYMBOL = 25, FOUND = 65536, LONGEST = 65535, SIZE = 7 };
 enum { SPECIAL = 1, WORD, NAME, NUMERAL, CHARACTER, STRING };
 enum { LETTER = 1, DIGIT = 2, OCTAL = 4, GRAPHIC = 8, SIGN = 16 };
 
-static const char *const words[] = {"and", "array", "begin", "const", "create", "cycle", "do", "else", "end", "if", "mod", "not", "of", "or", "procedure",
-                                    "process", "record", "skip", "space", "start", "type", "val", "var", "when", "while"};
+static const char *const words[] = {"and", "array", "begin", "const", "create", "cycle", "do", "else", "end", "if", "mod", "not", "of", "or",
+                                    "procedure", "process", "record", "skip", "space", "start", "type", "val", "var", "when", "while"};
 
 /* The first word that begins with a letter or a later one; the last number is that of all words. */
 static const uint8_t first[27] = {0, 2, 3, 6, 7, 9, 9, 9, 9, 10, 10, 10, 10, 11, 12, 14, 16, 16, 17, 20, 21, 21, 23, 25, 25, 25, 25};

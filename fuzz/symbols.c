@@ -2,9 +2,9 @@
  *
  * An input: a byte that says how long the lent slice is, and the text.
  *
- * What must hold of any input: nothing crashes or is touched beside a slice; the result is one of joyce.h; a refusal changes no lent byte; symbols have
- * a kind, a line that is one more than the new lines before them, and bytes that lie in the text one after the other; the bytes after theirs stay.
- * The plain scanner of bench/ leaves the same, and its branches guide the fuzzer.
+ * What must hold of any input: nothing crashes or is touched beside a slice; the result is one of joyce.h; a refusal changes no lent byte; symbols
+ * have a kind, a line that is one more than the new lines before them, and bytes that lie in the text one after the other; the bytes after theirs
+ * stay. The plain scanner of bench/ leaves the same, and its branches guide the fuzzer.
  *
  * With -DCOUNT it says at its end how many of the texts have symbols, and how many of these. */
 #include "joyce.h"
@@ -67,7 +67,8 @@ static unsigned long inputs, split, symbols;
 
 static void tell(void)
 {
-    fprintf(stderr, "%lu inputs, %.1f %% have symbols, %.1f each\n", inputs, 100.0 * (double)split / (double)inputs, (double)symbols / (double)(split ? split : 1));
+    fprintf(stderr, "%lu inputs, %.1f %% have symbols, %.1f each\n", inputs, 100.0 * (double)split / (double)inputs,
+            (double)symbols / (double)(split ? split : 1));
 }
 
 static void count_input(size_t count)

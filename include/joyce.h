@@ -343,14 +343,13 @@ uint32_t joyce_look(const uint8_t *table, size_t table_len, const uint8_t *state
  *     JOYCE_NO_SYMBOL   at some place of the text neither a symbol nor a comment begins
  *     JOYCE_SYMBOLS + n where n, 0..65,535, is the number of symbols
  *
- * Afterwards, on JOYCE_SYMBOLS + n, the first JOYCE_SYMBOL_SIZE times n bytes of out have the symbols in the order of the text, seven bytes each: the
- * kind, one of enum joyce_symbol; then three words, low byte first: the line, from 1; the place of the first byte in the text, from 0; the length in
- * bytes. The bytes after them are as they were. On a refusal all of out is as it was.
+ * Afterwards, on JOYCE_SYMBOLS + n, the first JOYCE_SYMBOL_SIZE times n bytes of out have the symbols in the order of the text, seven bytes each:
+ * the kind, one of enum joyce_symbol; then three words, low byte first: the line, from 1; the place of the first byte in the text, from 0; the
+ * length in bytes. The bytes after them are as they were. On a refusal all of out is as it was.
  *
- * Room is asked for by the length of the text, not by the number of symbols. An empty text has no symbol, and needs no room: both pointers may be null
- * then. The text may be any bytes, and need not end with a 0 or a new line; a byte 0 in it is no character, and so refused with JOYCE_NO_SYMBOL.
- * Places rise and symbols do not overlap. Equal texts have equal symbols: there is one list of symbols at most. The text is read twice, once before
- * anything is written. The time grows with the length.
+ * Room is asked for by the length of the text, not by the number of symbols. An empty text has no symbol, and needs no room: both pointers may be
+ * null then. The text may be any bytes, and need not end with a 0 or a new line; a byte 0 is no character, so that a text with one is refused with
+ * JOYCE_NO_SYMBOL. Places rise, and symbols do not overlap. The time grows with the length.
  */
 uint32_t joyce_symbols(const uint8_t *text, size_t text_len, uint8_t *out, size_t out_len);
 

@@ -1,5 +1,5 @@
-"""The fenced blocks of the guide to texts: texts and their symbols. A line 'ok NAME' or 'FAIL NAME: why' a block. The form of the blocks is described at
-the beginning of docs/TEXT.md."""
+"""The fenced blocks of the guide to texts: texts and their symbols. A line 'ok NAME' or 'FAIL NAME: why' a block. The form of the blocks is described
+at the beginning of docs/TEXT.md."""
 import pathlib
 import re
 import sys

@@ -3,7 +3,7 @@
 
 #include <string.h>
 
-enum { LONGEST = 400, ROUNDS = 100000 };
+enum { LONGEST = 400, ROUNDS = 100000, GOOD = 36 };
 
 /* Any bytes: most are refused at once. */
 bool random_bytes(void)
@@ -39,16 +39,18 @@ bool random_signs(void)
 /* Symbols and comments side by side, with and without something between, and now and then something that is none. */
 bool random_parts(void)
 {
-    static const char *const parts[] = {"and",  "ARRAY", "begin", "Const", "mod",     "modx",    "x1",      "procedure", "proceduree", "space", "0",
-                                        "177",  "#177",  "#8",    "12#7",  "..",      ".",       "<>",      "<",         "<=",         ">=",    ":=",
-                                        ":",    "(",     "'a'",   "'A'",   "'@39'",   "'@64b'",  "'@#18'",  "'@105'",    "''",         "'@'",   "\"note\"",
-                                        "\"\"", "\"a\nb\"", " ",  "\n",    "\"open",  "'open",   "@",       "_",         "\t",         "\"\r\"", "';"};
+    static const char *const parts[] = {
+        "and",    "ARRAY",  "begin", "Const",    "mod",        "modx", "x1", "procedure", "proceduree", "space", "0",  "177", "#177", "12#7",
+        "..",     ".",      "<>",    "<",        "<=",         ">=",   ":=", ":",         "(",          "'a'",   "'A'", "'@39'", "'@64b'", "'@#18'",
+        "'@105'", "'a''b'", "\"\"",  "\"note\"", "\"a\nb\"", " ",    "\n", ";",
+        /* the others begin no symbol */
+        "#8",     "''",     "'@'",   "\"open",   "'open",      "@",    "_",  "\t",        "\"\r\"",      "';"};
     uint8_t text[LONGEST];
     seed = 3;
     for (int i = 0; i < 2 * ROUNDS; i++) {
         size_t length = 0, least = below(i % 2 ? 300 : 30);
         while (length < least) {
-            const char *part = parts[below(i % 3 ? 36 : sizeof parts / sizeof *parts)];
+            const char *part = parts[below(i % 3 ? GOOD : sizeof parts / sizeof *parts)];
             memcpy(text + length, part, strlen(part));
             length += strlen(part);
             if (below(2))

@@ -177,7 +177,8 @@ bool symbols_are(const uint8_t *text, size_t length, size_t room, uint32_t resul
         return bad("no memory");
     memcpy(copy + 1, text, length);
     out[0] = FILL;
-    bool is_ok = call_is(copy + 1, length, out + 1, room, result, bytes) && (memcmp(copy + 1, text, length) == 0 || bad("the text was changed"));
+    bool is_ok = call_is(copy + 1, length, out + 1, room, result, bytes);
+    is_ok = is_ok && (memcmp(copy + 1, text, length) == 0 || bad("the text was changed"));
     is_ok = is_ok && (out[0] == FILL || bad("the byte before out was written"));
     free(copy);
     free(out);
@@ -360,7 +361,8 @@ static bool fenced(bool is_text_last, bool is_out_last)
         const struct vector *v = &vectors[i];
         if (v->room > OUT_ROOM)
             continue;
-        uint8_t *text = text_fence + (is_text_last ? TEXT_ROOM - v->length : 0), *out = out_fence + (is_out_last ? OUT_ROOM - v->room : 0);
+        uint8_t *text = text_fence + (is_text_last ? TEXT_ROOM - v->length : 0);
+        uint8_t *out = out_fence + (is_out_last ? OUT_ROOM - v->room : 0);
         memcpy(text, v->text, v->length);
         if (mprotect(text_fence, TEXT_ROOM, PROT_READ))
             return bad("mprotect");
