@@ -1,6 +1,7 @@
 /* A plain scanner of Joyce texts in C, with nothing proved: what the benchmark compares joyce_symbols with, and a second opinion for the tests and
  * the fuzz target. Written from section 3.2 of the report and 02 (a), not from the library. Like the library it keeps no memory of its own, and a
- * refusal leaves the lent bytes as they were: so a text is scanned once for its number of symbols, and once more to write them. */
+ * refusal leaves the lent bytes as they were: so a text is scanned once for its number of symbols, and once more to write them. A variant with
+ * memory of its own scans once. */
 #include "scanner.h"
 
 #include <stdbool.h>
@@ -184,15 +185,37 @@ static uint32_t scan(struct scanner s, uint8_t *to)
     return NO_SYMBOL;
 }
 
+/* The result where the text need not be scanned, else 0. */
+static uint32_t judge_lengths(size_t text_length, size_t out_length)
+{
+    if (text_length > LONGEST || out_length < SIZE * text_length)
+        return LENGTH;
+    return text_length == 0 ? FOUND : 0;
+}
+
 uint32_t plain_symbols(const uint8_t *text, size_t text_length, uint8_t *out, size_t out_length)
 {
     uint8_t class[256];
-    if (text_length > LONGEST || out_length < SIZE * text_length)
-        return LENGTH;
-    if (text_length == 0)
-        return FOUND;
+    uint32_t result = judge_lengths(text_length, out_length);
+    if (result)
+        return result;
     set_classes(class);
     struct scanner s = {text, text + text_length, 1, class};
-    uint32_t result = scan(s, NULL);
+    result = scan(s, NULL);
     return result > FOUND ? scan(s, out) : result;
+}
+
+uint32_t plain_symbols_once(const uint8_t *text, size_t text_length, uint8_t *out, size_t out_length)
+{
+    static uint8_t found[SIZE * LONGEST];
+    uint8_t class[256];
+    uint32_t result = judge_lengths(text_length, out_length);
+    if (result)
+        return result;
+    set_classes(class);
+    struct scanner s = {text, text + text_length, 1, class};
+    result = scan(s, found);
+    if (result > FOUND)
+        memcpy(out, found, SIZE * (size_t)(result - FOUND));
+    return result;
 }

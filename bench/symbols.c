@@ -1,6 +1,6 @@
-/* joyce_symbols against the plain scanner, on texts: each file as it is, and repeated up to the longest text.
+/* joyce_symbols against the plain scanners, on texts: each file as it is, and repeated up to the longest text.
  *
- *     symbols time ROUNDS COUNTS TEXT..   prints a table: nanoseconds a byte, the least of so many rounds, and the instructions that COUNTS gives
+ *     symbols time ROUNDS COUNTS TEXT..   prints tables: nanoseconds a byte, the least of so many rounds, and the instructions that COUNTS gives
  *     symbols count TEXT..                makes each call that is measured once; under callgrind, each leaves a dump with its name
  *
  * Built with -DPLAIN, the plain scanner stands in for ours. */
@@ -12,6 +12,7 @@
 
 #include <stdbool.h>
 
+enum { ONCE = BOTH, ALL }; /* the plain one that scans once */
 enum { LONGEST = 65535, SIZE = 7, BYTES = 200000 }; /* a turn is as many calls as take so many bytes */
 
 typedef uint32_t split(const uint8_t *, size_t, uint8_t *, size_t);
@@ -19,37 +20,39 @@ typedef uint32_t split(const uint8_t *, size_t, uint8_t *, size_t);
 static const struct {
     const char *name;
     split *symbols;
-} calls[BOTH] = {
+} calls[ALL] = {
 #ifdef PLAIN
     {"ours", plain_symbols},
 #else
     {"ours", joyce_symbols},
 #endif
     {"plain", plain_symbols},
+    {"once", plain_symbols_once},
 };
 
 struct text {
     const char *name, *what;
     uint8_t bytes[LONGEST];
     size_t length;
-    double took[BOTH];
+    double took[ALL];
 };
 
-static uint8_t out[BOTH][SIZE * LONGEST];
+static uint8_t out[ALL][SIZE * LONGEST];
 
 static uint32_t call(const struct text *t, int k)
 {
     return calls[k].symbols(t->bytes, t->length, out[k], SIZE * t->length);
 }
 
-/* Both split the text, and must agree in all bytes. */
+/* All split the text, and must agree in all bytes. */
 static void compare(const struct text *t)
 {
-    uint32_t ours = call(t, OURS), plain = call(t, PLAIN_ONE);
+    uint32_t ours = call(t, OURS);
     if (ours < 65536)
         stop(t->name, "the text is refused");
-    if (ours != plain || memcmp(out[OURS], out[PLAIN_ONE], SIZE * t->length))
-        stop(t->name, "the two disagree");
+    for (int k = PLAIN_ONE; k < ALL; k++)
+        if (call(t, k) != ours || memcmp(out[OURS], out[k], SIZE * t->length))
+            stop(t->name, "they disagree");
 }
 
 static struct text *load(const char *path, bool is_repeated)
@@ -79,13 +82,13 @@ static double turn(const struct text *t, int k)
     return (now() - begun) / n;
 }
 
-/* Ours and the plain one take turns; the least counts. */
+/* Ours and the plain ones take turns; the least counts. */
 static void measure(struct text **texts, int n, int rounds)
 {
     for (int i = 0; i < rounds * n; i++)
-        for (int j = 0; j < BOTH; j++) {
+        for (int j = 0; j < ALL; j++) {
             struct text *t = texts[i % n];
-            int k = (i / n + j) % BOTH; /* who goes first changes */
+            int k = (i / n + j) % ALL; /* who goes first changes */
             double took = turn(t, k);
             if (i < n || took < t->took[k])
                 t->took[k] = took;
@@ -94,19 +97,21 @@ static void measure(struct text **texts, int n, int rounds)
 
 static void count(const struct text *t)
 {
-    for (int k = 0; k < BOTH; k++) {
+    for (int k = 0; k < ALL; k++) {
         CALLGRIND_ZERO_STATS;
         call(t, k);
         dump(t->name, calls[k].name, t->what);
     }
 }
 
-static void print_text(const struct text *t, const char *counts)
+/* Ours beside one of the plain ones. */
+static void print_text(const struct text *t, const char *counts, int plain)
 {
     double ns[BOTH], instructions[BOTH];
-    for (int k = 0; k < BOTH; k++) {
-        ns[k] = t->took[k] / (double)t->length;
-        instructions[k] = counted(counts, t->name, calls[k].name, t->what) / (double)t->length;
+    for (int i = 0; i < BOTH; i++) {
+        int k = i == OURS ? OURS : plain;
+        ns[i] = t->took[k] / (double)t->length;
+        instructions[i] = counted(counts, t->name, calls[k].name, t->what) / (double)t->length;
     }
     printf("| %s, %s | %zu |", t->name, t->what, t->length);
     print_pair(ns, 2);
@@ -133,6 +138,9 @@ int main(int argc, char **argv)
     measure(texts, n, rounds);
     print_head("The symbols of a text", "text | bytes", "ns a byte", "instructions a byte");
     for (int i = 0; i < n; i++)
-        print_text(texts[i], argv[3]);
+        print_text(texts[i], argv[3], PLAIN_ONE);
+    print_head("The same, the plain one scanning once, into memory of its own", "text | bytes", "ns a byte", "instructions a byte");
+    for (int i = 0; i < n; i++)
+        print_text(texts[i], argv[3], ONCE);
     return 0;
 }

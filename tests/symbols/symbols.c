@@ -236,18 +236,23 @@ static bool vectors_agree(void)
     return true;
 }
 
-static bool plain_vectors(void)
+static bool plain_agrees(uint32_t (*symbols)(const uint8_t *, size_t, uint8_t *, size_t))
 {
     static uint8_t out[OUT_ROOM + 64];
     for (size_t i = 0; i < vector_count; i++) {
         const struct vector *v = &vectors[i];
         size_t count = written(v->result);
         memset(out, FILL, v->room);
-        uint32_t r = plain_symbols(v->text, v->length, out, v->room);
+        uint32_t r = symbols(v->text, v->length, out, v->room);
         if (r != v->result || (count && memcmp(out, v->bytes, count)) || !is_filled(out + count, v->room - count))
             return bad("record %zu: the plain scanner returns %u, not %u", i, (unsigned)r, (unsigned)v->result);
     }
     return true;
+}
+
+static bool plain_vectors(void)
+{
+    return plain_agrees(plain_symbols) && plain_agrees(plain_symbols_once);
 }
 
 static bool tool_vectors(void)
