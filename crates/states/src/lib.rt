@@ -222,7 +222,7 @@ pub fn begin(table: &[u8], state: &mut [u8]) -> u32
         let mut c = [0u16; 8256];
         let mut types = [0u16; 256];
         let mut sizes = [0u16; 258];
-        let v = verdict::check_into(table, &mut c, &mut types[..], &mut sizes[..]);
+        let v = verdict::check_into(table, &mut c, &mut types, &mut sizes);
         if v == 0 {
             begin_state(&c, &sizes[..], state);
             return 0;

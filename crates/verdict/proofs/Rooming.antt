@@ -51,8 +51,8 @@ unfolding tableOf
 rows-small t bytes k = count-byte (bytesRead 1 t) (read-bytes 1 t bytes) k
 
 module _ (t : List ℕ) (bytes : (i : ℕ) → getD t i 0 < 256) where
-  pub rooms-small : (s : Sections) (c y z : List ℕ) → Decodes t s c → s .w ≡ 1 → Lengths 1 y z → Rooms (decoded c) y z (replicate 256 0) (replicate 256 0)
-  rooms-small s c y z d e l = rw (d .is, e) (rooms-new 1 t 256 (count-byte t bytes) y z (l .types) (l .sizes))
+  pub rooms-small : (s : Sections) (c y z : List ℕ) → Decodes t s c → s .w ≡ 1 → length y ≡ 256 → length z ≡ 258 → Rooms (decoded c) y z (replicate 256 0) (replicate 256 0)
+  rooms-small s c y z d e ly lz = rw (d .is, e) (rooms-new 1 t 256 (count-byte t bytes) y z ly lz)
 
   -- a row for each row, and then the table
   pub decodable-small : (s : Sections) (c : List ℕ) → Of t s → s .w ≡ 1 → Blank c → Decodable t s c
@@ -60,26 +60,26 @@ module _ (t : List ℕ) (bytes : (i : ℕ) → getD t i 0 < 256) where
 
 -- the verdict, from what the reader of the sections answered
 module _ (w : ℕ) (t : List ℕ) (f : Bool) (e : f ≡ whole w t) (c y z : List ℕ) where
-  pub checked-found : (v r : ℕ) → f ≡ true → v ≡ w → decoded c ≡ tableAt v t → length c ≡ slotWords w → r ≡ judged (decoded c) → Types (decoded c) y → (r ≡ 0 → Sizes (decoded c) z) → CheckedBytes w t r c y z
+  pub checked-found : (v r : ℕ) → f ≡ true → v ≡ w → decoded c ≡ tableAt v t → length c ≡ slotWords w → r ≡ judged (decoded c) → Types (decoded c) y → (r ≡ 0 → Sizes (decoded c) z) → Lengths w y z → CheckedBytes w t r c y z
   unfolding judgedBytes
-  checked-found v r h g d l x a b =
+  checked-found v r h g d l x a b n =
       let k : whole w t ≡ true = sym e ∙ h in
       let q : decoded c ≡ tableAt w t = rw (← g) d in
-      record { is = rw k (rw q at x); table = λ o. q; types = λ o. a; sizes = b; long = l }
+      record { is = rw k (rw q at x); table = λ o. q; types = λ o. a; sizes = b; long = l; lengths = n }
 
-  pub checked-none : f ≡ false → length c ≡ slotWords w → CheckedBytes w t 2 c y z
+  pub checked-none : f ≡ false → length c ≡ slotWords w → Lengths w y z → CheckedBytes w t 2 c y z
   unfolding judgedBytes
-  checked-none h l =
+  checked-none h l n =
       let k : whole w t ≡ false = sym e ∙ h in
-      record { is = rw k; table = λ o. absurd (omega arith); types = λ o. absurd (omega arith); sizes = λ o. absurd (omega arith); long = l }
+      record { is = rw k; table = λ o. absurd (omega arith); types = λ o. absurd (omega arith); sizes = λ o. absurd (omega arith); long = l; lengths = n }
 
 -- zero bytes are read as the listing table, others as themselves
 pub checked-empty : (w : ℕ) (t c y z : List ℕ) (r : ℕ) → length t ≡ 0 → CheckedBytes w (listing w) r c y z → Checked w t r c y z
 unfolding verdict tableOf bytesRead
-checked-empty w [] c y z r e h = record { is = h .is; table = h .table; types = h .types; sizes = h .sizes; long = h .long }
+checked-empty w [] c y z r e h = record { is = h .is; table = h .table; types = h .types; sizes = h .sizes; long = h .long; lengths = h .lengths }
 checked-empty w (b ∷ t) c y z r e h = absurd (omega arith)
 
 pub checked-some : (w : ℕ) (t c y z : List ℕ) (r : ℕ) → (length t ≡ 0 → ⊥) → CheckedBytes w t r c y z → Checked w t r c y z
 unfolding verdict tableOf bytesRead
 checked-some w [] c y z r e h = absurd (e refl)
-checked-some w (b ∷ t) c y z r e h = record { is = h .is; table = h .table; types = h .types; sizes = h .sizes; long = h .long }
+checked-some w (b ∷ t) c y z r e h = record { is = h .is; table = h .table; types = h .types; sizes = h .sizes; long = h .long; lengths = h .lengths }

@@ -94,19 +94,27 @@ fn judge_small(
     t: &[u8],
     s: table::Sections,
     c: &code::Slots,
-    types: &mut [u16],
-    sizes: &mut [u16],
+    types: &mut [u16; 256],
+    sizes: &mut [u16; 258],
 ) -> u32
     requires { ⌜ Decodes (now t) s (now c) ⌝ }
     requires { ⌜ s .w ≡ 1 ⌝ }
-    requires { ⌜ Lengths 1 (now types) (now sizes) ⌝ }
     ensures verdict { λ r. ⌜ r ≡ judged (decoded (now (c .entry))) ⌝ }
     ensures types { λ r. ⌜ Types (decoded (now (c .entry))) (now (types .exit)) ⌝ }
+    ensures long { λ r. ⌜ Lengths 1 (now (types .exit)) (now (sizes .exit)) ⌝ }
     ensures sizes { λ r. ⌜ (r ≡ 0 → Sizes (decoded (now (c .entry))) (now (sizes .exit))) ⌝ }
 {
     let mut marks = [0u8; 256];
     let mut seen = [0u8; 256];
-    judge(t, s, c, types, sizes, &mut marks[..], &mut seen[..])
+    judge(
+        t,
+        s,
+        c,
+        &mut types[..],
+        &mut sizes[..],
+        &mut marks[..],
+        &mut seen[..],
+    )
 }
 
 // The bytes of the listing table, in hexadecimal as 01 has them: zero bytes are read as these.
@@ -141,7 +149,7 @@ const LISTING: [u8; 27] = [
 ];
 
 // All refusals of the bytes that are read; of bytes that are accepted the table is left decoded, with its types and sizes.
-fn check_bytes(t: &[u8], c: &mut code::Slots, types: &mut [u16], sizes: &mut [u16]) -> u32
+fn check_bytes(t: &[u8], c: &mut code::Slots, types: &mut [u16; 256], sizes: &mut [u16; 258]) -> u32
     requires { ⌜ decoding.Blank (now c) ⌝ }
     requires { ⌜ Lengths 1 (now types) (now sizes) ⌝ }
     ensures { λ r. ⌜ CheckedBytes 1 (now (t .entry)) r (now (c .exit)) (now (types .exit)) (now (sizes .exit)) ⌝ }
@@ -157,7 +165,12 @@ fn check_bytes(t: &[u8], c: &mut code::Slots, types: &mut [u16], sizes: &mut [u1
 
 // The verdict on any bytes, in the small edition; of bytes that are accepted the table is left decoded, with the types of its nodes and
 // the words of its types.
-pub fn check_into(t: &[u8], c: &mut code::Slots, types: &mut [u16], sizes: &mut [u16]) -> u32
+pub fn check_into(
+    t: &[u8],
+    c: &mut code::Slots,
+    types: &mut [u16; 256],
+    sizes: &mut [u16; 258],
+) -> u32
     requires { ⌜ decoding.Blank (now c) ⌝ }
     requires { ⌜ Lengths 1 (now types) (now sizes) ⌝ }
     ensures { λ r. ⌜ Checked 1 (now (t .entry)) r (now (c .exit)) (now (types .exit)) (now (sizes .exit)) ⌝ }
@@ -176,5 +189,5 @@ pub fn check(t: &[u8]) -> u32
     let mut c = [0u16; 8256];
     let mut types = [0u16; 256];
     let mut sizes = [0u16; 258];
-    check_into(t, &mut c, &mut types[..], &mut sizes[..])
+    check_into(t, &mut c, &mut types, &mut sizes)
 }

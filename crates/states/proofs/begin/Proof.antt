@@ -6,8 +6,6 @@ pub begin-spec : {M : Type 1} → statement M
 begin-spec =
     tie.close
     (tie.spec
-    (λ c. search begins)
-    (λ c. search begins)
     (λ c κs. search begins)
     (λ c. search begins)
     (λ c κs. search begins)

@@ -8,7 +8,5 @@ pub check-spec : {M : Type 1} → statement M
 check-spec =
     tie.close
     (tie.spec
-    (λ c. search needs)
-    (λ c. search needs)
     (λ c κs. (new-blank, new-lengths 1))
     (λ c. search needs))

@@ -11,10 +11,6 @@ check-into-spec =
     (tie.spec
     (λ c. search needs)
     (λ c κs. search needs)
-    (λ c. search needs)
-    (λ c. search needs)
-    (λ c. let x = c .before .before .before .before in checked-empty _ _ _ _ _ _ (x .before .before .before .before .before .if1 .taken) (x .check-bytes .ensures))
+    (λ c. checked-empty _ _ _ _ _ _ (c .before .before .before .before .before .if1 .taken) (c .check-bytes .ensures))
     (λ c κs. search needs)
-    (λ c. search needs)
-    (λ c. search needs)
     (λ c. search checked-some))
