@@ -23,7 +23,6 @@ use Rattle.verdict.specs.Verdict.{verdict}
 use Rattle.verdict.specs.Accepted.{Accepted}
 use Rattle.verdict.specs.Checked.{Checked}
 use Rattle.verdict.proofs.Promise.{promise}
-use Rattle.verdict.proofs.Rooming.{new-lengths}
 use Rattle.machine.specs.Memory.{update, zeros, memoryOf, bytesOf}
 use Rattle.machine.specs.Lent.{Lent, Changed, State, Becomes}
 use Rattle.machine.specs.Layout.{statusAt, statementAt, frameAt, topAt, worksAt, holderAt, depthAt, createdAt, stateWords, stateSize}
@@ -132,4 +131,4 @@ pub begun-short : (w : ℕ) (t s : List ℕ) → (length s ≡ stateSize → ⊥
 unfolding beginCall beginRefusal
 begun-short w t s n = rw (ne-eqb (length s) stateSize n)
 
-pub ruleset begins = (new-blank, new-lengths, check-accepted, check-sizes, lent-bytes, begun-done, begun-refused, begun-short, needs)
+pub ruleset begins = (new-blank, check-accepted, check-sizes, lent-bytes, begun-done, begun-refused, begun-short, needs)

@@ -220,10 +220,10 @@ pub fn begin(table: &[u8], state: &mut [u8]) -> u32
 {
     if state.len() == 35328 {
         let mut c = [0u16; 8256];
-        let mut types = [0u16; 256];
-        let mut sizes = [0u16; 258];
-        let v = verdict::check_into(table, &mut c, &mut types, &mut sizes);
+        let j = verdict::check_into(table, &mut c);
+        let v = j.verdict;
         if v == 0 {
+            let sizes = j.sizes;
             begin_state(&c, &sizes[..], state);
             return 0;
         }

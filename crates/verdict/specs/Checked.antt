@@ -11,7 +11,6 @@ use Rattle.code.specs.Code.{decoded}
 use Rattle.types.specs.Kept.{Types}
 use Rattle.sizes.specs.Kept.{Sizes}
 use Rattle.verdict.specs.Edition.{slotWords}
-use Rattle.verdict.specs.Rooms.{Lengths}
 use Rattle.verdict.specs.Verdict.{judgedBytes, verdict}
 
 module _ (w : ℕ) (t : List ℕ) (r : ℕ) (c y z : List ℕ) where
@@ -21,7 +20,6 @@ module _ (w : ℕ) (t : List ℕ) (r : ℕ) (c y z : List ℕ) where
     pub types : r ≡ 0 → Types (decoded c) y
     pub sizes : r ≡ 0 → Sizes (decoded c) z
     pub long : length c ≡ slotWords w
-    pub lengths : Lengths w y z
 
   -- the same of the bytes that are read
   pub record CheckedBytes : Type 0 where
@@ -30,4 +28,3 @@ module _ (w : ℕ) (t : List ℕ) (r : ℕ) (c y z : List ℕ) where
     pub types : r ≡ 0 → Types (decoded c) y
     pub sizes : r ≡ 0 → Sizes (decoded c) z
     pub long : length c ≡ slotWords w
-    pub lengths : Lengths w y z

@@ -7,7 +7,7 @@ ghost use Rattle.types.specs.Kept.{Types};
 ghost use Rattle.sizes.specs.Kept.{Room, Sizes};
 ghost use Rattle.uses.specs.Marked.{Blank};
 ghost use Rattle.verdict.specs.Verdict.{judged, judgedUses, judgedLate, verdict};
-ghost use Rattle.verdict.specs.Rooms.{Rooms, Lengths};
+ghost use Rattle.verdict.specs.Rooms.{Rooms};
 ghost use Rattle.verdict.specs.Checked.{Checked, CheckedBytes};
 
 // Refusals 7 to 9, of a table that the earlier rules accept. The words of its types are left in their array.
@@ -89,24 +89,27 @@ fn judge(
     3
 }
 
-// The marks of the small edition: sections of at most 255 rows.
-fn judge_small(
-    t: &[u8],
-    s: table::Sections,
-    c: &code::Slots,
-    types: &mut [u16; 256],
-    sizes: &mut [u16; 258],
-) -> u32
+// A verdict; of a table that is accepted also the types of its nodes and the words of its types. They are found in arrays of the check's own,
+// which no lent slot can overlap, and handed back whole.
+pub struct Judgement {
+    pub verdict: u32,
+    pub types: [u16; 256],
+    pub sizes: [u16; 258],
+}
+
+// The arrays of the small edition: sections of at most 255 rows.
+fn judge_small(t: &[u8], s: table::Sections, c: &code::Slots) -> Judgement
     requires { ⌜ Decodes (now t) s (now c) ⌝ }
     requires { ⌜ s .w ≡ 1 ⌝ }
-    ensures verdict { λ r. ⌜ r ≡ judged (decoded (now (c .entry))) ⌝ }
-    ensures types { λ r. ⌜ Types (decoded (now (c .entry))) (now (types .exit)) ⌝ }
-    ensures long { λ r. ⌜ Lengths 1 (now (types .exit)) (now (sizes .exit)) ⌝ }
-    ensures sizes { λ r. ⌜ (r ≡ 0 → Sizes (decoded (now (c .entry))) (now (sizes .exit))) ⌝ }
+    ensures verdict { λ r. ⌜ r .verdict ≡ judged (decoded (now (c .entry))) ⌝ }
+    ensures types { λ r. ⌜ Types (decoded (now (c .entry))) (r .types) ⌝ }
+    ensures sizes { λ r. ⌜ (r .verdict ≡ 0 → Sizes (decoded (now (c .entry))) (r .sizes)) ⌝ }
 {
+    let mut types = [0u16; 256];
+    let mut sizes = [0u16; 258];
     let mut marks = [0u8; 256];
     let mut seen = [0u8; 256];
-    judge(
+    let verdict = judge(
         t,
         s,
         c,
@@ -114,7 +117,12 @@ fn judge_small(
         &mut sizes[..],
         &mut marks[..],
         &mut seen[..],
-    )
+    );
+    Judgement {
+        verdict,
+        types,
+        sizes,
+    }
 }
 
 // The bytes of the listing table, in hexadecimal as 01 has them: zero bytes are read as these.
@@ -149,37 +157,36 @@ const LISTING: [u8; 27] = [
 ];
 
 // All refusals of the bytes that are read; of bytes that are accepted the table is left decoded, with its types and sizes.
-fn check_bytes(t: &[u8], c: &mut code::Slots, types: &mut [u16; 256], sizes: &mut [u16; 258]) -> u32
+fn check_bytes(t: &[u8], c: &mut code::Slots) -> Judgement
     requires { ⌜ decoding.Blank (now c) ⌝ }
-    requires { ⌜ Lengths 1 (now types) (now sizes) ⌝ }
-    ensures { λ r. ⌜ CheckedBytes 1 (now (t .entry)) r (now (c .exit)) (now (types .exit)) (now (sizes .exit)) ⌝ }
+    ensures { λ r. ⌜ CheckedBytes 1 (now (t .entry)) (r .verdict) (now (c .exit)) (r .types) (r .sizes) ⌝ }
 {
     let r = table::read_sections(t, 1);
     if r.found {
         let s = r.sections;
         code::decode::decode(t, s, c);
-        return judge_small(t, s, c, types, sizes);
+        return judge_small(t, s, c);
     }
-    2
+    let types = [0u16; 256];
+    let sizes = [0u16; 258];
+    Judgement {
+        verdict: 2,
+        types,
+        sizes,
+    }
 }
 
 // The verdict on any bytes, in the small edition; of bytes that are accepted the table is left decoded, with the types of its nodes and
 // the words of its types.
-pub fn check_into(
-    t: &[u8],
-    c: &mut code::Slots,
-    types: &mut [u16; 256],
-    sizes: &mut [u16; 258],
-) -> u32
+pub fn check_into(t: &[u8], c: &mut code::Slots) -> Judgement
     requires { ⌜ decoding.Blank (now c) ⌝ }
-    requires { ⌜ Lengths 1 (now types) (now sizes) ⌝ }
-    ensures { λ r. ⌜ Checked 1 (now (t .entry)) r (now (c .exit)) (now (types .exit)) (now (sizes .exit)) ⌝ }
+    ensures { λ r. ⌜ Checked 1 (now (t .entry)) (r .verdict) (now (c .exit)) (r .types) (r .sizes) ⌝ }
 {
     if t.len() == 0 {
         let listing = LISTING;
-        return check_bytes(&listing[..], c, types, sizes);
+        return check_bytes(&listing[..], c);
     }
-    check_bytes(t, c, types, sizes)
+    check_bytes(t, c)
 }
 
 // The verdict alone.
@@ -187,7 +194,6 @@ pub fn check(t: &[u8]) -> u32
     ensures { λ r. ⌜ r ≡ verdict 1 (now (t .entry)) ⌝ }
 {
     let mut c = [0u16; 8256];
-    let mut types = [0u16; 256];
-    let mut sizes = [0u16; 258];
-    check_into(t, &mut c, &mut types, &mut sizes)
+    let j = check_into(t, &mut c);
+    j.verdict
 }

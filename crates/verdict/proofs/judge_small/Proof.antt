@@ -10,5 +10,7 @@ judge-small-spec =
     (tie.spec
     (λ c. search needs)
     (λ c. search needs)
-    (λ c κs. let a = c .before .before .before .before in (search needs, rooms-small (a .before .args .t .now) (λ i. omega (arith, a .shared-slice-known .given i)) _ _ _ _ (a .before .pre .0) (a .before .pre .1) (search needs) (search needs)))
-    (λ c. let e = c .before .before .judge .ensures in (e .0, (e .1 .0, (record { types = search needs; sizes = search needs }, e .1 .1)))))
+    (λ c. search needs)
+    (λ c. search needs)
+    (λ c κs. let a = c .before .before .before .before in (search needs, rooms-small (a .before .args .t .now) (λ i. omega (arith, a .shared-slice-known .given i)) _ _ (a .before .pre .0) (a .before .pre .1)))
+    (λ c. search needs))
