@@ -5,26 +5,24 @@ use mathlib.Core.Bool.{true}
 use mathlib.Core.List.{List}
 use native.Mathlib.Omega.{arith}
 use lib.Dec.{eqb, ltb}
-use lib.ListN.{length, getD, set, replicate, length-set, length-replicate, List·getD-eq-default}
+use lib.ListN.{length, getD, set, length-set, List·getD-eq-default}
 use lib.Seq.{getD-set-same, getD-set-other}
+use borrow.Author.Needs.{needs}
 use borrow.Author.Tests.{eq-eqb, ne-eqb, eqb-true, eqb-false, ltb-true, ltb-false}
 use Rattle.basics.specs.Cases.{cases}
-use Rattle.table.specs.Empty.{bytesRead}
-use Rattle.table.specs.Table.{Table, tableOf}
-use Rattle.table.specs.Entries.{typeCount, firstStmt, vars}
+use Rattle.table.specs.Table.{Table}
+use Rattle.table.specs.Entries.{firstStmt, vars}
 use Rattle.words.specs.Bytes.{Bytes}
 use Rattle.code.specs.Code.{decoded}
+use Rattle.code.proofs.Blanks.{new-blank}
+use Rattle.sizes.specs.Kept.{Sizes}
 use Rattle.sizes.specs.Sizes.{typesSized, varOffset, moduleWords}
-use Rattle.sizes.specs.Kept.{Room}
-use Rattle.sizes.proofs.Counting.{kind-none}
 use Rattle.sizes.proofs.Promise.{types-pass, module-most, var-exact}
 use Rattle.numbers.proofs.BlockPromise.{program-there, program-kind}
 use Rattle.verdict.specs.Verdict.{verdict}
 use Rattle.verdict.specs.Accepted.{Accepted}
 use Rattle.verdict.specs.Checked.{Checked}
-use Rattle.verdict.specs.Edition.{rowsBelow, typesBelow}
 use Rattle.verdict.proofs.Promise.{promise}
-use Rattle.verdict.proofs.Rooming.{rows-small}
 use Rattle.machine.specs.Memory.{update, zeros, memoryOf, bytesOf}
 use Rattle.machine.specs.Lent.{Lent, Changed, State, Becomes}
 use Rattle.machine.specs.Layout.{statusAt, statementAt, frameAt, topAt, worksAt, holderAt, depthAt, createdAt, stateWords, stateSize}
@@ -32,7 +30,7 @@ use Rattle.machine.specs.Calls.{standing}
 use Rattle.machine.specs.Run.{begin}
 use Rattle.machine.specs.Public.{begun, beginCall, beginRefusal}
 use Rattle.machine.proofs.Memories.{bytes-memory}
-use Rattle.states.specs.Parts.{Cleared, firstMade, OfEdition}
+use Rattle.states.specs.Parts.{Cleared, firstMade}
 
 -- ---- clearing
 
@@ -113,28 +111,24 @@ begin-bytes T s₁ s₂ s₃ c t hc ht a b d bytes =
 pub lent-bytes : (s : List ℕ) → length s ≡ stateSize → State s
 lent-bytes s e = record { long = e }
 
-pub begin-room : (w : ℕ) (T : Table) → OfEdition w T → Room T (replicate (typesBelow w) 0)
-begin-room w T h = let k = h .types in record { room = rw (length-replicate {A = ℕ} (typesBelow w) 0) (omega arith); beyond = h .beyond }
+-- what a check with verdict 0 leaves
+module _ (w : ℕ) (t c y z : List ℕ) (v : ℕ) (h : Checked w t v c y z) (o : v ≡ 0) where
+  pub check-accepted : Accepted (decoded c)
+  check-accepted = rw (h .table o) (promise w t (sym (h .is) ∙ o))
 
--- the table that a check with verdict 0 leaves, if it has few enough types; those of the small edition have
-pub check-edition : (w : ℕ) (t c : List ℕ) (v : ℕ) → typeCount (tableOf w t) < rowsBelow w → Checked w t v c → v ≡ 0 → OfEdition w (decoded c)
-unfolding tableOf
-check-edition w t c v few h z =
-    rw (h .table z) (record { accepted = promise w t (sym (h .is) ∙ z); types = few; beyond = kind-none w (bytesRead w t) })
+  pub check-sizes : Sizes (decoded c) z
+  check-sizes = h .sizes o
 
-pub check-small : (t c : List ℕ) (v : ℕ) → ((i : ℕ) → getD t i 0 < 256) → Checked 1 t v c → v ≡ 0 → OfEdition 1 (decoded c)
-check-small t c v bytes h z = check-edition 1 t c v (rows-small t bytes 0) h z
-
-module _ (w : ℕ) (t s : List ℕ) where
-  pub begun-short : (length s ≡ stateSize → ⊥) → begun 1 s ≡ beginCall verdict w t s
+  pub begun-done : (s s₁ : List ℕ) → length s ≡ stateSize → s₁ ≡ bytesOf stateWords (begin (decoded c)) → begun 0 s₁ ≡ beginCall verdict w t s
   unfolding beginCall beginRefusal
-  begun-short n = rw (ne-eqb (length s) stateSize n)
+  begun-done s s₁ l e = let g = rw (h .table o) at e in rw (eq-eqb (length s) stateSize l, ← (h .is), eq-eqb v 0 o, g)
 
-  module _ (v : ℕ) (l : length s ≡ stateSize) (e : v ≡ verdict w t) where
-    pub begun-refused : (v ≡ 0 → ⊥) → begun v s ≡ beginCall verdict w t s
-    unfolding beginCall beginRefusal
-    begun-refused n = rw (eq-eqb (length s) stateSize l, ← e, ne-eqb v 0 n)
+pub begun-refused : (w : ℕ) (t s c y z : List ℕ) (v : ℕ) → length s ≡ stateSize → Checked w t v c y z → (v ≡ 0 → ⊥) → begun v s ≡ beginCall verdict w t s
+unfolding beginCall beginRefusal
+begun-refused w t s c y z v l h n = rw (eq-eqb (length s) stateSize l, ← (h .is), ne-eqb v 0 n)
 
-    pub begun-done : (c s₁ : List ℕ) → v ≡ 0 → decoded c ≡ tableOf w t → s₁ ≡ bytesOf stateWords (begin (decoded c)) → begun 0 s₁ ≡ beginCall verdict w t s
-    unfolding beginCall beginRefusal
-    begun-done c s₁ z d h = let g = rw d at h in rw (eq-eqb (length s) stateSize l, ← e, eq-eqb v 0 z, g)
+pub begun-short : (w : ℕ) (t s : List ℕ) → (length s ≡ stateSize → ⊥) → begun 1 s ≡ beginCall verdict w t s
+unfolding beginCall beginRefusal
+begun-short w t s n = rw (ne-eqb (length s) stateSize n)
+
+pub ruleset begins = (new-blank, check-accepted, check-sizes, lent-bytes, begun-done, begun-refused, begun-short, needs)

@@ -1,6 +1,6 @@
 -- Inner: for code and proofs only; no public promise is said with these definitions.
 -- Parts of the definitions of `machine`, as the code makes or tests them one at a time. Assumes nothing.
-use Prim.Native.Nat.{ℕ, _+_, _≤_, _<_}
+use Prim.Native.Nat.{ℕ, _≤_, _<_}
 use mathlib.Core.Path.{_≡_}
 use mathlib.Core.Bool.{Bool, false}
 use mathlib.Core.List.{List}
@@ -8,9 +8,6 @@ use lib.Dec.{leb}
 use lib.ListN.{length, getD}
 use Rattle.basics.specs.Choice.{pick}
 use Rattle.table.specs.Table.{Table}
-use Rattle.table.specs.Entries.{typeCount, typeKind}
-use Rattle.verdict.specs.Accepted.{Accepted}
-use Rattle.verdict.specs.Edition.{rowsBelow}
 use Rattle.machine.specs.Memory.{Memory, update}
 use Rattle.machine.specs.Layout.{statusAt, holderAt, createdAt}
 use Rattle.machine.specs.Rule.{rule}
@@ -38,9 +35,3 @@ shown m p =
 -- a look at a state, where the table is accepted: 10 where the state breaks its rule
 unfoldable pub lookJudged : Table → Memory → ℕ → ℕ → ℕ → ℕ
 lookJudged T m p v k = pick (rule T m) (look T m p v k) 10
-
--- an accepted table of the edition of width w: its types fit the array of their words, and a number beyond is of no type
-pub record OfEdition (w : ℕ) (T : Table) : Type 0 where
-  pub accepted : Accepted T
-  pub types : typeCount T < rowsBelow w
-  pub beyond : (τ : ℕ) → 3 + typeCount T ≤ τ → typeKind T τ ≡ 0

@@ -16,7 +16,7 @@ ghost use Rattle.machine.specs.Variables.{offsetOf, belongs};
 ghost use Rattle.machine.specs.Run as runs;
 ghost use Rattle.machine.specs.Rule.{rule};
 ghost use Rattle.machine.specs.Public.{visible, look, begun, beginCall};
-ghost use Rattle.states.specs.Parts.{firstMade, shown, lookJudged, OfEdition};
+ghost use Rattle.states.specs.Parts.{firstMade, shown, lookJudged};
 
 fn wide(x: u16) -> usize
     ensures { λ r. ⌜ r ≡ x ⌝ }
@@ -214,26 +214,17 @@ pub fn look_judged(
     10
 }
 
-// Begins a run of an accepted table: the array of the words of types is that of the small edition.
-fn begin_accepted(c: &code::Slots, state: &mut [u8])
-    requires { ⌜ OfEdition 1 (decoded (now c)) ⌝ }
-    requires { ⌜ State (now state) ⌝ }
-    ensures { λ _. ⌜ now (state .exit) ≡ bytesOf stateWords (runs.begin (decoded (now (c .entry)))) ⌝ }
-{
-    let mut sizes = [0u16; 258];
-    sizes::find_sizes(c, &mut sizes[..]);
-    begin_state(c, &sizes[..], state);
-}
-
 // Makes the lent state that in which a run of the table begins, or refuses.
 pub fn begin(table: &[u8], state: &mut [u8]) -> u32
     ensures { λ r. ⌜ begun r (now (state .exit)) ≡ beginCall verdict 1 (now (table .entry)) (now (state .entry)) ⌝ }
 {
     if state.len() == 35328 {
         let mut c = [0u16; 8256];
-        let v = verdict::check_into(table, &mut c);
+        let j = verdict::check_into(table, &mut c);
+        let v = j.verdict;
         if v == 0 {
-            begin_accepted(&c, state);
+            let sizes = j.sizes;
+            begin_state(&c, &sizes[..], state);
             return 0;
         }
         return v;

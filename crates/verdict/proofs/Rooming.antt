@@ -16,6 +16,8 @@ use Rattle.code.specs.Code.{decoded, Decodes}
 use Rattle.code.specs.Decoding.{Blank, Decodable}
 use Rattle.code.proofs.Blanks.{new-room}
 use Rattle.uses.proofs.Blanks.{blank-new}
+use Rattle.types.specs.Kept.{Types}
+use Rattle.sizes.specs.Kept.{Sizes}
 use Rattle.sizes.proofs.Counting.{kind-none}
 use Rattle.verdict.specs.Edition.{rowsBelow, slotWords}
 use Rattle.verdict.specs.Rooms.{Rooms}
@@ -53,25 +55,27 @@ module _ (t : List ℕ) (bytes : (i : ℕ) → getD t i 0 < 256) where
   decodable-small s c o e b = record { table = o; blank = b; room = rw e (new-room t bytes) }
 
 -- the verdict, from what the reader of the sections answered
-module _ (w : ℕ) (t : List ℕ) (f : Bool) (e : f ≡ whole w t) where
-  pub checked-found : (v r : ℕ) (c : List ℕ) → f ≡ true → v ≡ w → decoded c ≡ tableAt v t → length c ≡ slotWords w → r ≡ judged (decoded c) → CheckedBytes w t r c
+module _ (w : ℕ) (t : List ℕ) (f : Bool) (e : f ≡ whole w t) (c y z : List ℕ) where
+  pub checked-found : (v r : ℕ) → f ≡ true → v ≡ w → decoded c ≡ tableAt v t → length c ≡ slotWords w → r ≡ judged (decoded c) → Types (decoded c) y → (r ≡ 0 → Sizes (decoded c) z) → CheckedBytes w t r c y z
   unfolding judgedBytes
-  checked-found v r c h g d l x =
-      let y : whole w t ≡ true = sym e ∙ h in
+  checked-found v r h g d l x a b =
+      let k : whole w t ≡ true = sym e ∙ h in
       let q : decoded c ≡ tableAt w t = rw (← g) d in
-      record { is = rw y (rw q at x); table = λ z. q; long = l }
+      record { is = rw k (rw q at x); table = λ o. q; types = λ o. a; sizes = b; long = l }
 
-  pub checked-none : (c : List ℕ) → f ≡ false → length c ≡ slotWords w → CheckedBytes w t 2 c
+  pub checked-none : f ≡ false → length c ≡ slotWords w → CheckedBytes w t 2 c y z
   unfolding judgedBytes
-  checked-none c h l = let y : whole w t ≡ false = sym e ∙ h in record { is = rw y; table = λ z. absurd (omega arith); long = l }
+  checked-none h l =
+      let k : whole w t ≡ false = sym e ∙ h in
+      record { is = rw k; table = λ o. absurd (omega arith); types = λ o. absurd (omega arith); sizes = λ o. absurd (omega arith); long = l }
 
 -- zero bytes are read as the listing table, others as themselves
-pub checked-empty : (w : ℕ) (t c : List ℕ) (r : ℕ) → length t ≡ 0 → CheckedBytes w (listing w) r c → Checked w t r c
+pub checked-empty : (w : ℕ) (t c y z : List ℕ) (r : ℕ) → length t ≡ 0 → CheckedBytes w (listing w) r c y z → Checked w t r c y z
 unfolding verdict tableOf bytesRead
-checked-empty w [] c r e h = record { is = h .is; table = h .table; long = h .long }
-checked-empty w (b ∷ t) c r e h = absurd (omega arith)
+checked-empty w [] c y z r e h = record { is = h .is; table = h .table; types = h .types; sizes = h .sizes; long = h .long }
+checked-empty w (b ∷ t) c y z r e h = absurd (omega arith)
 
-pub checked-some : (w : ℕ) (t c : List ℕ) (r : ℕ) → (length t ≡ 0 → ⊥) → CheckedBytes w t r c → Checked w t r c
+pub checked-some : (w : ℕ) (t c y z : List ℕ) (r : ℕ) → (length t ≡ 0 → ⊥) → CheckedBytes w t r c y z → Checked w t r c y z
 unfolding verdict tableOf bytesRead
-checked-some w [] c r e h = absurd (e refl)
-checked-some w (b ∷ t) c r e h = record { is = h .is; table = h .table; long = h .long }
+checked-some w [] c y z r e h = absurd (e refl)
+checked-some w (b ∷ t) c y z r e h = record { is = h .is; table = h .table; types = h .types; sizes = h .sizes; long = h .long }

@@ -4,13 +4,13 @@ ghost use Rattle.table.specs.Entries.{nodeCount};
 ghost use Rattle.code.specs.Code.{decoded, Decodes};
 ghost use Rattle.code.specs.Decoding as decoding;
 ghost use Rattle.types.specs.Kept.{Types};
-ghost use Rattle.sizes.specs.Kept.{Room};
+ghost use Rattle.sizes.specs.Kept.{Room, Sizes};
 ghost use Rattle.uses.specs.Marked.{Blank};
 ghost use Rattle.verdict.specs.Verdict.{judged, judgedUses, judgedLate, verdict};
 ghost use Rattle.verdict.specs.Rooms.{Rooms};
 ghost use Rattle.verdict.specs.Checked.{Checked, CheckedBytes};
 
-// Refusals 7 to 9, of a table that the earlier rules accept.
+// Refusals 7 to 9, of a table that the earlier rules accept. The words of its types are left in their array.
 fn judge_late(
     t: &[u8],
     s: table::Sections,
@@ -21,7 +21,8 @@ fn judge_late(
     requires { ⌜ Decodes (now t) s (now c) ⌝ }
     requires { ⌜ Types (decoded (now c)) (now types) ⌝ }
     requires { ⌜ Room (decoded (now c)) (now sizes) ⌝ }
-    ensures { λ r. ⌜ r ≡ judgedLate (decoded (now (c .entry))) ⌝ }
+    ensures verdict { λ r. ⌜ r ≡ judgedLate (decoded (now (c .entry))) ⌝ }
+    ensures sizes { λ r. ⌜ Sizes (decoded (now (c .entry))) (now (sizes .exit)) ⌝ }
 {
     sizes::find_sizes(c, sizes);
     if sizes::all_sized(c, sizes) {
@@ -36,7 +37,7 @@ fn judge_late(
     7
 }
 
-// Refusals 5 and 6, then the later ones.
+// Refusals 5 and 6, then the later ones. Where none applies, the words of types are left.
 fn judge_uses(
     t: &[u8],
     s: table::Sections,
@@ -49,7 +50,8 @@ fn judge_uses(
     requires { ⌜ Types (decoded (now c)) (now types) ⌝ }
     requires { ⌜ Room (decoded (now c)) (now sizes) ⌝ }
     requires { ⌜ Blank (nodeCount (decoded (now c))) (now seen) ⌝ }
-    ensures { λ r. ⌜ r ≡ judgedUses (decoded (now (c .entry))) ⌝ }
+    ensures verdict { λ r. ⌜ r ≡ judgedUses (decoded (now (c .entry))) ⌝ }
+    ensures sizes { λ r. ⌜ (r ≡ 0 → Sizes (decoded (now (c .entry))) (now (sizes .exit))) ⌝ }
 {
     if uses::each_once(c, seen) {
         if nesting::all_nested(c) {
@@ -60,7 +62,8 @@ fn judge_uses(
     5
 }
 
-// All refusals of a table whose sections are whole. The arrays are lent for the work.
+// All refusals of a table whose sections are whole. The arrays are lent for the work; those of an accepted table hold the types of its nodes
+// and the words of its types, which the calls go on with.
 fn judge(
     t: &[u8],
     s: table::Sections,
@@ -72,7 +75,9 @@ fn judge(
 ) -> u32
     requires { ⌜ Decodes (now t) s (now c) ⌝ }
     requires { ⌜ Rooms (decoded (now c)) (now types) (now sizes) (now marks) (now seen) ⌝ }
-    ensures { λ r. ⌜ r ≡ judged (decoded (now (c .entry))) ⌝ }
+    ensures verdict { λ r. ⌜ r ≡ judged (decoded (now (c .entry))) ⌝ }
+    ensures types { λ r. ⌜ Types (decoded (now (c .entry))) (now (types .exit)) ⌝ }
+    ensures sizes { λ r. ⌜ (r ≡ 0 → Sizes (decoded (now (c .entry))) (now (sizes .exit))) ⌝ }
 {
     types::find_types(c, types);
     if entries::all_known(c) {
@@ -84,17 +89,27 @@ fn judge(
     3
 }
 
+// A verdict; of a table that is accepted also the types of its nodes and the words of its types. They are found in arrays of the check's own,
+// which no lent slot can overlap, and handed back whole.
+pub struct Judgement {
+    pub verdict: u32,
+    pub types: [u16; 256],
+    pub sizes: [u16; 258],
+}
+
 // The arrays of the small edition: sections of at most 255 rows.
-fn judge_small(t: &[u8], s: table::Sections, c: &code::Slots) -> u32
+fn judge_small(t: &[u8], s: table::Sections, c: &code::Slots) -> Judgement
     requires { ⌜ Decodes (now t) s (now c) ⌝ }
     requires { ⌜ s .w ≡ 1 ⌝ }
-    ensures { λ r. ⌜ r ≡ judged (decoded (now (c .entry))) ⌝ }
+    ensures verdict { λ r. ⌜ r .verdict ≡ judged (decoded (now (c .entry))) ⌝ }
+    ensures types { λ r. ⌜ Types (decoded (now (c .entry))) (r .types) ⌝ }
+    ensures sizes { λ r. ⌜ (r .verdict ≡ 0 → Sizes (decoded (now (c .entry))) (r .sizes)) ⌝ }
 {
     let mut types = [0u16; 256];
     let mut sizes = [0u16; 258];
     let mut marks = [0u8; 256];
     let mut seen = [0u8; 256];
-    judge(
+    let verdict = judge(
         t,
         s,
         c,
@@ -102,7 +117,12 @@ fn judge_small(t: &[u8], s: table::Sections, c: &code::Slots) -> u32
         &mut sizes[..],
         &mut marks[..],
         &mut seen[..],
-    )
+    );
+    Judgement {
+        verdict,
+        types,
+        sizes,
+    }
 }
 
 // The bytes of the listing table, in hexadecimal as 01 has them: zero bytes are read as these.
@@ -136,10 +156,10 @@ const LISTING: [u8; 27] = [
     0x00,
 ];
 
-// All refusals of the bytes that are read; the table of bytes that are accepted is left decoded.
-fn check_bytes(t: &[u8], c: &mut code::Slots) -> u32
+// All refusals of the bytes that are read; of bytes that are accepted the table is left decoded, with its types and sizes.
+fn check_bytes(t: &[u8], c: &mut code::Slots) -> Judgement
     requires { ⌜ decoding.Blank (now c) ⌝ }
-    ensures { λ r. ⌜ CheckedBytes 1 (now (t .entry)) r (now (c .exit)) ⌝ }
+    ensures { λ r. ⌜ CheckedBytes 1 (now (t .entry)) (r .verdict) (now (c .exit)) (r .types) (r .sizes) ⌝ }
 {
     let r = table::read_sections(t, 1);
     if r.found {
@@ -147,13 +167,20 @@ fn check_bytes(t: &[u8], c: &mut code::Slots) -> u32
         code::decode::decode(t, s, c);
         return judge_small(t, s, c);
     }
-    2
+    let types = [0u16; 256];
+    let sizes = [0u16; 258];
+    Judgement {
+        verdict: 2,
+        types,
+        sizes,
+    }
 }
 
-// The verdict on any bytes, in the small edition; the table of bytes that are accepted is left decoded.
-pub fn check_into(t: &[u8], c: &mut code::Slots) -> u32
+// The verdict on any bytes, in the small edition; of bytes that are accepted the table is left decoded, with the types of its nodes and
+// the words of its types.
+pub fn check_into(t: &[u8], c: &mut code::Slots) -> Judgement
     requires { ⌜ decoding.Blank (now c) ⌝ }
-    ensures { λ r. ⌜ Checked 1 (now (t .entry)) r (now (c .exit)) ⌝ }
+    ensures { λ r. ⌜ Checked 1 (now (t .entry)) (r .verdict) (now (c .exit)) (r .types) (r .sizes) ⌝ }
 {
     if t.len() == 0 {
         let listing = LISTING;
@@ -167,5 +194,6 @@ pub fn check(t: &[u8]) -> u32
     ensures { λ r. ⌜ r ≡ verdict 1 (now (t .entry)) ⌝ }
 {
     let mut c = [0u16; 8256];
-    check_into(t, &mut c)
+    let j = check_into(t, &mut c);
+    j.verdict
 }

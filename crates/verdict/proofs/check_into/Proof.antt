@@ -11,6 +11,6 @@ check-into-spec =
     (tie.spec
     (λ c. search needs)
     (λ c κs. search needs)
-    (λ c. checked-empty _ _ _ _ (c .before .before .before .if1 .taken) (c .check-bytes .ensures))
+    (λ c. checked-empty _ _ _ _ _ _ (c .before .before .before .if1 .taken) (c .check-bytes .ensures))
     (λ c κs. search needs)
     (λ c. search checked-some))

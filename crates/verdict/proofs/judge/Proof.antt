@@ -1,3 +1,4 @@
+use native.Mathlib.Omega.{arith}
 use Rattle.basics.proofs.Tests.{tests}
 use Rattle.verdict.specs.Verdict.{judged}
 use borrow.Author.Needs.{needs}
@@ -17,9 +18,9 @@ judge-spec =
     (λ c. search needs)
     (λ c. search needs)
     (λ c. search needs)
-    (λ c. search tests)
+    (λ c. (search tests, (search needs, search needs)))
     (λ c. search needs)
     (λ c. search needs)
-    (λ c. search tests)
+    (λ c. (search tests, (search needs, λ e. absurd (omega arith))))
     (λ c. search needs)
-    (λ c. search tests))
+    (λ c. (search tests, (search needs, λ e. absurd (omega arith)))))

@@ -1,3 +1,4 @@
+use native.Mathlib.Omega.{arith}
 use Rattle.basics.proofs.Tests.{tests}
 use Rattle.verdict.specs.Verdict.{judgedUses}
 use borrow.Author.Needs.{needs}
@@ -14,8 +15,8 @@ judge-uses-spec =
     (λ c κs. search needs)
     (λ c. search needs)
     (λ c. search needs)
-    (λ c. search tests)
+    (λ c. (search tests, λ e. search needs))
     (λ c. search needs)
-    (λ c. search tests)
+    (λ c. (search tests, λ e. absurd (omega arith)))
     (λ c. search needs)
-    (λ c. search tests))
+    (λ c. (search tests, λ e. absurd (omega arith))))
