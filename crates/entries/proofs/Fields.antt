@@ -4,7 +4,7 @@ use mathlib.Core.Path.{_≡_}
 use mathlib.Core.Bool.{Bool}
 use Rattle.basics.specs.Choice.{between}
 use Rattle.basics.proofs.Tests.{tests}
-use Rattle.entries.specs.Known.{spare, usesQ, usesV, usesA, usesB, usesArgs, usesLink}
+use Rattle.entries.specs.Tested.{spare, usesQ, usesV, usesA, usesB, usesArgs, usesLink}
 
 pub spare-is : (r u used : Bool) (x f : ℕ) → u ≡ used → x ≡ f → r ≡ spare u x → r ≡ spare used f
 spare-is r u used x f h g e = rw (← h, ← g) e

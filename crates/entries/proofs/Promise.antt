@@ -1,17 +1,22 @@
 -- What a table that escapes refusal 3 promises. Assumes nothing.
 use Prim.Native.Nat.{ℕ, _+_, _≤_, _<_}
-use mathlib.Core.Path.{_≡_}
+use mathlib.Core.Path.{_≡_, sym, _∙_}
 use mathlib.Core.Bool.{true}
 use borrow.Author.Tests.{leb-true}
 use Rattle.basics.proofs.Bools.{both-l, both-r, between-true, all-at}
 use Rattle.table.specs.Table.{Table}
 use Rattle.table.specs.Entries.{typeKind, varMode, blockKind, nodeKind, nodeQ, nodeV, stmtKind, typeCount, varCount, blockCount, nodeCount, stmtCount}
-use Rattle.entries.specs.Known.{typeKnown, varKnown, blockKnown, operatorKnown, nodeKnown, stmtKnown, declarationsKnown, known}
+use Rattle.entries.specs.Tested.{typeKnown, varKnown, blockKnown, operatorKnown, nodeKnown, stmtKnown, declarationsKnown, tested}
+use Rattle.entries.specs.Known.{known}
+use Rattle.entries.proofs.Rows.{known-tested}
 
 module _ (T : Table) (h : known T ≡ true) where
+  rows : tested T ≡ true
+  rows = sym (known-tested T) ∙ h
+
   declarations : declarationsKnown T ≡ true
-  unfolding known
-  declarations = both-l _ _ h
+  unfolding tested
+  declarations = both-l _ _ rows
 
   types : (i : ℕ) → i < typeCount T → typeKnown T i ≡ true
   unfolding declarationsKnown
@@ -26,12 +31,12 @@ module _ (T : Table) (h : known T ≡ true) where
   blocks i l = all-at _ (blockKnown T) (both-r _ _ (both-r _ _ declarations)) i l
 
   nodes : (i : ℕ) → i < nodeCount T → nodeKnown T i ≡ true
-  unfolding known
-  nodes i l = all-at _ (nodeKnown T) (both-l _ _ (both-r _ _ h)) i l
+  unfolding tested
+  nodes i l = all-at _ (nodeKnown T) (both-l _ _ (both-r _ _ rows)) i l
 
   stmts : (i : ℕ) → i < stmtCount T → stmtKnown T i ≡ true
-  unfolding known
-  stmts i l = all-at _ (stmtKnown T) (both-r _ _ (both-r _ _ h)) i l
+  unfolding tested
+  stmts i l = all-at _ (stmtKnown T) (both-r _ _ (both-r _ _ rows)) i l
 
   -- THE PROMISE
   pub type-kind : (i : ℕ) → i < typeCount T → (1 ≤ typeKind T (3 + i)) × (typeKind T (3 + i) ≤ 3)

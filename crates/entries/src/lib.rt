@@ -1,10 +1,12 @@
 // Refusal 3: kinds, modes and operators are known, and unused fields are 0.
+use code::kinds;
 ghost use mathlib.Core.Path.{_≡_};
 ghost use Prim.Native.Nat.{_+_, _<_};
 ghost use Rattle.basics.specs.Choice.{allBelow};
 ghost use Rattle.code.specs.Code.{decoded};
 ghost use Rattle.table.specs.Entries.{typeCount, varCount, blockCount, nodeCount, stmtCount};
-ghost use Rattle.entries.specs.Known.{spare, typeKnown, varKnown, blockKnown, usesQ, usesV, operatorKnown, nodeKnown, usesA, usesB, usesArgs, usesLink, operandsKnown, argsKnown, stmtKnown, declarationsKnown, known};
+ghost use Rattle.entries.specs.Tested.{spare, typeKnown, varKnown, blockKnown, usesQ, usesV, operatorKnown, nodeKnown, usesA, usesB, usesArgs, usesLink, operandsKnown, argsKnown, stmtKnown, declarationsKnown};
+ghost use Rattle.entries.specs.Known.{known};
 
 // An unused field is 0.
 fn spare(used: bool, x: usize) -> bool
@@ -22,10 +24,10 @@ fn type_known(c: &code::Slots, i: usize) -> bool
     ensures { λ r. ⌜ r ≡ typeKnown (decoded (now (c .entry))) i ⌝ }
 {
     let k = code::type_kind(c, 3 + i);
-    if basics::between(1, 3, k) {
-        if spare(k <= 2, code::type_q(c, 3 + i)) {
-            if spare(k == 2, code::type_low(c, 3 + i)) {
-                return spare(k == 2, code::type_high(c, 3 + i));
+    if basics::between(kinds::RECORD, kinds::PROCESS, k) {
+        if spare(k <= kinds::ARRAY, code::type_q(c, 3 + i)) {
+            if spare(k == kinds::ARRAY, code::type_low(c, 3 + i)) {
+                return spare(k == kinds::ARRAY, code::type_high(c, 3 + i));
             }
             return false;
         }
@@ -37,41 +39,41 @@ fn type_known(c: &code::Slots, i: usize) -> bool
 fn var_known(c: &code::Slots, i: usize) -> bool
     ensures { λ r. ⌜ r ≡ varKnown (decoded (now (c .entry))) i ⌝ }
 {
-    code::var_mode(c, i) <= 2
+    code::var_mode(c, i) <= kinds::VAR_PARAMETER
 }
 
 fn block_known(c: &code::Slots, i: usize) -> bool
     ensures { λ r. ⌜ r ≡ blockKnown (decoded (now (c .entry))) i ⌝ }
 {
-    code::block_kind(c, i) <= 2
+    code::block_kind(c, i) <= kinds::PROCEDURE
 }
 
 fn uses_q(k: usize) -> bool
     ensures { λ r. ⌜ r ≡ usesQ k ⌝ }
 {
-    if 5 <= k {
+    if kinds::UNARY <= k {
         return true;
     }
-    basics::between(2, 3, k)
+    basics::between(kinds::FIELD, kinds::ELEMENT, k)
 }
 
 fn uses_v(k: usize) -> bool
     ensures { λ r. ⌜ r ≡ usesV k ⌝ }
 {
-    if k == 0 {
+    if k == kinds::CONSTANT {
         return true;
     }
-    k == 6
+    k == kinds::BINARY
 }
 
 fn operator_known(c: &code::Slots, i: usize) -> bool
     ensures { λ r. ⌜ r ≡ operatorKnown (decoded (now (c .entry))) i ⌝ }
 {
     let k = code::node_kind(c, i);
-    if k == 5 {
+    if k == kinds::UNARY {
         return basics::between(1, 3, code::node_q(c, i));
     }
-    if k == 6 {
+    if k == kinds::BINARY {
         return basics::between(1, 13, code::node_v(c, i));
     }
     true
@@ -81,7 +83,7 @@ fn node_known(c: &code::Slots, i: usize) -> bool
     ensures { λ r. ⌜ r ≡ nodeKnown (decoded (now (c .entry))) i ⌝ }
 {
     let k = code::node_kind(c, i);
-    if k <= 7 {
+    if k <= kinds::TRANSFER {
         if spare(uses_q(k), code::node_q(c, i)) {
             if spare(uses_v(k), code::node_v(c, i)) {
                 return operator_known(c, i);
@@ -96,40 +98,40 @@ fn node_known(c: &code::Slots, i: usize) -> bool
 fn uses_a(k: usize) -> bool
     ensures { λ r. ⌜ r ≡ usesA k ⌝ }
 {
-    if basics::between(1, 5, k) {
+    if basics::between(kinds::ASSIGN, kinds::START, k) {
         return true;
     }
-    if k == 10 {
+    if k == kinds::ARM {
         return true;
     }
-    basics::between(12, 13, k)
+    basics::between(kinds::WRITE, kinds::BLOCK_END, k)
 }
 
 fn uses_b(k: usize) -> bool
     ensures { λ r. ⌜ r ≡ usesB k ⌝ }
 {
-    if k == 1 {
+    if k == kinds::ASSIGN {
         return true;
     }
-    if k == 3 {
+    if k == kinds::PROCESS_CALL {
         return true;
     }
-    k == 12
+    k == kinds::WRITE
 }
 
 fn uses_args(k: usize) -> bool
     ensures { λ r. ⌜ r ≡ usesArgs k ⌝ }
 {
-    if basics::between(2, 3, k) {
+    if basics::between(kinds::LOCAL_CALL, kinds::PROCESS_CALL, k) {
         return true;
     }
-    k == 5
+    k == kinds::START
 }
 
 fn uses_link(k: usize) -> bool
     ensures { λ r. ⌜ r ≡ usesLink k ⌝ }
 {
-    basics::between(10, 11, k)
+    basics::between(kinds::ARM, kinds::END, k)
 }
 
 fn operands_known(c: &code::Slots, i: usize) -> bool
@@ -156,7 +158,7 @@ fn stmt_known(c: &code::Slots, i: usize) -> bool
     ensures { λ r. ⌜ r ≡ stmtKnown (decoded (now (c .entry))) i ⌝ }
 {
     let k = code::stmt_kind(c, i);
-    if k <= 13 {
+    if k <= kinds::BLOCK_END {
         if operands_known(c, i) {
             if args_known(c, i) {
                 return spare(uses_link(k), code::stmt_link(c, i));

@@ -2,6 +2,8 @@
 -- The entries of a table as constructors (01, The table). An entry that does not exist, or of an unknown kind, is none. Assumes nothing.
 use Prim.Native.Nat.{ℕ}
 use mathlib.Core.Bool.{Bool, true, false}
+use mathlib.Core.List.{[], _∷_}
+use lib.ListN.{getD}
 use lib.Dec.{eqb, ltb}
 use Rattle.basics.specs.Choice.{pick}
 use Rattle.table.specs.Table.{Table}
@@ -61,18 +63,12 @@ pub data Node : Type 0 where
   transfer : ℕ → ℕ → Node
   noNode : Node
 
--- a node of kind k with its fields p, q and v
+-- a node of kind k, from 0 on, with its fields p, q and v
 unfoldable pub nodeOf : ℕ → ℕ → ℕ → ℕ → Node
 nodeOf k p q v =
-    pick (eqb k 0) (constant p v)
-    (pick (eqb k 1) (whole p)
-    (pick (eqb k 2) (field p q)
-    (pick (eqb k 3) (element p q)
-    (pick (eqb k 4) (retrieve p)
-    (pick (eqb k 5) (unary (unaryAt q) p)
-    (pick (eqb k 6) (binary (binaryAt v) p q)
-    (pick (eqb k 7) (transfer p q)
-    noNode)))))))
+    getD
+    (constant p v ∷ whole p ∷ field p q ∷ element p q ∷ retrieve p ∷ unary (unaryAt q) p ∷ binary (binaryAt v) p q ∷ transfer p q ∷ [])
+    k noNode
 
 unfoldable pub nodeAt : Table → ℕ → Node
 nodeAt T n = pick (ltb n (nodeCount T)) (nodeOf (nodeKind T n) (nodeP T n) (nodeQ T n) (nodeV T n)) noNode

@@ -2,16 +2,33 @@
 use mathlib.Core.Path.{_≡_, refl}
 use mathlib.Core.Bool.{Bool, true, false}
 use mathlib.Core.List.{[], _∷_}
-use Prim.Native.Nat.{ℕ, _<_, _≤_}
+use Prim.Native.Nat.{ℕ, suc, _<_, _≤_}
 use native.Mathlib.Omega.{arith}
 use lib.Dec.{leb, eqb}
 use lib.ListN.{getD}
-use borrow.Author.Tests.{leb-true, leb-false, eqb-true, lt-ltb, le-leb, lt-leb}
+use borrow.Author.Tests.{leb-true, leb-false, eqb-true, ne-eqb, lt-ltb, le-leb, lt-leb}
 use Rattle.basics.specs.Choice.{pick}
 use Rattle.table.specs.Table.{Table}
 use Rattle.table.specs.Entries.{stmtCount, stmtKind}
+use Rattle.table.proofs.EachKind.{stmt-kinds}
 use Rattle.nesting.specs.Nest.{classOf, class}
 use Rattle.nesting.proofs.Grammar.{within}
+
+-- the class by tests of the kind
+tests : ℕ → ℕ
+tests k =
+    pick (leb k 5) 0 (pick (leb k 9) 1 (pick (eqb k 10) 2 (pick (eqb k 11) 3 (pick (eqb k 12) 0 (pick (eqb k 13) 4 5)))))
+
+class-at : (k : ℕ) → classOf k ≡ tests k
+unfolding classOf tests
+class-at =
+    stmt-kinds (λ k. classOf k ≡ tests k)
+    refl refl refl refl refl refl refl refl refl refl refl refl refl refl
+    (λ k. rw (lt-leb (suc (suc (suc (suc (suc (suc (suc (suc (suc (suc (suc (suc (suc (suc k)))))))))))))) 5 (omega arith), lt-leb (suc (suc (suc (suc (suc (suc (suc (suc (suc (suc (suc (suc (suc (suc k)))))))))))))) 9 (omega arith), ne-eqb (suc (suc (suc (suc (suc (suc (suc (suc (suc (suc (suc (suc (suc (suc k)))))))))))))) 10 (λ q. omega arith), ne-eqb (suc (suc (suc (suc (suc (suc (suc (suc (suc (suc (suc (suc (suc (suc k)))))))))))))) 11 (λ q. omega arith), ne-eqb (suc (suc (suc (suc (suc (suc (suc (suc (suc (suc (suc (suc (suc (suc k)))))))))))))) 12 (λ q. omega arith), ne-eqb (suc (suc (suc (suc (suc (suc (suc (suc (suc (suc (suc (suc (suc (suc k)))))))))))))) 13 (λ q. omega arith)))
+
+pub class-tested : (k : ℕ) → classOf k ≡ pick (leb k 5) 0 (pick (leb k 9) 1 (pick (eqb k 10) 2 (pick (eqb k 11) 3 (pick (eqb k 12) 0 (pick (eqb k 13) 4 5)))))
+unfolding tests
+class-tested k = class-at k
 
 -- the lowest and the highest kind of a class; the highest of none is k
 abbrev lowest : ℕ → ℕ
@@ -29,15 +46,15 @@ split k true x y f g = f refl
 split k false x y f g = g refl
 
 between : (k : ℕ) → Between k (classOf k)
-unfolding classOf
 between k =
-    split k (leb k 5) 0 _ (λ e. let l = leb-true k 5 e in record { low = omega arith; high = omega arith })
+    rw (class-tested k)
+    (split k (leb k 5) 0 _ (λ e. let l = leb-true k 5 e in record { low = omega arith; high = omega arith })
     (λ a. split k (leb k 9) 1 _ (λ e. let l = leb-true k 9 e in let m = leb-false k 5 a in record { low = omega arith; high = omega arith })
     (λ b. split k (eqb k 10) 2 _ (λ e. let l = eqb-true k 10 e in record { low = omega arith; high = omega arith })
     (λ c. split k (eqb k 11) 3 _ (λ e. let l = eqb-true k 11 e in record { low = omega arith; high = omega arith })
     (λ d. split k (eqb k 12) 0 _ (λ e. let l = eqb-true k 12 e in record { low = omega arith; high = omega arith })
     (λ f. split k (eqb k 13) 4 5 (λ e. let l = eqb-true k 13 e in record { low = omega arith; high = omega arith })
-    (λ g. record { low = omega arith; high = omega arith }))))))
+    (λ g. record { low = omega arith; high = omega arith })))))))
 
 module _ (T : Table) (i : ℕ) where
   -- the class says the kind
@@ -66,8 +83,8 @@ module _ (T : Table) (i : ℕ) where
   -- the kind says the class
   module _ (l : i < stmtCount T) where
     pub class-opener : 6 ≤ stmtKind T i → stmtKind T i ≤ 9 → class T i ≡ 1
-    unfolding class classOf
-    class-opener p q = rw (lt-ltb i (stmtCount T) l, lt-leb (stmtKind T i) 5 p, le-leb (stmtKind T i) 9 q)
+    unfolding class
+    class-opener p q = rw (lt-ltb i (stmtCount T) l, class-tested (stmtKind T i), lt-leb (stmtKind T i) 5 p, le-leb (stmtKind T i) 9 q)
 
     pub class-arm : stmtKind T i ≡ 10 → class T i ≡ 2
     unfolding class classOf

@@ -2,22 +2,18 @@
 -- How statements nest (01, refusal 6; the report's 4.2, 11.6): the grammar, and the rule that says it in numbers. Assumes nothing.
 use mathlib.Core.Bool.{Bool}
 use Prim.Native.Nat.{ℕ, zero, suc, _+_}
+use mathlib.Core.List.{[], _∷_}
+use lib.ListN.{getD}
 use lib.Dec.{ltb, leb, eqb}
 use Rattle.basics.specs.Choice.{pick}
 use Rattle.basics.specs.Chain.{chained}
 use Rattle.table.specs.Table.{Table}
 use Rattle.table.specs.Entries.{blockCount, firstStmt, stmtCount, stmtKind, stmtA, stmtLink}
 
--- classes of statements: 0 simple (skip, assign, calls, create, start, write), 1 opener (if, while, when, cycle), 2 arm, 3 end, 4 block end, 5 no statement
+-- classes of statements, by their kinds from 0 on: 0 simple (skip, assign, calls, create, start, write), 1 opener (if, while, when, cycle), 2 arm,
+-- 3 end, 4 block end, 5 no statement
 unfoldable pub classOf : ℕ → ℕ
-classOf k =
-    pick (leb k 5) 0
-    (pick (leb k 9) 1
-    (pick (eqb k 10) 2
-    (pick (eqb k 11) 3
-    (pick (eqb k 12) 0
-    (pick (eqb k 13) 4
-    5)))))
+classOf k = getD (0 ∷ 0 ∷ 0 ∷ 0 ∷ 0 ∷ 0 ∷ 1 ∷ 1 ∷ 1 ∷ 1 ∷ 2 ∷ 3 ∷ 0 ∷ 4 ∷ []) k 5
 
 -- the class of statement i; past the last there is none
 unfoldable pub class : Table → ℕ → ℕ

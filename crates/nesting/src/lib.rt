@@ -1,5 +1,6 @@
 // The rule of nesting, refusal 6 of the table's verdict: statements nest in the blocks as in the report's 4.2 and 11.6.
 // The functions of a body and of arms call each other: the stack is as deep as the statements nest.
+use code::kinds;
 ghost use mathlib.Core.Path.{_≡_};
 ghost use Prim.Native.Nat.{_<_};
 ghost use Rattle.code.specs.Code.{decoded};
@@ -9,22 +10,22 @@ ghost use Rattle.nesting.specs.Ends.{ClassIs, BodyEnds, ArmsEnds, ArmEnd
 fn class_of(k: usize) -> usize
     ensures { λ r. ⌜ r ≡ classOf k ⌝ }
 {
-    if k <= 5 {
+    if k <= kinds::START {
         return 0;
     }
-    if k <= 9 {
+    if k <= kinds::CYCLE {
         return 1;
     }
-    if k == 10 {
+    if k == kinds::ARM {
         return 2;
     }
-    if k == 11 {
+    if k == kinds::END {
         return 3;
     }
-    if k == 12 {
+    if k == kinds::WRITE {
         return 0;
     }
-    if k == 13 {
+    if k == kinds::BLOCK_END {
         return 4;
     }
     5

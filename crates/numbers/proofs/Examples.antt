@@ -11,10 +11,11 @@ use Rattle.basics.specs.Marks.{occurs, gather}
 use Rattle.table.specs.Table.{Table}
 use Rattle.table.specs.Entries.{declared}
 use Rattle.types.specs.Types.{nodeType, typeOf}
-use Rattle.numbers.specs.Sorts.{variableKind, variableBelow}
-use Rattle.numbers.specs.Declarations.{isRecord, recordFirst, recordCount, fieldsTaken, fieldBelow, recordRanged, typeRanged, moduleOf, named, namedOnce, modulesOnce, varRanged}
+use Rattle.table.specs.Kinds.{variableKind, names, rows, rowOf, held, eachField, isCall}
+use Rattle.numbers.specs.Sorts.{nameable, limit, fieldRanged, entryRanged}
+use Rattle.numbers.specs.Declarations.{isRecord, recordFirst, recordCount, fieldsTaken, fieldBelow, recordRanged, typeRanged, moduleOf, named, namedOnce, modulesOnce}
 use Rattle.numbers.specs.Blocks.{variablesTaken, programPlaced, ownerRanged, spaceRanged, modePlaced, variablesPlaced, blockPlaced, blockRanged}
-use Rattle.numbers.specs.Operands.{pRanged, placeRanged, qRanged, nodeRanged, aVariable, aExpression, aBlock, aRanged, bExpression, bRanged, linkRanged, stmtRanged, isCall, argumentsTaken}
+use Rattle.numbers.specs.Operands.{placeRanged, nodeRanged, argumentsTaken}
 use Rattle.numbers.specs.Ranges.{inOrder, typesRanged, declarationsRanged, operandsRanged, inRange}
 
 -- a table by its sections' rows
@@ -42,5 +43,5 @@ examples :
     (inRange (least 0 0) ≡ true) × (inRange (least 1 510) ≡ true) × (inRange (least 2 0) ≡ false) × (inRange (least 0 511) ≡ false)
     × (inRange (least 0 512) ≡ false) × (inRange (selects 1 3 1) ≡ true) × (inRange (selects 1 3 2) ≡ false) × (inRange (selects 1 0 2) ≡ true)
     × (inRange (selects 3 3 1) ≡ false) × (inRange (selects 1 4 1) ≡ false)
-unfolding inRange inOrder typesRanged declarationsRanged operandsRanged both allBelow fieldsTaken variablesTaken argumentsTaken taken chained carried free modulesOnce namedOnce named gather occurs blockRanged blockPlaced programPlaced ownerRanged spaceRanged variablesPlaced stmtRanged aRanged aVariable aExpression aBlock between bRanged bExpression linkRanged isCall stepTake testTake always declared isRecord recordFirst recordCount recordRanged fieldBelow typeRanged moduleOf varRanged modePlaced nodeRanged pRanged qRanged placeRanged variableBelow variableKind typeOf course upto nodeType
+unfolding inRange inOrder typesRanged declarationsRanged operandsRanged both allBelow fieldsTaken variablesTaken argumentsTaken taken chained carried free modulesOnce namedOnce named gather occurs blockRanged blockPlaced programPlaced ownerRanged spaceRanged variablesPlaced entryRanged eachField held rowOf rows fieldRanged limit nameable between isCall names stepTake testTake always declared isRecord recordFirst recordCount recordRanged fieldBelow typeRanged moduleOf modePlaced nodeRanged placeRanged variableKind typeOf course upto nodeType
 examples = (refl, refl, refl, refl, refl, refl, refl, refl, refl, refl)

@@ -9,8 +9,9 @@ use Rattle.basics.proofs.Tests.{tests, r-lt, r-ge, r-le, r-gt}
 use Rattle.table.specs.Table.{Table}
 use Rattle.table.specs.Entries.{typeP, fieldType, varMode, blockKind, owner, firstVar, nodeP}
 use Rattle.types.specs.Types.{typeOf}
-use Rattle.numbers.specs.Sorts.{variableKind, expressionKind, variableBelow, expressionBelow, blockOf}
-use Rattle.numbers.specs.Operands.{placeRanged, aVariable, aExpression, bExpression}
+use Rattle.table.specs.Kinds.{variableKind, expressionKind}
+use Rattle.numbers.specs.Operands.{placeRanged}
+use Rattle.numbers.specs.Tested.{variableBelow, expressionBelow, blockOf, aVariable, aExpression, bExpression}
 
 -- one number
 module _ (r : Bool) (k f : ℕ) (h : k ≡ f) where

@@ -12,9 +12,10 @@ use Rattle.basics.proofs.Takes.{there, apart}
 use Rattle.table.specs.Table.{Table}
 use Rattle.table.specs.Entries.{typeKind, typeQ, blockKind, argNode, nodeKind, nodeP, nodeQ, stmtKind, stmtA, stmtB, stmtC, stmtD, stmtLink, varCount, blockCount, argCount, nodeCount, stmtCount}
 use Rattle.types.specs.Types.{typeOf}
-use Rattle.numbers.specs.Sorts.{variableKind, expressionKind, variableBelow, expressionBelow}
+use Rattle.table.specs.Kinds.{variableKind, expressionKind, names, rows, rowOf, held, isCall}
 use Rattle.numbers.specs.Nodes.{Variable, Expression}
-use Rattle.numbers.specs.Operands.{argRanged, pRanged, placeRanged, qRanged, nodeRanged, aVariable, aExpression, aBlock, aRanged, bExpression, bRanged, linkRanged, stmtRanged, isCall, callFirst, callCount, argumentsTaken}
+use Rattle.numbers.specs.Operands.{placeRanged, callFirst, callCount, argumentsTaken}
+use Rattle.numbers.specs.Tested.{variableBelow, expressionBelow, pRanged, qRanged, nodeTested, aVariable, aExpression, aBlock, aRanged, bExpression, bRanged, linkRanged, stmtTested}
 use Rattle.numbers.specs.Ranges.{inRange}
 use Rattle.numbers.proofs.Parts.{arguments-taken, arg-row, node-row, stmt-row}
 use Rattle.numbers.proofs.TypePromise.{block-there}
@@ -40,17 +41,16 @@ module _ (T : Table) (m n : ℕ) where
 
 module _ (T : Table) (h : inRange T ≡ true) where
   pub arg-node : (i : ℕ) → i < argCount T → argNode T i < nodeCount T
-  unfolding argRanged
-  arg-node i l = ltb-true (argNode T i) (nodeCount T) (arg-row T h i l)
+  arg-node i l = arg-row T h i l
 
   -- nodes
   module _ (n : ℕ) (l : n < nodeCount T) where
     p-row : pRanged T n ≡ true
-    unfolding nodeRanged
+    unfolding nodeTested
     p-row = both-l _ _ (node-row T h n l)
 
     q-row : qRanged T n ≡ true
-    unfolding nodeRanged
+    unfolding nodeTested
     q-row = both-r _ _ (node-row T h n l)
 
     pub constant-type : nodeKind T n ≡ 0 → nodeP T n ≤ 2
@@ -104,15 +104,15 @@ module _ (T : Table) (h : inRange T ≡ true) where
   -- statements
   module _ (i : ℕ) (l : i < stmtCount T) where
     a-row : aRanged T i ≡ true
-    unfolding stmtRanged
+    unfolding stmtTested
     a-row = both-l _ _ (stmt-row T h i l)
 
     b-row : bRanged T i ≡ true
-    unfolding stmtRanged
+    unfolding stmtTested
     b-row = both-l _ _ (both-r _ _ (stmt-row T h i l))
 
     link-row : linkRanged T i ≡ true
-    unfolding stmtRanged
+    unfolding stmtTested
     link-row = both-r _ _ (both-r _ _ (stmt-row T h i l))
 
     a-variable : (k : ℕ) → stmtKind T i ≡ k → aVariable k ≡ true → Variable T (nodeCount T) (stmtA T i)
@@ -189,15 +189,15 @@ module _ (T : Table) (h : inRange T ≡ true) where
     args-there e = there (isCall T) (callFirst T) (callCount T) (stmtCount T) (argCount T) (arguments-taken T h) i l e
 
     pub local-args : stmtKind T i ≡ 2 → stmtC T i + stmtD T i ≤ argCount T
-    unfolding isCall between both
+    unfolding isCall names held rowOf rows
     local-args e = args-there (rw e)
 
     pub call-args : stmtKind T i ≡ 3 → stmtC T i + stmtD T i ≤ argCount T
-    unfolding isCall between both
+    unfolding isCall names held rowOf rows
     call-args e = args-there (rw e)
 
     pub start-args : stmtKind T i ≡ 5 → stmtC T i + stmtD T i ≤ argCount T
-    unfolding isCall between both
+    unfolding isCall names held rowOf rows
     start-args e = args-there (rw e)
 
   -- no two calls take the same argument

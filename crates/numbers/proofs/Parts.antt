@@ -1,15 +1,18 @@
 -- A table that escapes refusal 4, taken apart: each row passes its test. Assumes nothing.
-use Prim.Native.Nat.{ℕ, _≤_, _<_}
-use mathlib.Core.Path.{_≡_}
+use Prim.Native.Nat.{ℕ, _+_, _≤_, _<_}
+use mathlib.Core.Path.{_≡_, sym, _∙_}
 use mathlib.Core.Bool.{true}
-use borrow.Author.Tests.{leb-true}
+use borrow.Author.Tests.{leb-true, ltb-true}
 use Rattle.basics.proofs.Bools.{both-l, both-r, all-at}
 use Rattle.table.specs.Table.{Table}
-use Rattle.table.specs.Entries.{typeCount, varCount, blockCount, argCount, nodeCount, stmtCount}
-use Rattle.numbers.specs.Declarations.{fieldsTaken, typeRanged, namedOnce, modulesOnce, varRanged}
+use Rattle.table.specs.Entries.{varType, argNode, typeCount, varCount, blockCount, argCount, nodeCount, stmtCount}
+use Rattle.numbers.specs.Sorts.{entryRanged}
+use Rattle.numbers.specs.Declarations.{fieldsTaken, typeRanged, namedOnce, modulesOnce}
 use Rattle.numbers.specs.Blocks.{variablesTaken, blockRanged}
-use Rattle.numbers.specs.Operands.{argRanged, nodeRanged, stmtRanged, argumentsTaken}
+use Rattle.numbers.specs.Operands.{nodeRanged, argumentsTaken}
+use Rattle.numbers.specs.Tested.{typeTested, nodeTested, stmtTested}
 use Rattle.numbers.specs.Ranges.{inOrder, typesRanged, declarationsRanged, operandsRanged, inRange}
+use Rattle.numbers.proofs.Rows.{type-tested, var-tested, arg-tested, node-tested, stmt-tested}
 
 module _ (T : Table) (h : inRange T ≡ true) where
   in-order : inOrder T ≡ true
@@ -40,9 +43,9 @@ module _ (T : Table) (h : inRange T ≡ true) where
   unfolding inOrder
   arguments-taken = both-r _ _ (both-r _ _ in-order)
 
-  pub type-row : (i : ℕ) → i < typeCount T → typeRanged T i ≡ true
+  pub type-row : (i : ℕ) → i < typeCount T → typeTested T i ≡ true
   unfolding typesRanged
-  type-row i l = all-at _ (typeRanged T) (both-l _ _ types) i l
+  type-row i l = sym (type-tested T i) ∙ all-at _ (typeRanged T) (both-l _ _ types) i l
 
   pub module-row : (b : ℕ) → b < blockCount T → namedOnce T b ≡ true
   unfolding typesRanged modulesOnce
@@ -52,22 +55,22 @@ module _ (T : Table) (h : inRange T ≡ true) where
   unfolding declarationsRanged
   some-block = leb-true 1 (blockCount T) (both-l _ _ declarations)
 
-  pub var-row : (x : ℕ) → x < varCount T → varRanged T x ≡ true
+  pub var-row : (x : ℕ) → x < varCount T → varType T x < 3 + typeCount T
   unfolding declarationsRanged
-  var-row x l = all-at _ (varRanged T) (both-l _ _ (both-r _ _ declarations)) x l
+  var-row x l = ltb-true _ _ (sym (var-tested T x) ∙ all-at _ (entryRanged T 2) (both-l _ _ (both-r _ _ declarations)) x l)
 
   pub block-row : (b : ℕ) → b < blockCount T → blockRanged T b ≡ true
   unfolding declarationsRanged
   block-row b l = all-at _ (blockRanged T) (both-r _ _ (both-r _ _ declarations)) b l
 
-  pub arg-row : (i : ℕ) → i < argCount T → argRanged T i ≡ true
+  pub arg-row : (i : ℕ) → i < argCount T → argNode T i < nodeCount T
   unfolding operandsRanged
-  arg-row i l = all-at _ (argRanged T) (both-l _ _ operands) i l
+  arg-row i l = ltb-true _ _ (sym (arg-tested T i) ∙ all-at _ (entryRanged T 4) (both-l _ _ operands) i l)
 
-  pub node-row : (n : ℕ) → n < nodeCount T → nodeRanged T n ≡ true
+  pub node-row : (n : ℕ) → n < nodeCount T → nodeTested T n ≡ true
   unfolding operandsRanged
-  node-row n l = all-at _ (nodeRanged T) (both-l _ _ (both-r _ _ operands)) n l
+  node-row n l = sym (node-tested T n) ∙ all-at _ (nodeRanged T) (both-l _ _ (both-r _ _ operands)) n l
 
-  pub stmt-row : (i : ℕ) → i < stmtCount T → stmtRanged T i ≡ true
+  pub stmt-row : (i : ℕ) → i < stmtCount T → stmtTested T i ≡ true
   unfolding operandsRanged
-  stmt-row i l = all-at _ (stmtRanged T) (both-r _ _ (both-r _ _ operands)) i l
+  stmt-row i l = sym (stmt-tested T i) ∙ all-at _ (entryRanged T 6) (both-r _ _ (both-r _ _ operands)) i l

@@ -10,8 +10,8 @@ use Rattle.basics.proofs.Bools.{both-l, both-r, all-at}
 use Rattle.basics.proofs.Takes.{there, apart}
 use Rattle.table.specs.Table.{Table}
 use Rattle.table.specs.Entries.{declared, typeKind, typeP, typeQ, fieldType, varType, blockKind, typeCount, fieldCount, varCount, blockCount}
-use Rattle.numbers.specs.Sorts.{blockOf}
-use Rattle.numbers.specs.Declarations.{isRecord, recordFirst, recordCount, fieldsTaken, fieldBelow, recordRanged, arrayRanged, typeRanged, varRanged}
+use Rattle.numbers.specs.Declarations.{isRecord, recordFirst, recordCount, fieldsTaken, fieldBelow, recordRanged}
+use Rattle.numbers.specs.Tested.{blockOf, arrayRanged, typeTested}
 use Rattle.numbers.specs.Ranges.{inRange}
 use Rattle.numbers.proofs.Parts.{fields-taken, type-row, var-row}
 
@@ -29,12 +29,11 @@ block-there T k b e = (ltb-true b (blockCount T) (both-l _ _ e), eqb-true (block
 
 module _ (T : Table) (h : inRange T ≡ true) where
   pub var-type : (x : ℕ) → x < varCount T → varType T x < 3 + typeCount T
-  unfolding varRanged
-  var-type x l = ltb-true (varType T x) (3 + typeCount T) (var-row T h x l)
+  var-type x l = var-row T h x l
 
   -- a declared type
   module _ (τ : ℕ) (l : τ < 3 + typeCount T) where
-    row-of : (k : ℕ) → typeKind T τ ≡ k → 1 ≤ k → typeRanged T (τ - 3) ≡ true
+    row-of : (k : ℕ) → typeKind T τ ≡ k → 1 ≤ k → typeTested T (τ - 3) ≡ true
     row-of k e p = let q = declared-from T τ k e p in type-row T h (τ - 3) (omega arith)
 
     number : (k : ℕ) → typeKind T τ ≡ k → 1 ≤ k → 3 + (τ - 3) ≡ τ
@@ -43,7 +42,7 @@ module _ (T : Table) (h : inRange T ≡ true) where
     -- records
     module _ (e : typeKind T τ ≡ 1) where
       a-record : recordRanged T τ ≡ true
-      unfolding typeRanged
+      unfolding typeTested
       a-record = let r : 3 + (τ - 3) ≡ τ = number 1 e (omega arith) in rw (r, e) at (row-of 1 e (omega arith))
 
       pub record-some : 1 ≤ typeQ T τ
@@ -69,7 +68,7 @@ module _ (T : Table) (h : inRange T ≡ true) where
     -- arrays
     module _ (e : typeKind T τ ≡ 2) where
       an-array : arrayRanged T τ ≡ true
-      unfolding typeRanged
+      unfolding typeTested
       an-array = let r : 3 + (τ - 3) ≡ τ = number 2 e (omega arith) in rw (r, e) at (row-of 2 e (omega arith))
 
       pub array-index : typeP T τ ≤ 2
@@ -82,7 +81,7 @@ module _ (T : Table) (h : inRange T ≡ true) where
 
     -- process types
     pub process-module : typeKind T τ ≡ 3 → (typeP T τ < blockCount T) × (blockKind T (typeP T τ) ≡ 1)
-    unfolding typeRanged
+    unfolding typeTested
     process-module e =
         let r : 3 + (τ - 3) ≡ τ = number 3 e (omega arith) in
         block-there T 1 (typeP T τ) (rw (r, e) at (row-of 3 e (omega arith)))

@@ -1,5 +1,5 @@
 -- Trusted: public promises are said with these definitions.
--- Refusal 4 in types, fields and variables (01, The table). Assumes nothing.
+-- Refusal 4 in types and fields (01, The table). Assumes nothing.
 use Prim.Native.Nat.{ℕ, _+_}
 use mathlib.Core.Bool.{Bool, true}
 use mathlib.Core.List.{List, [], _∷_}
@@ -8,8 +8,8 @@ use Rattle.basics.specs.Choice.{pick, both, allBelow}
 use Rattle.basics.specs.Chain.{taken}
 use Rattle.basics.specs.Marks.{occurs, gather}
 use Rattle.table.specs.Table.{Table}
-use Rattle.table.specs.Entries.{typeKind, typeP, typeQ, fieldType, varType, typeCount, fieldCount, blockCount}
-use Rattle.numbers.specs.Sorts.{blockOf}
+use Rattle.table.specs.Entries.{typeKind, typeP, typeQ, fieldType, typeCount, fieldCount, blockCount}
+use Rattle.numbers.specs.Sorts.{entryRanged}
 
 -- 'Records take fields in order, consecutively, with none left'
 unfoldable pub isRecord : Table → ℕ → Bool
@@ -32,16 +32,9 @@ fieldBelow T τ j = ltb (fieldType T (typeP T τ + j)) τ
 unfoldable pub recordRanged : Table → ℕ → Bool
 recordRanged T τ = both (leb 1 (typeQ T τ)) (allBelow (typeQ T τ) (fieldBelow T τ))
 
--- '2 array: index type 0..2, element type'
-unfoldable pub arrayRanged : Table → ℕ → Bool
-arrayRanged T τ = both (leb (typeP T τ) 2) (ltb (typeQ T τ) τ)
-
--- '3 process: module'
+-- a type: its row, and a record's fields
 unfoldable pub typeRanged : Table → ℕ → Bool
-typeRanged T i =
-    pick (eqb (typeKind T (3 + i)) 1) (recordRanged T (3 + i))
-    (pick (eqb (typeKind T (3 + i)) 2) (arrayRanged T (3 + i))
-    (pick (eqb (typeKind T (3 + i)) 3) (blockOf T 1 (typeP T (3 + i))) true))
+typeRanged T i = both (entryRanged T 0 i) (pick (isRecord T i) (recordRanged T (3 + i)) true)
 
 -- 'one such entry a module at most': the modules that the process types name, each once
 unfoldable pub moduleOf : Table → ℕ → List ℕ
@@ -55,7 +48,3 @@ namedOnce T b = leb (occurs b (named T)) 1
 
 unfoldable pub modulesOnce : Table → Bool
 modulesOnce T = allBelow (blockCount T) (namedOnce T)
-
--- Variable: an existing type. Types are numbered from 3.
-unfoldable pub varRanged : Table → ℕ → Bool
-varRanged T x = ltb (varType T x) (3 + typeCount T)

@@ -4,4 +4,5 @@ pub mod Declarations
 pub mod Marking
 pub mod Blocks
 pub mod Operands
+pub mod Tested
 pub mod Ranges

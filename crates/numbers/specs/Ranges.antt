@@ -6,9 +6,10 @@ use lib.Dec.{leb}
 use Rattle.basics.specs.Choice.{both, allBelow}
 use Rattle.table.specs.Table.{Table}
 use Rattle.table.specs.Entries.{typeCount, varCount, blockCount, argCount, nodeCount, stmtCount}
-use Rattle.numbers.specs.Declarations.{fieldsTaken, typeRanged, modulesOnce, varRanged}
+use Rattle.numbers.specs.Sorts.{entryRanged}
+use Rattle.numbers.specs.Declarations.{fieldsTaken, typeRanged, modulesOnce}
 use Rattle.numbers.specs.Blocks.{variablesTaken, blockRanged}
-use Rattle.numbers.specs.Operands.{argRanged, nodeRanged, stmtRanged, argumentsTaken}
+use Rattle.numbers.specs.Operands.{nodeRanged, argumentsTaken}
 
 unfoldable pub inOrder : Table → Bool
 inOrder T = both (fieldsTaken T) (both (variablesTaken T) (argumentsTaken T))
@@ -18,12 +19,12 @@ typesRanged T = both (allBelow (typeCount T) (typeRanged T)) (modulesOnce T)
 
 unfoldable pub declarationsRanged : Table → Bool
 declarationsRanged T =
-    both (leb 1 (blockCount T)) (both (allBelow (varCount T) (varRanged T)) (allBelow (blockCount T) (blockRanged T)))
+    both (leb 1 (blockCount T)) (both (allBelow (varCount T) (entryRanged T 2)) (allBelow (blockCount T) (blockRanged T)))
 
 unfoldable pub operandsRanged : Table → Bool
 operandsRanged T =
-    both (allBelow (argCount T) (argRanged T))
-    (both (allBelow (nodeCount T) (nodeRanged T)) (allBelow (stmtCount T) (stmtRanged T)))
+    both (allBelow (argCount T) (entryRanged T 4))
+    (both (allBelow (nodeCount T) (nodeRanged T)) (allBelow (stmtCount T) (entryRanged T 6)))
 
 -- THE RULE of refusal 4
 unfoldable pub inRange : Table → Bool

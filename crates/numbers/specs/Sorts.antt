@@ -1,26 +1,29 @@
 -- Trusted: public promises are said with these definitions.
--- Numbers that name something, and of the right sort (01, refusal 4). Assumes nothing.
-use Prim.Native.Nat.{ℕ}
+-- Numbers that name something, and of the right sort: refusal 4, for each sort of number once (01, The table and Verdicts). Assumes nothing.
+use Prim.Native.Nat.{ℕ, _+_}
 use mathlib.Core.Bool.{Bool, true}
-use lib.Dec.{eqb, ltb}
-use Rattle.basics.specs.Choice.{pick, both, between}
+use lib.Dec.{eqb, leb, ltb}
+use Rattle.basics.specs.Choice.{pick, both}
 use Rattle.table.specs.Table.{Table}
-use Rattle.table.specs.Entries.{blockKind, nodeKind, blockCount}
+use Rattle.table.specs.Kinds.{Content, unused, number, standard, choice, entry, first, eachField}
 
--- the sorts of nodes: variables are 1 whole, 2 field, 3 element; expressions 0 constant, 4 value, 5 unary, 6 binary, 7 transfer
-unfoldable pub variableKind : ℕ → Bool
-variableKind k = between 1 3 k
+-- how many entries of section k entry i of section s may name: all that there are, but of its own section those before it
+-- ('Field and element types have lower numbers than their user', 'A node stands after its operands'; statement numbers apart)
+unfoldable pub nameable : Table → ℕ → ℕ → ℕ → ℕ
+nameable T s i k = pick (both (eqb s k) (ltb k 6)) i (T .count k)
 
-unfoldable pub expressionKind : ℕ → Bool
-expressionKind k = pick (eqb k 0) true (between 4 7 k)
+-- declared types are numbered from 3
+unfoldable pub limit : Table → ℕ → ℕ → ℕ → ℕ
+limit T s i k = pick (eqb k 0) (3 + nameable T s i k) (nameable T s i k)
 
--- node n is below m, and a variable; and an expression
-unfoldable pub variableBelow : Table → ℕ → ℕ → Bool
-variableBelow T m n = both (ltb n m) (variableKind (nodeKind T n))
+-- x in a field of entry i of section s; what an entry takes is ruled in order, below
+unfoldable pub fieldRanged : Table → ℕ → ℕ → Content → ℕ → Bool
+fieldRanged T s i unused x = true
+fieldRanged T s i number x = true
+fieldRanged T s i standard x = leb x 2
+fieldRanged T s i (choice a b) x = true
+fieldRanged T s i (entry k test) x = both (ltb x (limit T s i k)) (test (T .cell k x 0))
+fieldRanged T s i (first k) x = true
 
-unfoldable pub expressionBelow : Table → ℕ → ℕ → Bool
-expressionBelow T m n = both (ltb n m) (expressionKind (nodeKind T n))
-
--- b is an existing block of kind k
-unfoldable pub blockOf : Table → ℕ → ℕ → Bool
-blockOf T k b = both (ltb b (blockCount T)) (eqb (blockKind T b) k)
+unfoldable pub entryRanged : Table → ℕ → ℕ → Bool
+entryRanged T s i = eachField (fieldRanged T s i) T s i

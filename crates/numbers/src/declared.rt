@@ -4,7 +4,9 @@ ghost use Prim.Native.Nat.{_+_, _<_};
 ghost use Rattle.basics.specs.Choice.{allBelow};
 ghost use Rattle.code.specs.Code.{decoded};
 ghost use Rattle.table.specs.Entries.{typeCount, varCount, blockCount};
-ghost use Rattle.numbers.specs.Declarations.{fieldBelow, recordRanged, arrayRanged, typeRanged, namedOnce, modulesOnce, varRanged};
+ghost use Rattle.numbers.specs.Sorts.{entryRanged};
+ghost use Rattle.numbers.specs.Declarations.{fieldBelow, recordRanged, typeRanged, namedOnce, modulesOnce};
+ghost use Rattle.numbers.specs.Tested.{arrayRanged};
 ghost use Rattle.numbers.specs.Marking.{Clear, Named, moduleMarked};
 use super::sorts;
 
@@ -84,13 +86,13 @@ pub fn all_types(c: &code::Slots) -> bool
 }
 
 fn var_ranged(c: &code::Slots, i: usize) -> bool
-    ensures { λ r. ⌜ r ≡ varRanged (decoded (now (c .entry))) i ⌝ }
+    ensures { λ r. ⌜ r ≡ entryRanged (decoded (now (c .entry))) 2 i ⌝ }
 {
     code::var_type(c, i) < 3 + code::types(c)
 }
 
 pub fn all_vars(c: &code::Slots) -> bool
-    ensures { λ r. ⌜ r ≡ allBelow (varCount (decoded (now (c .entry)))) (varRanged (decoded (now (c .entry)))) ⌝ }
+    ensures { λ r. ⌜ r ≡ allBelow (varCount (decoded (now (c .entry)))) (entryRanged (decoded (now (c .entry))) 2) ⌝ }
 {
     let n = code::variables(c);
     let mut i = 0;

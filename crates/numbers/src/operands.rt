@@ -5,17 +5,19 @@ ghost use Rattle.basics.specs.Choice.{allBelow};
 ghost use Rattle.code.specs.Code.{decoded};
 ghost use Rattle.table.specs.Entries.{argCount, nodeCount, stmtCount};
 ghost use Rattle.types.specs.Kept.{Types};
-ghost use Rattle.numbers.specs.Operands.{argRanged, pRanged, placeRanged, qRanged, nodeRanged, aVariable, aExpression, aBlock, aRanged, bExpression, bRanged, linkRanged, stmtRanged};
+ghost use Rattle.numbers.specs.Sorts.{entryRanged};
+ghost use Rattle.numbers.specs.Operands.{placeRanged, nodeRanged};
+ghost use Rattle.numbers.specs.Tested.{pRanged, qRanged, aVariable, aExpression, aBlock, aRanged, bExpression, bRanged, linkRanged};
 use super::sorts;
 
 fn arg_ranged(c: &code::Slots, i: usize) -> bool
-    ensures { λ r. ⌜ r ≡ argRanged (decoded (now (c .entry))) i ⌝ }
+    ensures { λ r. ⌜ r ≡ entryRanged (decoded (now (c .entry))) 4 i ⌝ }
 {
     code::arg_node(c, i) < code::nodes(c)
 }
 
 pub fn all_args(c: &code::Slots) -> bool
-    ensures { λ r. ⌜ r ≡ allBelow (argCount (decoded (now (c .entry)))) (argRanged (decoded (now (c .entry)))) ⌝ }
+    ensures { λ r. ⌜ r ≡ allBelow (argCount (decoded (now (c .entry)))) (entryRanged (decoded (now (c .entry))) 4) ⌝ }
 {
     let n = code::arguments(c);
     let mut i = 0;
@@ -44,7 +46,10 @@ fn p_ranged(c: &code::Slots, n: usize) -> bool
     if k <= 4 {
         return sorts::variable_below(c, n, p);
     }
-    sorts::expression_below(c, n, p)
+    if k <= 7 {
+        return sorts::expression_below(c, n, p);
+    }
+    true
 }
 
 // The place q of a field in a variable of type x.
@@ -186,7 +191,7 @@ fn link_ranged(c: &code::Slots, i: usize) -> bool
 }
 
 fn stmt_ranged(c: &code::Slots, i: usize) -> bool
-    ensures { λ r. ⌜ r ≡ stmtRanged (decoded (now (c .entry))) i ⌝ }
+    ensures { λ r. ⌜ r ≡ entryRanged (decoded (now (c .entry))) 6 i ⌝ }
 {
     if a_ranged(c, i) {
         if b_ranged(c, i) {
@@ -198,7 +203,7 @@ fn stmt_ranged(c: &code::Slots, i: usize) -> bool
 }
 
 pub fn all_stmts(c: &code::Slots) -> bool
-    ensures { λ r. ⌜ r ≡ allBelow (stmtCount (decoded (now (c .entry)))) (stmtRanged (decoded (now (c .entry)))) ⌝ }
+    ensures { λ r. ⌜ r ≡ allBelow (stmtCount (decoded (now (c .entry)))) (entryRanged (decoded (now (c .entry))) 6) ⌝ }
 {
     let n = code::statements(c);
     let mut i = 0;

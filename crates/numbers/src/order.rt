@@ -8,7 +8,8 @@ ghost use Rattle.code.specs.Code.{decoded};
 ghost use Rattle.table.specs.Reading.{Field};
 ghost use Rattle.numbers.specs.Declarations.{isRecord, recordFirst, recordCount, fieldsTaken};
 ghost use Rattle.numbers.specs.Blocks.{variablesTaken};
-ghost use Rattle.numbers.specs.Operands.{isCall, callFirst, callCount, argumentsTaken};
+ghost use Rattle.table.specs.Kinds.{isCall};
+ghost use Rattle.numbers.specs.Operands.{callFirst, callCount, argumentsTaken};
 
 // A row that takes some begins at the free number j.
 fn begins(takes: bool, first: usize, j: usize) -> bool

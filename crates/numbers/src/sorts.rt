@@ -1,7 +1,8 @@
 // Nodes and blocks of the sort that a place asks.
 ghost use mathlib.Core.Path.{_≡_};
 ghost use Rattle.code.specs.Code.{decoded};
-ghost use Rattle.numbers.specs.Sorts.{variableKind, expressionKind, variableBelow, expressionBelow, blockOf};
+ghost use Rattle.table.specs.Kinds.{variableKind, expressionKind};
+ghost use Rattle.numbers.specs.Tested.{variableBelow, expressionBelow, blockOf};
 
 fn variable_kind(k: usize) -> bool
     ensures { λ r. ⌜ r ≡ variableKind k ⌝ }

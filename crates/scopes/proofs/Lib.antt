@@ -1,3 +1,4 @@
+pub mod Rows
 pub mod Scoping
 pub mod Promise
 pub mod Examples

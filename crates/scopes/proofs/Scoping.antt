@@ -3,11 +3,12 @@ use Prim.Native.Nat.{ℕ, _+_, _≤_, _<_}
 use mathlib.Core.Path.{_≡_, sym, _∙_}
 use mathlib.Core.Bool.{Bool, true, false}
 use mathlib.Core.List.{List}
+use native.Mathlib.Omega.{arith}
 use lib.Dec.{eqb, ltb}
-use borrow.Author.Tests.{ne-eqb}
+use borrow.Author.Tests.{ne-eqb, le-leb, lt-leb}
 use Rattle.basics.specs.Choice.{pick, allBelow}
 use Rattle.basics.specs.Loops.{Chain}
-use Rattle.basics.specs.Course.{upto, course}
+use Rattle.basics.specs.Course.{upto}
 use Rattle.basics.proofs.Courses.{upto-below, upto-above}
 use Rattle.basics.proofs.Tests.{tests}
 use Rattle.basics.proofs.Passes.{passes}
@@ -20,35 +21,42 @@ use Rattle.table.specs.Parts.{argumentPart, argumentIn}
 use Rattle.table.specs.declared.Sections.{Sections}
 use Rattle.table.proofs.Parts.{each-argument}
 use Rattle.nesting.specs.Nest.{blockStep}
-use Rattle.scopes.specs.Scopes.{among, visible, hasSecond, nodeScope, nodeScoped, argumentScoped, argumentsScoped, stmtScoped, staysIn, scoped}
+use Rattle.table.specs.Kinds.{names, held}
+use Rattle.scopes.specs.Scopes.{among, visible, nodeScope, nodeScoped, argumentScoped, argumentsScoped, stmtScoped, staysIn, scoped}
 use Rattle.scopes.specs.Parts.{scopedIn}
+use Rattle.scopes.proofs.Rows.{node-scope}
+
+-- what is found of the nodes before n
+before : (T : Table) (b n x : ℕ) → x < n → upto false (nodeScope T b) n x ≡ nodeScoped T b x
+unfolding nodeScoped
+before T b n x l = upto-below false (nodeScope T b) n x l
 
 -- one node
 module _ (T : Table) (b n k : ℕ) (hk : k ≡ nodeKind T n) where
   pub scope-constant : k ≡ 0 → true ≡ nodeScoped T b n
-  unfolding nodeScoped course nodeScope
-  scope-constant e = rw (← hk, e)
+  scope-constant e = rw (node-scope, ← hk, e)
+
+  pub scope-none : (k ≡ 0 → ⊥) → 7 < k → true ≡ nodeScoped T b n
+  scope-none n0 l = rw (node-scope, ← hk, ne-eqb k 0 n0, ne-eqb k 1 (λ e. omega arith), lt-leb k 7 l)
 
   module _ (x : ℕ) (hx : x ≡ nodeP T n) where
     pub scope-whole : (r : Bool) → k ≡ 1 → r ≡ visible T b x → r ≡ nodeScoped T b n
-    unfolding nodeScoped course nodeScope
-    scope-whole r e g = rw (← hk, e, ← hx) g
+    scope-whole r e g = rw (node-scope, ← hk, e, ← hx) g
 
-    module _ (n0 : k ≡ 0 → ⊥) (n1 : k ≡ 1 → ⊥) where
+    module _ (n0 : k ≡ 0 → ⊥) (n7 : k ≤ 7) (n1 : k ≡ 1 → ⊥) where
       pub scope-high : n ≤ x → false ≡ nodeScoped T b n
-      unfolding nodeScoped course nodeScope
-      scope-high l = rw (← hk, ne-eqb k 0 n0, ne-eqb k 1 n1, ← hx, upto-above false (nodeScope T b) n x l)
+      scope-high l = rw (node-scope, ← hk, ne-eqb k 0 n0, ne-eqb k 1 n1, le-leb k 7 n7, ← hx, upto-above false (nodeScope T b) n x l)
 
       module _ (c : Bool) (l : x < n) (hc : c ≡ nodeScoped T b x) where
         -- what the definition comes to
-        go-on : (r : Bool) → r ≡ pick c (pick (hasSecond T n) (upto false (nodeScope T b) n (nodeQ T n)) true) false → r ≡ nodeScoped T b n
-        unfolding nodeScoped course nodeScope
-        go-on r e = rw (← hk, ne-eqb k 0 n0, ne-eqb k 1 n1, ← hx, upto-below false (nodeScope T b) n x l, ← hc) e
+        go-on : (r : Bool) → r ≡ pick c (pick (names 5 (held T 5 n 2)) (upto false (nodeScope T b) n (nodeQ T n)) true) false → r ≡ nodeScoped T b n
+        go-on r e =
+            rw (node-scope, ← hk, ne-eqb k 0 n0, ne-eqb k 1 n1, le-leb k 7 n7, ← hx, before T b n x l, ← hc) e
 
         pub scope-not : c ≡ false → false ≡ nodeScoped T b n
         scope-not e = go-on false (rw e)
 
-        module _ (a : Bool) (ha : a ≡ hasSecond T n) (e : c ≡ true) where
+        module _ (a : Bool) (ha : a ≡ names 5 (held T 5 n 2)) (e : c ≡ true) where
           pub scope-one : a ≡ false → true ≡ nodeScoped T b n
           scope-one d = go-on true (rw (e, ← ha, d))
 
@@ -57,10 +65,9 @@ module _ (T : Table) (b n k : ℕ) (hk : k ≡ nodeKind T n) where
             scope-second-high m = go-on false (rw (e, ← ha, d, ← hy, upto-above false (nodeScope T b) n y m))
 
             pub scope-two : (r : Bool) → y < n → r ≡ nodeScoped T b y → r ≡ nodeScoped T b n
-            unfolding nodeScoped
-            scope-two r m g = go-on r (rw (e, ← ha, d, ← hy, upto-below false (nodeScope T b) n y m) g)
+            scope-two r m g = go-on r (rw (e, ← ha, d, ← hy, before T b n y m) g)
 
-pub ruleset scopes = (scope-constant, scope-whole, scope-high, scope-not, scope-one, scope-second-high, scope-two)
+pub ruleset scopes = (scope-constant, scope-none, scope-whole, scope-high, scope-not, scope-one, scope-second-high, scope-two)
 
 -- tests with locals
 pub of-among : (T : Table) (b x f v : ℕ) → f ≡ firstVar T b → v ≡ vars T b → ltb x (f + v) ≡ ltb x (firstVar T b + vars T b)

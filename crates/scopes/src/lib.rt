@@ -1,12 +1,14 @@
 // Refusal 8: a variable is its block's or its owner's, and a local call stays in its module.
+use code::kinds;
 ghost use mathlib.Core.Path.{_≡_};
 ghost use Prim.Native.Nat.{_+_, _≤_, _<_};
 ghost use Rattle.basics.specs.Choice.{allBelow};
 ghost use Rattle.code.specs.Code.{decoded, Decodes};
 ghost use Rattle.table.specs.Entries.{stmtA, stmtB};
 ghost use Rattle.nesting.specs.Nest.{blockStep};
-ghost use Rattle.scopes.specs.Scopes.{among, visible, hasSecond, nodeScoped, argumentsScoped, namesA, namesB, hasArguments, fieldsScoped, staysIn, stmtScoped, scoped};
-ghost use Rattle.scopes.specs.Parts.{scopedIn};
+ghost use Rattle.table.specs.Kinds.{names, held, isCall};
+ghost use Rattle.scopes.specs.Scopes.{among, visible, nodeScoped, argumentsScoped, staysIn, stmtScoped, scoped};
+ghost use Rattle.scopes.specs.Parts.{scopedIn, fieldsScoped};
 
 fn is_among(c: &code::Slots, b: usize, x: usize) -> bool
     ensures { λ r. ⌜ r ≡ among (decoded (now (c .entry))) b x ⌝ }
@@ -29,13 +31,13 @@ fn is_visible(c: &code::Slots, b: usize, x: usize) -> bool
 }
 
 fn has_second(c: &code::Slots, n: usize) -> bool
-    ensures { λ r. ⌜ r ≡ hasSecond (decoded (now (c .entry))) n ⌝ }
+    ensures { λ r. ⌜ r ≡ names 5 (held (decoded (now (c .entry))) 5 n 2) ⌝ }
 {
     let k = code::node_kind(c, n);
-    if k == 3 {
+    if k == kinds::ELEMENT {
         return true;
     }
-    k == 6
+    k == kinds::BINARY
 }
 
 // Each whole variable in node n is visible in block b. Operands stand before their node, so the recursion ends; a node is used once, so a table
@@ -44,11 +46,14 @@ fn node_scoped(c: &code::Slots, b: usize, n: usize) -> bool
     ensures { λ r. ⌜ r ≡ nodeScoped (decoded (now (c .entry))) b n ⌝ }
 {
     let k = code::node_kind(c, n);
-    if k == 0 {
+    if k == kinds::CONSTANT {
+        return true;
+    }
+    if kinds::TRANSFER < k {
         return true;
     }
     let p = code::node_p(c, n);
-    if k == 1 {
+    if k == kinds::WHOLE {
         return is_visible(c, b, p);
     }
     if n <= p {
@@ -99,48 +104,48 @@ fn arguments_scoped(
 }
 
 fn names_a(c: &code::Slots, i: usize) -> bool
-    ensures { λ r. ⌜ r ≡ namesA (decoded (now (c .entry))) i ⌝ }
+    ensures { λ r. ⌜ r ≡ names 5 (held (decoded (now (c .entry))) 6 i 1) ⌝ }
 {
     let k = code::stmt_kind(c, i);
-    if k == 1 {
+    if k == kinds::ASSIGN {
         return true;
     }
-    if k == 3 {
+    if k == kinds::PROCESS_CALL {
         return true;
     }
-    if k == 4 {
+    if k == kinds::CREATE {
         return true;
     }
-    if k == 5 {
+    if k == kinds::START {
         return true;
     }
-    if k == 10 {
+    if k == kinds::ARM {
         return true;
     }
-    k == 12
+    k == kinds::WRITE
 }
 
 fn names_b(c: &code::Slots, i: usize) -> bool
-    ensures { λ r. ⌜ r ≡ namesB (decoded (now (c .entry))) i ⌝ }
+    ensures { λ r. ⌜ r ≡ names 5 (held (decoded (now (c .entry))) 6 i 2) ⌝ }
 {
     let k = code::stmt_kind(c, i);
-    if k == 1 {
+    if k == kinds::ASSIGN {
         return true;
     }
-    k == 12
+    k == kinds::WRITE
 }
 
 fn has_arguments(c: &code::Slots, i: usize) -> bool
-    ensures { λ r. ⌜ r ≡ hasArguments (decoded (now (c .entry))) i ⌝ }
+    ensures { λ r. ⌜ r ≡ isCall (decoded (now (c .entry))) i ⌝ }
 {
     let k = code::stmt_kind(c, i);
-    if k == 2 {
+    if k == kinds::LOCAL_CALL {
         return true;
     }
-    if k == 3 {
+    if k == kinds::PROCESS_CALL {
         return true;
     }
-    k == 5
+    k == kinds::START
 }
 
 // The nodes that the fields of statement i name.
@@ -175,7 +180,7 @@ fn fields_scoped(c: &code::Slots, i: usize, b: usize) -> bool
 fn stays_in(c: &code::Slots, i: usize, b: usize) -> bool
     ensures { λ r. ⌜ r ≡ staysIn (decoded (now (c .entry))) i b ⌝ }
 {
-    if code::stmt_kind(c, i) == 2 {
+    if code::stmt_kind(c, i) == kinds::LOCAL_CALL {
         let to = code::block_owner(c, code::stmt_a(c, i));
         let from = code::block_owner(c, b);
         return to == from;
@@ -204,7 +209,7 @@ fn block_step(c: &code::Slots, i: usize, b: usize) -> usize
     requires { ⌜ b < 65536 ⌝ }
     ensures { λ r. ⌜ (r ≡ blockStep (decoded (now (c .entry))) i b) × (r ≤ b + 1) ⌝ }
 {
-    if code::stmt_kind(c, i) == 13 {
+    if code::stmt_kind(c, i) == kinds::BLOCK_END {
         return b + 1;
     }
     b

@@ -72,10 +72,10 @@ module _ (T : Table) (acc : Accepted T) (L : PlaceLaws T) (W : WordTable T) (m :
     -- one node, where r gives the outcomes of those before it
     module _ (n : ℕ) (l : n < nodeCount T) (c : scope n) (r : ℕ → Outcome Operand) (h : (k : ℕ) → k < n → scope k → GoodNode T m p k (r k)) where
       variable-before : 2 ≤ nodeKind T n → Variable T n (nodeP T n) → GoodPlace T m p (typeOf T (nodeP T n)) (r (nodeP T n))
-      variable-before k v = h (nodeP T n) (v .below) (S .first n c k) .variable (v .low) (v .high)
+      variable-before k v = h (nodeP T n) (v .below) (S .first n c k (known.node-kind T (acc .kinds) n l)) .variable (v .low) (v .high)
 
       expression-before : 2 ≤ nodeKind T n → Expression T n (nodeP T n) → GoodValue T m (typeOf T (nodeP T n)) (r (nodeP T n))
-      expression-before k v = h (nodeP T n) (v .below) (S .first n c k) .expression (v .sort)
+      expression-before k v = h (nodeP T n) (v .below) (S .first n c k (known.node-kind T (acc .kinds) n l)) .expression (v .sort)
 
       constant-node : nodeKind T n ≡ 0 → GoodValue T m (typeOf T n) (nodeOperand T m page (contextOf m p) r (nodeAt T n))
       unfolding nodeOf nodeOperand

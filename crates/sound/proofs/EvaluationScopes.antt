@@ -40,7 +40,7 @@ module _ (T : Table) (acc : Accepted T) where
               ⊎-elim (λ a. among-belongs b (nodeP T n) there a)
               (λ a. no-true (sym e ∙ among-belongs (owner T b) (nodeP T n) (owner-there T (acc .numbers) b there) a))
               (scopes.whole T b n c k);
-          first = λ n c k. scopes.operand-scoped T b n c k;
+          first = λ n c k u. scopes.operand-scoped T b n c k u;
           index = λ n c k. scopes.index-scoped T b n c k .1;
           second = λ n c k. scopes.second-scoped T b n c k .1;
         }

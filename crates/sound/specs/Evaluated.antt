@@ -55,7 +55,7 @@ pub record GoodNode (T : Table) (m : Memory) (p n : ℕ) (o : Outcome Operand) :
 -- which nodes are in the scope of block b: with a node its operands are, and a whole variable is the owner's or the block's
 pub record Scoping (T : Table) (b : ℕ) (scope : ℕ → Type 0) : Type 0 where
   pub whole : (n : ℕ) → scope n → nodeKind T n ≡ 1 → belongs T (owner T b) (nodeP T n) ≡ false → belongs T b (nodeP T n) ≡ true
-  pub first : (n : ℕ) → scope n → 2 ≤ nodeKind T n → scope (nodeP T n)
+  pub first : (n : ℕ) → scope n → 2 ≤ nodeKind T n → nodeKind T n ≤ 7 → scope (nodeP T n)
   pub index : (n : ℕ) → scope n → nodeKind T n ≡ 3 → scope (nodeQ T n)
   pub second : (n : ℕ) → scope n → nodeKind T n ≡ 6 → scope (nodeQ T n)
 

@@ -1,3 +1,5 @@
+pub mod EachKind
+pub mod EachField
 pub mod Shapes
 pub mod Numbers
 pub mod Cells

@@ -4,13 +4,14 @@ use mathlib.Core.Path.{_≡_, refl}
 use mathlib.Core.Bool.{true, false}
 use mathlib.Core.List.{List, [], _∷_}
 use lib.ListN.{length, getD}
-use Rattle.basics.specs.Choice.{both, allBelow}
+use Rattle.basics.specs.Choice.{both, allBelow, between}
 use Rattle.basics.specs.Course.{upto, course}
 use Rattle.table.specs.Table.{Table}
 use Rattle.table.specs.Entries.{declared}
 use Rattle.types.specs.Types.{unaryType, binaryType, operandType, nodeType, typeOf}
 use Rattle.types.specs.Match.{offset, span, elements, isString, matches, inStandard}
-use Rattle.typing.specs.Typing.{isVariable, isExpression, unaryTyped, alikeTyped, binaryTyped, nodeTyped, argumentTyped, parameterTyped, argumentsTyped, callTyped, stmtTyped, paramsSimple, typed}
+use Rattle.table.specs.Kinds.{variableKind, expressionKind}
+use Rattle.typing.specs.Typing.{unaryTyped, alikeTyped, binaryTyped, nodeTyped, argumentTyped, parameterTyped, argumentsTyped, callTyped, stmtTyped, paramsSimple, typed}
 
 -- the table of these rows, section by section
 rowsTable : List (List (List ℕ)) → Table
@@ -70,5 +71,5 @@ programs :
     × (typed (sampleProgram 12 2) ≡ true)
     × (typed (sampleProgram 1 2) ≡ false)
     × (typed (sampleProgram 7 1) ≡ false)
-unfolding rowsTable sampleProgram typed allBelow both nodeTyped stmtTyped paramsSimple inStandard unaryTyped binaryTyped alikeTyped callTyped argumentsTyped parameterTyped argumentTyped isVariable isExpression typeOf course upto nodeType operandType binaryType unaryType matches isString declared
+unfolding rowsTable sampleProgram typed allBelow both nodeTyped stmtTyped paramsSimple inStandard unaryTyped binaryTyped alikeTyped callTyped argumentsTyped parameterTyped argumentTyped variableKind expressionKind between typeOf course upto nodeType operandType binaryType unaryType matches isString declared
 programs = (refl, refl, refl, refl)

@@ -5,14 +5,15 @@ use mathlib.Core.Bool.{Bool, true, false}
 use lib.Dec.{eqb, leb}
 use borrow.Author.Tests.{eqb-true, leb-true, ne-eqb, le-leb, lt-leb}
 use native.Mathlib.Omega.{arith}
-use Rattle.basics.specs.Choice.{pick, allBelow}
+use Rattle.basics.specs.Choice.{pick, allBelow, both, between}
 use Rattle.basics.specs.Cases.{cases}
 use Rattle.basics.proofs.Bools.{no-true, all-at}
 use Rattle.table.specs.Table.{Table}
 use Rattle.table.specs.Entries.{typeKind, typeP, varMode, varType, blockKind, owner, firstVar, params, argNode, nodeKind, nodeP, nodeQ, nodeV, stmtKind, stmtA, stmtB, stmtC, stmtD, nodeCount, stmtCount, blockCount}
 use Rattle.types.specs.Types.{typeOf}
 use Rattle.types.specs.Match.{matches, inStandard}
-use Rattle.typing.specs.Typing.{isVariable, isExpression, elementTyped, unaryTyped, alikeTyped, binaryTyped, nodeTyped, argumentTyped, parameterTyped, argumentsTyped, processCallTyped, startTyped, callTyped, writeTyped, stmtTyped, simple, paramSimple, paramsSimple, typed}
+use Rattle.table.specs.Kinds.{variableKind, expressionKind}
+use Rattle.typing.specs.Typing.{elementTyped, unaryTyped, alikeTyped, binaryTyped, nodeTyped, argumentTyped, parameterTyped, argumentsTyped, processCallTyped, startTyped, callTyped, writeTyped, stmtTyped, simple, paramSimple, paramsSimple, typed}
 
 -- the argument node n suits the parameter x
 pub record Suits (T : Table) (x n : ℕ) : Type 0 where
@@ -38,12 +39,12 @@ next true d h = h
 next false d h = no-true h
 
 module _ (T : Table) where
-  variable-kinds : (n : ℕ) → isVariable T n ≡ true → (1 ≤ nodeKind T n) × (nodeKind T n ≤ 3)
-  unfolding isVariable
+  variable-kinds : (n : ℕ) → variableKind (nodeKind T n) ≡ true → (1 ≤ nodeKind T n) × (nodeKind T n ≤ 3)
+  unfolding variableKind between both
   variable-kinds n h = (leb-true 1 (nodeKind T n) (first _ _ h), leb-true (nodeKind T n) 3 (next (leb 1 (nodeKind T n)) _ h))
 
-  expression-kinds : (n : ℕ) → isExpression T n ≡ true → (nodeKind T n ≤ 7) × (1 ≤ nodeKind T n → 4 ≤ nodeKind T n)
-  unfolding isExpression
+  expression-kinds : (n : ℕ) → expressionKind (nodeKind T n) ≡ true → (nodeKind T n ≤ 7) × (1 ≤ nodeKind T n → 4 ≤ nodeKind T n)
+  unfolding expressionKind between both
   expression-kinds n h =
       cases (eqb (nodeKind T n) 0)
       (λ e. let z = eqb-true (nodeKind T n) 0 e in (omega arith, λ l. absurd (omega arith)))
@@ -56,15 +57,15 @@ module _ (T : Table) where
   suits x n h =
       record {
         variable = λ e. variable-kinds n (first _ _ (var e));
-        same = λ e. eqb-true (typeOf T n) (varType T x) (next (isVariable T n) _ (var e));
+        same = λ e. eqb-true (typeOf T n) (varType T x) (next (variableKind (nodeKind T n)) _ (var e));
         expression = λ e. expression-kinds n (first _ _ (value e));
-        matching = λ e. next (isExpression T n) _ (value e);
+        matching = λ e. next (expressionKind (nodeKind T n)) _ (value e);
       }
     where
-      var : varMode T x ≡ 2 → pick (isVariable T n) (eqb (typeOf T n) (varType T x)) false ≡ true
+      var : varMode T x ≡ 2 → pick (variableKind (nodeKind T n)) (eqb (typeOf T n) (varType T x)) false ≡ true
       var e = rw e at h
 
-      value : (varMode T x ≡ 2 → ⊥) → pick (isExpression T n) (matches T (typeOf T n) (varType T x)) false ≡ true
+      value : (varMode T x ≡ 2 → ⊥) → pick (expressionKind (nodeKind T n)) (matches T (typeOf T n) (varType T x)) false ≡ true
       value e = rw (ne-eqb (varMode T x) 2 e) at h
 
   arguments : (b c d : ℕ) → argumentsTyped T b c d ≡ true → Arguments T b c d

@@ -7,15 +7,9 @@ use lib.Dec.{eqb, leb}
 use Rattle.basics.specs.Choice.{pick, allBelow}
 use Rattle.table.specs.Table.{Table}
 use Rattle.table.specs.Entries.{typeKind, typeP, varMode, varType, blockKind, owner, firstVar, params, argNode, nodeKind, nodeP, nodeQ, nodeV, stmtKind, stmtA, stmtB, stmtC, stmtD, nodeCount, stmtCount, blockCount}
+use Rattle.table.specs.Kinds.{variableKind, expressionKind}
 use Rattle.types.specs.Types.{typeOf}
 use Rattle.types.specs.Match.{matches, inStandard}
-
--- the sorts of nodes: variables are kinds 1 to 3, expressions 0 and 4 to 7 (01, The table)
-unfoldable pub isVariable : Table → ℕ → Bool
-isVariable T n = pick (leb 1 (nodeKind T n)) (leb (nodeKind T n) 3) false
-
-unfoldable pub isExpression : Table → ℕ → Bool
-isExpression T n = pick (eqb (nodeKind T n) 0) true (pick (leb 4 (nodeKind T n)) (leb (nodeKind T n) 7) false)
 
 -- an element of a variable of type τ, its index of type σ: the index type of an array (report 8.5)
 unfoldable pub elementTyped : Table → ℕ → ℕ → Bool
@@ -51,8 +45,8 @@ nodeTyped T n =
 unfoldable pub argumentTyped : Table → ℕ → ℕ → Bool
 argumentTyped T x n =
     pick (eqb (varMode T x) 2)
-    (pick (isVariable T n) (eqb (typeOf T n) (varType T x)) false)
-    (pick (isExpression T n) (matches T (typeOf T n) (varType T x)) false)
+    (pick (variableKind (nodeKind T n)) (eqb (typeOf T n) (varType T x)) false)
+    (pick (expressionKind (nodeKind T n)) (matches T (typeOf T n) (varType T x)) false)
 
 -- argument k of a call, whose arguments begin at c, is for parameter k, of those that begin at x
 unfoldable pub parameterTyped : Table → ℕ → ℕ → ℕ → Bool

@@ -4,15 +4,16 @@ ghost use Prim.Native.Nat.{_+_, _≤_, _<_};
 ghost use Rattle.basics.specs.Choice.{allBelow};
 ghost use Rattle.types.specs.Match.{inStandard};
 ghost use Rattle.code.specs.Code.{decoded, Decodes};
-ghost use Rattle.table.specs.Entries.{nodeP, nodeQ, stmtA, stmtB, nodeCount, stmtCount, blockCount};
+ghost use Rattle.table.specs.Entries.{nodeKind, nodeP, nodeQ, stmtA, stmtB, nodeCount, stmtCount, blockCount};
+ghost use Rattle.table.specs.Kinds.{variableKind, expressionKind};
 ghost use Rattle.table.specs.Reading.{Field};
 ghost use Rattle.types.specs.Types.{typeOf};
 ghost use Rattle.types.specs.Kept.{Types};
-ghost use Rattle.typing.specs.Typing.{isVariable, isExpression, elementTyped, unaryTyped, alikeTyped, binaryTyped, nodeTyped, argumentTyped, argumentsTyped, processCallTyped, startTyped, callTyped, writeTyped, stmtTyped, simple, paramSimple, paramsSimple, typed};
+ghost use Rattle.typing.specs.Typing.{elementTyped, unaryTyped, alikeTyped, binaryTyped, nodeTyped, argumentTyped, argumentsTyped, processCallTyped, startTyped, callTyped, writeTyped, stmtTyped, simple, paramSimple, paramsSimple, typed};
 ghost use Rattle.typing.specs.Parts.{parameterIn};
 
 fn is_variable(c: &code::Slots, n: usize) -> bool
-    ensures { λ r. ⌜ r ≡ isVariable (decoded (now (c .entry))) n ⌝ }
+    ensures { λ r. ⌜ r ≡ variableKind (nodeKind (decoded (now (c .entry))) n) ⌝ }
 {
     let k = code::node_kind(c, n);
     if 1 <= k {
@@ -22,7 +23,7 @@ fn is_variable(c: &code::Slots, n: usize) -> bool
 }
 
 fn is_expression(c: &code::Slots, n: usize) -> bool
-    ensures { λ r. ⌜ r ≡ isExpression (decoded (now (c .entry))) n ⌝ }
+    ensures { λ r. ⌜ r ≡ expressionKind (nodeKind (decoded (now (c .entry))) n) ⌝ }
 {
     let k = code::node_kind(c, n);
     if k == 0 {

@@ -8,7 +8,8 @@ use lib.ListN.{length, getD}
 use Rattle.basics.specs.Choice.{pick, both, allBelow}
 use Rattle.basics.specs.Marks.{occurs, gather}
 use Rattle.table.specs.Table.{Table}
-use Rattle.uses.specs.Uses.{operands, stmtNodes, firstOf, nodeUses, stmtUses, argUses, uses, once, usedOnce}
+use Rattle.table.specs.Kinds.{rows, rowOf, held, names}
+use Rattle.uses.specs.Uses.{fieldUses, entryUses, sectionUses, uses, once, usedOnce}
 
 -- arguments, nodes (kind, p, q) and statements (kind, a, b)
 abbrev program : List (List ℕ) → List (List ℕ) → List (List ℕ) → Table
@@ -27,5 +28,5 @@ examples :
     (usedOnce (program [] nodes ((1 ∷ 0 ∷ 4 ∷ []) ∷ [])) ≡ true) × (usedOnce (program [] nodes ((1 ∷ 0 ∷ 4 ∷ []) ∷ (10 ∷ 4 ∷ 0 ∷ []) ∷ [])) ≡ false)
     × (usedOnce (program [] nodes ((4 ∷ 0 ∷ 0 ∷ []) ∷ [])) ≡ false) × (usedOnce (program ((4 ∷ []) ∷ []) nodes ((4 ∷ 0 ∷ 0 ∷ []) ∷ [])) ≡ true)
     × (usedOnce (program [] nodes ((1 ∷ 1 ∷ 4 ∷ []) ∷ [])) ≡ false)
-unfolding usedOnce allBelow both once uses gather occurs nodeUses stmtUses argUses firstOf operands stmtNodes
+unfolding usedOnce allBelow both once uses sectionUses entryUses fieldUses gather occurs names held rowOf rows
 examples = (refl, refl, refl, refl, refl)

@@ -1,3 +1,4 @@
+pub mod Rows
 pub mod Noting
 pub mod Blanks
 pub mod Promise

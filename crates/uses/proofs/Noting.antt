@@ -14,8 +14,9 @@ use Rattle.basics.specs.Loops.{marked, Seen}
 use Rattle.basics.proofs.Marking.{length-marked, seen-zeros, seen-more, gather-more}
 use Rattle.table.specs.Table.{Table}
 use Rattle.table.specs.Entries.{argCount, argNode, nodeCount, nodeKind, nodeP, nodeQ, stmtCount, stmtKind, stmtA, stmtB}
-use Rattle.uses.specs.Uses.{operandCounts, operands, stmtNodeCounts, stmtNodes, firstOf, nodeUses, stmtUses, argUses, uses, once, usedOnce}
-use Rattle.uses.specs.Marked.{markedAll, Blank, oneMark}
+use Rattle.uses.specs.Uses.{entryUses, sectionUses, uses, once, usedOnce}
+use Rattle.uses.specs.Marked.{operandCounts, operands, stmtNodeCounts, stmtNodes, firstOf, markedAll, Blank, oneMark}
+use Rattle.uses.proofs.Rows.{node-uses, stmt-uses, arg-uses, uses-are}
 
 pub operands-none : (k : ℕ) → 8 ≤ k → 0 ≡ operands k
 unfolding operands
@@ -35,23 +36,21 @@ module _ (k x y : ℕ) (seen : List ℕ) where
   unfolding firstOf markedAll
   first-one l e h = rw e h
 
-  pub first-both : (l m : List ℕ) → (k ≡ 0 → ⊥) → (k ≡ 1 → ⊥) → l ≡ marked y seen → m ≡ marked x l → m ≡ markedAll (firstOf k x y) seen
+  pub first-both : (l m : List ℕ) → (k ≡ 0 → ⊥) → (k ≡ 1 → ⊥) → l ≡ marked x seen → m ≡ marked y l → m ≡ markedAll (firstOf k x y) seen
   unfolding firstOf markedAll
   first-both l m e f h g = rw (ne-eqb k 0 e, ne-eqb k 1 f, ← h) g
 
 -- the uses in one row
 module _ (T : Table) (i : ℕ) (seen l : List ℕ) where
-  pub node-marks : (c k p q : ℕ) → c ≡ nodeKind T i → k ≡ operands c → p ≡ nodeP T i → q ≡ nodeQ T i → l ≡ markedAll (firstOf k p q) seen → l ≡ markedAll (nodeUses T i) seen
-  unfolding nodeUses
-  node-marks c k p q d e f g h = rw (← d, ← e, ← f, ← g) h
+  pub node-marks : (c k p q : ℕ) → c ≡ nodeKind T i → k ≡ operands c → p ≡ nodeP T i → q ≡ nodeQ T i → l ≡ markedAll (firstOf k p q) seen → l ≡ markedAll (entryUses T 5 i) seen
+  node-marks c k p q d e f g h = rw (node-uses, ← d, ← e, ← f, ← g) h
 
-  pub stmt-marks : (c k a b : ℕ) → c ≡ stmtKind T i → k ≡ stmtNodes c → a ≡ stmtA T i → b ≡ stmtB T i → l ≡ markedAll (firstOf k a b) seen → l ≡ markedAll (stmtUses T i) seen
-  unfolding stmtUses
-  stmt-marks c k p q d e f g h = rw (← d, ← e, ← f, ← g) h
+  pub stmt-marks : (c k a b : ℕ) → c ≡ stmtKind T i → k ≡ stmtNodes c → a ≡ stmtA T i → b ≡ stmtB T i → l ≡ markedAll (firstOf k a b) seen → l ≡ markedAll (entryUses T 6 i) seen
+  stmt-marks c k p q d e f g h = rw (stmt-uses, ← d, ← e, ← f, ← g) h
 
-  pub arg-marks : (a : ℕ) → a ≡ argNode T i → l ≡ marked a seen → l ≡ markedAll (argUses T i) seen
-  unfolding argUses markedAll
-  arg-marks a e h = rw (← e) h
+  pub arg-marks : (a : ℕ) → a ≡ argNode T i → l ≡ marked a seen → l ≡ markedAll (entryUses T 4 i) seen
+  unfolding markedAll
+  arg-marks a e h = rw (arg-uses, ← e) h
 
 pub length-all : (l seen : List ℕ) → length (markedAll l seen) ≡ length seen
 unfolding markedAll
@@ -101,12 +100,12 @@ module _ (l seen : List ℕ) (s : Seen l seen) where
 
 -- the rule
 module _ (T : Table) (s0 s1 s2 s3 : List ℕ) (z : Blank (nodeCount T) s0)
-    (e1 : s1 ≡ markedAll (gather (nodeUses T) (nodeCount T)) s0)
-    (e2 : s2 ≡ markedAll (gather (stmtUses T) (stmtCount T)) s1)
-    (e3 : s3 ≡ markedAll (gather (argUses T) (argCount T)) s2) where
+    (e1 : s1 ≡ markedAll (gather (entryUses T 4) (argCount T)) s0)
+    (e2 : s2 ≡ markedAll (gather (entryUses T 5) (nodeCount T)) s1)
+    (e3 : s3 ≡ markedAll (gather (entryUses T 6) (stmtCount T)) s2) where
   together : s3 ≡ markedAll (uses T) s0
-  unfolding uses
-  together = rw (marked-append (gather (argUses T) (argCount T)) (gather (stmtUses T) (stmtCount T) ++ gather (nodeUses T) (nodeCount T)) s0, marked-append (gather (stmtUses T) (stmtCount T)) (gather (nodeUses T) (nodeCount T)) s0, ← e1, ← e2) e3
+  unfolding sectionUses
+  together = rw (uses-are, marked-append (gather (entryUses T 6) (stmtCount T)) (gather (entryUses T 5) (nodeCount T) ++ gather (entryUses T 4) (argCount T)) s0, marked-append (gather (entryUses T 5) (nodeCount T)) (gather (entryUses T 4) (argCount T)) s0, ← e1, ← e2) e3
 
   seen : Seen (uses T) s3
   seen = rw together (rw append-nil at (seen-all (uses T) [] s0 (seen-zeros s0 (z .zeros))))

@@ -12,7 +12,8 @@ use Rattle.basics.specs.Marks.{occurs, gather}
 use Rattle.basics.proofs.Bools.{all-at}
 use Rattle.table.specs.Table.{Table}
 use Rattle.table.specs.Entries.{argCount, nodeCount, stmtCount}
-use Rattle.uses.specs.Uses.{nodeUses, stmtUses, argUses, uses, once, usedOnce}
+use Rattle.uses.specs.Uses.{entryUses, sectionUses, uses, once, usedOnce}
+use Rattle.uses.proofs.Rows.{uses-are}
 
 pub occurs-append : (x : ℕ) (a b : List ℕ) → occurs x (a ++ b) ≡ occurs x a + occurs x b
 unfolding occurs
@@ -67,26 +68,27 @@ module _ (T : Table) (h : usedOnce T ≡ true) (n : ℕ) (l : n < nodeCount T) w
   used = eqb-true (occurs n (uses T)) 1 (all-at (nodeCount T) (once (uses T)) h n l)
 
   -- its use is in one of the three sections
-  sum : occurs n (gather (argUses T) (argCount T)) + (occurs n (gather (stmtUses T) (stmtCount T)) + occurs n (gather (nodeUses T) (nodeCount T))) ≡ 1
-  unfolding uses
+  sum : occurs n (gather (entryUses T 4) (argCount T)) + (occurs n (gather (entryUses T 6) (stmtCount T)) + occurs n (gather (entryUses T 5) (nodeCount T))) ≡ 1
+  unfolding sectionUses
   sum =
-      let a = occurs-append n (gather (argUses T) (argCount T)) (gather (stmtUses T) (stmtCount T) ++ gather (nodeUses T) (nodeCount T)) in
-      let b = occurs-append n (gather (stmtUses T) (stmtCount T)) (gather (nodeUses T) (nodeCount T)) in
-      omega (arith, used)
+      let a = occurs-append n (gather (entryUses T 6) (stmtCount T)) (gather (entryUses T 5) (nodeCount T) ++ gather (entryUses T 4) (argCount T)) in
+      let b = occurs-append n (gather (entryUses T 5) (nodeCount T)) (gather (entryUses T 4) (argCount T)) in
+      let u : occurs n (gather (entryUses T 6) (stmtCount T) ++ (gather (entryUses T 5) (nodeCount T) ++ gather (entryUses T 4) (argCount T))) ≡ 1 = rw uses-are at used in
+      omega (arith, u)
 
-  pub user : ((i : ℕ) × (i < argCount T) × Names n (argUses T) i) ⊎ ((i : ℕ) × (i < stmtCount T) × Names n (stmtUses T) i) ⊎ ((i : ℕ) × (i < nodeCount T) × Names n (nodeUses T) i)
+  pub user : ((i : ℕ) × (i < argCount T) × Names n (entryUses T 4) i) ⊎ ((i : ℕ) × (i < stmtCount T) × Names n (entryUses T 6) i) ⊎ ((i : ℕ) × (i < nodeCount T) × Names n (entryUses T 5) i)
   user =
-      cases (ltb 0 (occurs n (gather (argUses T) (argCount T)))) (λ e. inl (gather-some n (argUses T) (argCount T) (ltb-true 0 _ e)))
+      cases (ltb 0 (occurs n (gather (entryUses T 4) (argCount T)))) (λ e. inl (gather-some n (entryUses T 4) (argCount T) (ltb-true 0 _ e)))
       (λ e.
-      cases (ltb 0 (occurs n (gather (stmtUses T) (stmtCount T)))) (λ d. inr (inl (gather-some n (stmtUses T) (stmtCount T) (ltb-true 0 _ d))))
-      (λ d. inr (inr (gather-some n (nodeUses T) (nodeCount T) (omega (arith, sum, ltb-false 0 (occurs n (gather (argUses T) (argCount T))) e, ltb-false 0 (occurs n (gather (stmtUses T) (stmtCount T))) d))))))
+      cases (ltb 0 (occurs n (gather (entryUses T 6) (stmtCount T)))) (λ d. inr (inl (gather-some n (entryUses T 6) (stmtCount T) (ltb-true 0 _ d))))
+      (λ d. inr (inr (gather-some n (entryUses T 5) (nodeCount T) (omega (arith, sum, ltb-false 0 (occurs n (gather (entryUses T 4) (argCount T))) e, ltb-false 0 (occurs n (gather (entryUses T 6) (stmtCount T))) d))))))
 
   -- and no other row uses it
-  pub same-arg : (i k : ℕ) → i < argCount T → k < argCount T → Names n (argUses T) i → Names n (argUses T) k → i ≡ k
-  same-arg i k p q a b = gather-same n (argUses T) (argCount T) i k p q (omega (arith, sum)) a b
+  pub same-arg : (i k : ℕ) → i < argCount T → k < argCount T → Names n (entryUses T 4) i → Names n (entryUses T 4) k → i ≡ k
+  same-arg i k p q a b = gather-same n (entryUses T 4) (argCount T) i k p q (omega (arith, sum)) a b
 
-  pub same-stmt : (i k : ℕ) → i < stmtCount T → k < stmtCount T → Names n (stmtUses T) i → Names n (stmtUses T) k → i ≡ k
-  same-stmt i k p q a b = gather-same n (stmtUses T) (stmtCount T) i k p q (omega (arith, sum)) a b
+  pub same-stmt : (i k : ℕ) → i < stmtCount T → k < stmtCount T → Names n (entryUses T 6) i → Names n (entryUses T 6) k → i ≡ k
+  same-stmt i k p q a b = gather-same n (entryUses T 6) (stmtCount T) i k p q (omega (arith, sum)) a b
 
-  pub same-node : (i k : ℕ) → i < nodeCount T → k < nodeCount T → Names n (nodeUses T) i → Names n (nodeUses T) k → i ≡ k
-  same-node i k p q a b = gather-same n (nodeUses T) (nodeCount T) i k p q (omega (arith, sum)) a b
+  pub same-node : (i k : ℕ) → i < nodeCount T → k < nodeCount T → Names n (entryUses T 5) i → Names n (entryUses T 5) k → i ≡ k
+  same-node i k p q a b = gather-same n (entryUses T 5) (nodeCount T) i k p q (omega (arith, sum)) a b

@@ -11,6 +11,7 @@ use Rattle.table.specs.Bytes as tableBytes
 use Rattle.table.specs.Empty as tableEmpty
 use Rattle.table.specs.Table as tableTable
 use Rattle.table.specs.Entries as tableEntries
+use Rattle.table.specs.Kinds as tableKinds
 use Rattle.types.specs.Types as typesTypes
 use Rattle.types.specs.Match as typesMatch
 use Rattle.entries.specs.Known as entriesKnown
@@ -26,7 +27,6 @@ use Rattle.nesting.specs.Blocks as nestingBlocks
 use Rattle.sizes.specs.Sizes as sizesSizes
 use Rattle.sizes.specs.Kept as sizesKept
 use Rattle.scopes.specs.Scopes as scopesScopes
-use Rattle.scopes.specs.Parts as scopesParts
 use Rattle.typing.specs.Typing as typingTyping
 use Rattle.typing.specs.Parts as typingParts
 use Rattle.verdict.specs.Verdict.{judgedLate, judgedUses, judged, judgedBytes, verdict}
@@ -91,5 +91,5 @@ pub examples :
     × (verdict 1 assigned ≡ 8)
     × (verdict 1 (guarded (0 ∷ 1 ∷ 0 ∷ 1 ∷ 0 ∷ [])) ≡ 0)
     × (verdict 1 (guarded (0 ∷ 0 ∷ 0 ∷ 1 ∷ 0 ∷ [])) ≡ 9)
-unfolding basicsChoice.both basicsChoice.either basicsChoice.between basicsChoice.allBelow basicsCourse.upto basicsCourse.course basicsChain.free basicsChain.carried basicsChain.chained basicsChain.stepTake basicsChain.testTake basicsChain.taken basicsChain.always basicsMarks.occurs basicsMarks.gather basicsLoops.marked tableBytes.shorts tableBytes.words tableBytes.rowSize tableBytes.fieldAt tableBytes.fieldWidth tableBytes.sectionEnd tableBytes.sectionFits tableBytes.whole tableBytes.begins tableTable.countAt tableTable.cellAt tableTable.tableAt tableEmpty.field tableEmpty.fieldsOf tableEmpty.listing tableEmpty.bytesRead tableEntries.declared typesTypes.fieldOf typesTypes.elementOf typesTypes.unaryType typesTypes.binaryType typesTypes.operandType typesTypes.nodeType typesTypes.typeOf typesMatch.offset typesMatch.span typesMatch.elements typesMatch.isString typesMatch.matches entriesKnown.spare entriesKnown.typeKnown entriesKnown.varKnown entriesKnown.blockKnown entriesKnown.usesQ entriesKnown.usesV entriesKnown.operatorKnown entriesKnown.nodeKnown entriesKnown.usesA entriesKnown.usesB entriesKnown.usesArgs entriesKnown.usesLink entriesKnown.operandsKnown entriesKnown.argsKnown entriesKnown.stmtKnown entriesKnown.declarationsKnown entriesKnown.known numbersSorts.variableKind numbersSorts.expressionKind numbersSorts.variableBelow numbersSorts.expressionBelow numbersSorts.blockOf numbersDeclarations.isRecord numbersDeclarations.recordFirst numbersDeclarations.recordCount numbersDeclarations.fieldsTaken numbersDeclarations.fieldBelow numbersDeclarations.recordRanged numbersDeclarations.arrayRanged numbersDeclarations.typeRanged numbersDeclarations.moduleOf numbersDeclarations.named numbersDeclarations.namedOnce numbersDeclarations.modulesOnce numbersDeclarations.varRanged numbersBlocks.variablesTaken numbersBlocks.programPlaced numbersBlocks.ownerRanged numbersBlocks.spaceRanged numbersBlocks.modePlaced numbersBlocks.variablesPlaced numbersBlocks.blockPlaced numbersBlocks.blockRanged numbersOperands.argRanged numbersOperands.pRanged numbersOperands.placeRanged numbersOperands.qRanged numbersOperands.nodeRanged numbersOperands.aVariable numbersOperands.aExpression numbersOperands.aBlock numbersOperands.aRanged numbersOperands.bExpression numbersOperands.bRanged numbersOperands.linkRanged numbersOperands.stmtRanged numbersOperands.isCall numbersOperands.callFirst numbersOperands.callCount numbersOperands.argumentsTaken numbersRanges.inOrder numbersRanges.typesRanged numbersRanges.declarationsRanged numbersRanges.operandsRanged numbersRanges.inRange numbersMarking.moduleMarked usesUses.operands usesUses.stmtNodes usesUses.firstOf usesUses.nodeUses usesUses.stmtUses usesUses.argUses usesUses.uses usesUses.once usesUses.usedOnce nestingNest.classOf nestingNest.class nestingNest.stmtEnd nestingNest.bodyFrom nestingNest.armEnd nestingNest.closed nestingNest.armsFrom nestingNest.finished nestingNest.blockEnd nestingNest.blockOk nestingNest.nested nestingNest.blockStep nestingBlocks.blockOf tableEntries.stmtLimit nestingNest.bodyEnd nestingNest.armsEnd sizesSizes.sumBelow sizesSizes.fieldsWords sizesSizes.typeWords sizesSizes.wordsOf sizesSizes.partWords sizesSizes.offsetIn typesMatch.inStandard sizesSizes.boundsOk sizesSizes.evenString sizesSizes.typeOk sizesSizes.typeSized sizesSizes.typesSized sizesSizes.varOffset sizesSizes.moduleWords sizesSizes.blockSized sizesSizes.blocksSized sizesSizes.sized sizesKept.kept scopesScopes.among scopesScopes.visible scopesScopes.hasSecond scopesScopes.nodeScope scopesScopes.nodeScoped scopesScopes.argumentScoped scopesScopes.argumentsScoped scopesScopes.namesA scopesScopes.namesB scopesScopes.hasArguments scopesScopes.fieldsScoped scopesScopes.staysIn scopesScopes.stmtScoped scopesScopes.scoped scopesParts.scopedIn typingTyping.isVariable typingTyping.isExpression typingTyping.elementTyped typingTyping.unaryTyped typingTyping.alikeTyped typingTyping.binaryTyped typingTyping.nodeTyped typingTyping.argumentTyped typingTyping.parameterTyped typingTyping.argumentsTyped typingTyping.processCallTyped typingTyping.startTyped typingTyping.callTyped typingTyping.writeTyped typingTyping.stmtTyped typingTyping.simple typingTyping.paramSimple typingTyping.paramsSimple typingTyping.typed typingParts.parameterIn judgedLate judgedUses judged judgedBytes verdict
+unfolding basicsChoice.both basicsChoice.either basicsChoice.between basicsChoice.allBelow basicsCourse.upto basicsCourse.course basicsChain.free basicsChain.carried basicsChain.chained basicsChain.stepTake basicsChain.testTake basicsChain.taken basicsChain.always basicsMarks.occurs basicsMarks.gather basicsLoops.marked tableBytes.shorts tableBytes.words tableBytes.rowSize tableBytes.fieldAt tableBytes.fieldWidth tableBytes.sectionEnd tableBytes.sectionFits tableBytes.whole tableBytes.begins tableTable.countAt tableTable.cellAt tableTable.tableAt tableEmpty.field tableEmpty.fieldsOf tableEmpty.listing tableEmpty.bytesRead tableEntries.declared typesTypes.fieldOf typesTypes.elementOf typesTypes.unaryType typesTypes.binaryType typesTypes.operandType typesTypes.nodeType typesTypes.typeOf typesMatch.offset typesMatch.span typesMatch.elements typesMatch.isString typesMatch.matches tableKinds.variableKind tableKinds.expressionKind tableKinds.rows tableKinds.rowOf tableKinds.held tableKinds.eachField tableKinds.names tableKinds.isCall entriesKnown.fieldKnown entriesKnown.entryKnown entriesKnown.sectionKnown entriesKnown.known numbersSorts.nameable numbersSorts.limit numbersSorts.fieldRanged numbersSorts.entryRanged numbersDeclarations.isRecord numbersDeclarations.recordFirst numbersDeclarations.recordCount numbersDeclarations.fieldsTaken numbersDeclarations.fieldBelow numbersDeclarations.recordRanged numbersDeclarations.typeRanged numbersDeclarations.moduleOf numbersDeclarations.named numbersDeclarations.namedOnce numbersDeclarations.modulesOnce numbersBlocks.variablesTaken numbersBlocks.programPlaced numbersBlocks.ownerRanged numbersBlocks.spaceRanged numbersBlocks.modePlaced numbersBlocks.variablesPlaced numbersBlocks.blockPlaced numbersBlocks.blockRanged numbersOperands.placeRanged numbersOperands.nodeRanged numbersOperands.callFirst numbersOperands.callCount numbersOperands.argumentsTaken numbersRanges.inOrder numbersRanges.typesRanged numbersRanges.declarationsRanged numbersRanges.operandsRanged numbersRanges.inRange numbersMarking.moduleMarked usesUses.fieldUses usesUses.entryUses usesUses.sectionUses usesUses.uses usesUses.once usesUses.usedOnce nestingNest.classOf nestingNest.class nestingNest.stmtEnd nestingNest.bodyFrom nestingNest.armEnd nestingNest.closed nestingNest.armsFrom nestingNest.finished nestingNest.blockEnd nestingNest.blockOk nestingNest.nested nestingNest.blockStep nestingBlocks.blockOf tableEntries.stmtLimit nestingNest.bodyEnd nestingNest.armsEnd sizesSizes.sumBelow sizesSizes.fieldsWords sizesSizes.typeWords sizesSizes.wordsOf sizesSizes.partWords sizesSizes.offsetIn typesMatch.inStandard sizesSizes.boundsOk sizesSizes.evenString sizesSizes.typeOk sizesSizes.typeSized sizesSizes.typesSized sizesSizes.varOffset sizesSizes.moduleWords sizesSizes.blockSized sizesSizes.blocksSized sizesSizes.sized sizesKept.kept scopesScopes.among scopesScopes.visible scopesScopes.fieldScoped scopesScopes.nodeScope scopesScopes.nodeScoped scopesScopes.argumentScoped scopesScopes.argumentsScoped scopesScopes.staysIn scopesScopes.stmtScoped scopesScopes.scoped typingTyping.elementTyped typingTyping.unaryTyped typingTyping.alikeTyped typingTyping.binaryTyped typingTyping.nodeTyped typingTyping.argumentTyped typingTyping.parameterTyped typingTyping.argumentsTyped typingTyping.processCallTyped typingTyping.startTyped typingTyping.callTyped typingTyping.writeTyped typingTyping.stmtTyped typingTyping.simple typingTyping.paramSimple typingTyping.paramsSimple typingTyping.typed typingParts.parameterIn judgedLate judgedUses judged judgedBytes verdict
 examples = (refl, refl, refl, refl, refl, refl, refl, refl, refl, refl, refl, refl, refl, refl, refl)

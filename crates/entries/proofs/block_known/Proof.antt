@@ -1,4 +1,4 @@
-use Rattle.entries.specs.Known.{blockKnown}
+use Rattle.entries.specs.Tested.{blockKnown}
 use Rattle.entries.proofs.Fields.{knowns}
 use borrow.Author.Needs.{needs}
 use Rattle.entries.proofs.block_known.Statement.{statement}

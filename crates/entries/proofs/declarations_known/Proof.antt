@@ -1,5 +1,5 @@
 use Rattle.basics.specs.Choice.{both}
-use Rattle.entries.specs.Known.{declarationsKnown}
+use Rattle.entries.specs.Tested.{declarationsKnown}
 use Rattle.basics.proofs.Tests.{tests}
 use borrow.Author.Needs.{needs}
 use Rattle.entries.proofs.declarations_known.Statement.{statement}

@@ -1,5 +1,5 @@
 use Rattle.basics.specs.Choice.{both}
-use Rattle.entries.specs.Known.{nodeKnown}
+use Rattle.entries.specs.Tested.{nodeKnown}
 use Rattle.entries.proofs.Fields.{knowns}
 use borrow.Author.Needs.{needs}
 use Rattle.entries.proofs.node_known.Statement.{statement}

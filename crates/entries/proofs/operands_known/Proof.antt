@@ -1,5 +1,5 @@
 use Rattle.basics.specs.Choice.{both}
-use Rattle.entries.specs.Known.{operandsKnown}
+use Rattle.entries.specs.Tested.{operandsKnown}
 use Rattle.entries.proofs.Fields.{knowns}
 use borrow.Author.Needs.{needs}
 use Rattle.entries.proofs.operands_known.Statement.{statement}

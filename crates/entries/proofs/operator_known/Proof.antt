@@ -1,4 +1,4 @@
-use Rattle.entries.specs.Known.{operatorKnown}
+use Rattle.entries.specs.Tested.{operatorKnown}
 use Rattle.entries.proofs.Fields.{knowns}
 use borrow.Author.Needs.{needs}
 use Rattle.entries.proofs.operator_known.Statement.{statement}

@@ -1,4 +1,4 @@
-use Rattle.entries.specs.Known.{spare}
+use Rattle.entries.specs.Tested.{spare}
 use Rattle.entries.proofs.Fields.{knowns}
 use Rattle.entries.proofs.spare.Statement.{statement}
 use Rattle.entries.proofs.spare.Tie as tie

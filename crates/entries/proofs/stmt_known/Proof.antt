@@ -1,5 +1,5 @@
 use Rattle.basics.specs.Choice.{both}
-use Rattle.entries.specs.Known.{stmtKnown}
+use Rattle.entries.specs.Tested.{stmtKnown}
 use Rattle.entries.proofs.Fields.{knowns}
 use borrow.Author.Needs.{needs}
 use Rattle.entries.proofs.stmt_known.Statement.{statement}

@@ -1,5 +1,5 @@
 use Rattle.basics.specs.Choice.{both}
-use Rattle.entries.specs.Known.{typeKnown}
+use Rattle.entries.specs.Tested.{typeKnown}
 use Rattle.entries.proofs.Fields.{knowns}
 use borrow.Author.Needs.{needs}
 use Rattle.entries.proofs.type_known.Statement.{statement}

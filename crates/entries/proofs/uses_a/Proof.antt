@@ -1,4 +1,4 @@
-use Rattle.entries.specs.Known.{usesA}
+use Rattle.entries.specs.Tested.{usesA}
 use Rattle.entries.proofs.Fields.{knowns}
 use borrow.Author.Needs.{needs}
 use Rattle.entries.proofs.uses_a.Statement.{statement}

@@ -1,4 +1,4 @@
-use Rattle.entries.specs.Known.{usesArgs}
+use Rattle.entries.specs.Tested.{usesArgs}
 use Rattle.entries.proofs.Fields.{knowns}
 use borrow.Author.Needs.{needs}
 use Rattle.entries.proofs.uses_args.Statement.{statement}

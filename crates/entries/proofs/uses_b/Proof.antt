@@ -1,4 +1,4 @@
-use Rattle.entries.specs.Known.{usesB}
+use Rattle.entries.specs.Tested.{usesB}
 use Rattle.entries.proofs.Fields.{knowns}
 use Rattle.entries.proofs.uses_b.Statement.{statement}
 use Rattle.entries.proofs.uses_b.Tie as tie

@@ -1,4 +1,4 @@
-use Rattle.entries.specs.Known.{usesLink}
+use Rattle.entries.specs.Tested.{usesLink}
 use Rattle.entries.proofs.Fields.{knowns}
 use borrow.Author.Needs.{needs}
 use Rattle.entries.proofs.uses_link.Statement.{statement}

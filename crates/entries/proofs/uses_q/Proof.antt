@@ -1,4 +1,4 @@
-use Rattle.entries.specs.Known.{usesQ}
+use Rattle.entries.specs.Tested.{usesQ}
 use Rattle.entries.proofs.Fields.{knowns}
 use borrow.Author.Needs.{needs}
 use Rattle.entries.proofs.uses_q.Statement.{statement}

@@ -1,4 +1,4 @@
-use Rattle.entries.specs.Known.{usesV}
+use Rattle.entries.specs.Tested.{usesV}
 use Rattle.entries.proofs.Fields.{knowns}
 use Rattle.entries.proofs.uses_v.Statement.{statement}
 use Rattle.entries.proofs.uses_v.Tie as tie

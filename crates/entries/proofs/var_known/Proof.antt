@@ -1,4 +1,4 @@
-use Rattle.entries.specs.Known.{varKnown}
+use Rattle.entries.specs.Tested.{varKnown}
 use Rattle.entries.proofs.Fields.{knowns}
 use borrow.Author.Needs.{needs}
 use Rattle.entries.proofs.var_known.Statement.{statement}

@@ -34,17 +34,20 @@ node-scoped-node-kind-requires t c κs = search needs
 node-scoped-returns : (t : ℕ) → node-scoped-lts.Need-returns (node-scoped-uses t) (node-scoped-at t) node-scoped.Post
 node-scoped-returns t c = search scopes
 
+node-scoped-returns-2 : (t : ℕ) → node-scoped-lts.Need-returns-2 (node-scoped-uses t) (node-scoped-at t) node-scoped.Post
+node-scoped-returns-2 t c = search scopes
+
 node-scoped-node-p-requires : (t : ℕ) → node-scoped-lts.Need-node-p-requires (node-scoped-uses t) (node-scoped-at t) node-scoped.Post
 node-scoped-node-p-requires t c κs = search needs
 
 node-scoped-is-visible-requires : (t : ℕ) → node-scoped-lts.Need-is-visible-requires (node-scoped-uses t) (node-scoped-at t) node-scoped.Post
 node-scoped-is-visible-requires t c κs = search needs
 
-node-scoped-returns-2 : (t : ℕ) → node-scoped-lts.Need-returns-2 (node-scoped-uses t) (node-scoped-at t) node-scoped.Post
-node-scoped-returns-2 t c = search scopes
-
 node-scoped-returns-3 : (t : ℕ) → node-scoped-lts.Need-returns-3 (node-scoped-uses t) (node-scoped-at t) node-scoped.Post
 node-scoped-returns-3 t c = search scopes
+
+node-scoped-returns-4 : (t : ℕ) → node-scoped-lts.Need-returns-4 (node-scoped-uses t) (node-scoped-at t) node-scoped.Post
+node-scoped-returns-4 t c = search scopes
 
 node-scoped-node-scoped-requires : (t : ℕ) → node-scoped-lts.Need-node-scoped-requires (node-scoped-uses t) (node-scoped-at t) node-scoped.Post
 node-scoped-node-scoped-requires t c κs = (search needs, search needs)
@@ -55,14 +58,11 @@ node-scoped-has-second-requires t c κs = search needs
 node-scoped-node-q-requires : (t : ℕ) → node-scoped-lts.Need-node-q-requires (node-scoped-uses t) (node-scoped-at t) node-scoped.Post
 node-scoped-node-q-requires t c κs = search needs
 
-node-scoped-returns-4 : (t : ℕ) → node-scoped-lts.Need-returns-4 (node-scoped-uses t) (node-scoped-at t) node-scoped.Post
-node-scoped-returns-4 t c = search scopes
+node-scoped-returns-5 : (t : ℕ) → node-scoped-lts.Need-returns-5 (node-scoped-uses t) (node-scoped-at t) node-scoped.Post
+node-scoped-returns-5 t c = search scopes
 
 node-scoped-node-scoped-requires-2 : (t : ℕ) → node-scoped-lts.Need-node-scoped-requires-2 (node-scoped-uses t) (node-scoped-at t) node-scoped.Post
 node-scoped-node-scoped-requires-2 t c κs = (search needs, search needs)
-
-node-scoped-returns-5 : (t : ℕ) → node-scoped-lts.Need-returns-5 (node-scoped-uses t) (node-scoped-at t) node-scoped.Post
-node-scoped-returns-5 t c = search scopes
 
 node-scoped-returns-6 : (t : ℕ) → node-scoped-lts.Need-returns-6 (node-scoped-uses t) (node-scoped-at t) node-scoped.Post
 node-scoped-returns-6 t c = search scopes
@@ -70,20 +70,24 @@ node-scoped-returns-6 t c = search scopes
 node-scoped-returns-7 : (t : ℕ) → node-scoped-lts.Need-returns-7 (node-scoped-uses t) (node-scoped-at t) node-scoped.Post
 node-scoped-returns-7 t c = search scopes
 
+node-scoped-returns-8 : (t : ℕ) → node-scoped-lts.Need-returns-8 (node-scoped-uses t) (node-scoped-at t) node-scoped.Post
+node-scoped-returns-8 t c = search scopes
+
 pub +node-scoped-spec : {M : Type 1} → statement M
 +node-scoped-spec = close μ-node-scoped λ t. node-scoped-lts.spec (node-scoped-uses t) (node-scoped-at t)
     node-scoped.Post
     (node-scoped-node-kind-requires t)
     (node-scoped-returns t)
+    (node-scoped-returns-2 t)
     (node-scoped-node-p-requires t)
     (node-scoped-is-visible-requires t)
-    (node-scoped-returns-2 t)
     (node-scoped-returns-3 t)
+    (node-scoped-returns-4 t)
     (node-scoped-node-scoped-requires t)
     (node-scoped-has-second-requires t)
     (node-scoped-node-q-requires t)
-    (node-scoped-returns-4 t)
-    (node-scoped-node-scoped-requires-2 t)
     (node-scoped-returns-5 t)
+    (node-scoped-node-scoped-requires-2 t)
     (node-scoped-returns-6 t)
     (node-scoped-returns-7 t)
+    (node-scoped-returns-8 t)

@@ -1,5 +1,5 @@
 use Rattle.scopes.proofs.Scoping.{rows}
-use Rattle.scopes.specs.Scopes.{fieldsScoped}
+use Rattle.scopes.specs.Parts.{fieldsScoped}
 use borrow.Author.Needs.{needs}
 use Rattle.scopes.proofs.fields_scoped.Statement.{statement}
 use Rattle.scopes.proofs.fields_scoped.Tie as tie

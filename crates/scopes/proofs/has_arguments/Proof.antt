@@ -1,13 +1,12 @@
 use Rattle.scopes.proofs.Scoping.{rows}
-use Rattle.scopes.specs.Scopes.{hasArguments}
+use Rattle.scopes.proofs.Rows.{is-call}
 use borrow.Author.Needs.{needs}
 use Rattle.scopes.proofs.has_arguments.Statement.{statement}
 use Rattle.scopes.proofs.has_arguments.Tie as tie
 
 pub has-arguments-spec : {M : Type 1} → statement M
-unfolding hasArguments
 has-arguments-spec = tie.close (tie.spec
     (λ c κs. search needs)
-    (λ c. search rows depth 8)
-    (λ c. search rows depth 8)
-    (λ c. search rows depth 8))
+    (λ c. rw is-call (search rows depth 8))
+    (λ c. rw is-call (search rows depth 8))
+    (λ c. rw is-call (search rows depth 8)))

@@ -1,5 +1,5 @@
 use mathlib.Core.Path.{refl}
-use Rattle.uses.specs.Uses.{stmtNodes}
+use Rattle.uses.specs.Marked.{stmtNodes}
 use Rattle.uses.proofs.Noting.{nodes-none}
 use borrow.Author.Needs.{needs}
 use Rattle.uses.proofs.nodes_of.Statement.{statement}

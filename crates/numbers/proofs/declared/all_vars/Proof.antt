@@ -1,7 +1,7 @@
 use Prim.Native.Nat.{_≤_, _-_}
 use native.Mathlib.Omega.{arith}
 use Rattle.basics.specs.Loops.{Passed}
-use Rattle.numbers.specs.Declarations.{varRanged}
+use Rattle.numbers.specs.Sorts.{entryRanged}
 use Rattle.basics.proofs.Passes.{counts}
 use Rattle.code.specs.Code.{decoded}
 use borrow.Author.Needs.{needs}
@@ -9,7 +9,7 @@ use Rattle.numbers.proofs.declared.all_vars.Statement.{statement}
 use Rattle.numbers.proofs.declared.all_vars.Tie as tie
 
 abbrev Inv-loop : tie.InvT-loop
-Inv-loop c n i₀ i = (i ≤ n) × Passed (varRanged (decoded c)) i
+Inv-loop c n i₀ i = (i ≤ n) × Passed (entryRanged (decoded c) 2) i
 
 abbrev μ-loop : tie.MeasureT-loop
 μ-loop c n i₀ i = n - i

@@ -1,5 +1,5 @@
 use Rattle.basics.specs.Choice.{both}
-use Rattle.numbers.specs.Declarations.{arrayRanged}
+use Rattle.numbers.specs.Tested.{arrayRanged}
 use Rattle.numbers.proofs.Fields.{ranges}
 use borrow.Author.Needs.{needs}
 use Rattle.numbers.proofs.declared.array_ranged.Statement.{statement}

@@ -1,13 +1,12 @@
-use Rattle.numbers.specs.Declarations.{varRanged}
+use Rattle.numbers.proofs.Rows.{var-tested}
 use Rattle.numbers.proofs.Fields.{ranges}
 use borrow.Author.Needs.{needs}
 use Rattle.numbers.proofs.declared.var_ranged.Statement.{statement}
 use Rattle.numbers.proofs.declared.var_ranged.Tie as tie
 
 pub var-ranged-spec : {M : Type 1} → statement M
-unfolding varRanged
 var-ranged-spec = tie.close (tie.spec
     (λ c κs. search needs)
     (λ c κs. search needs)
     (λ c. search needs)
-    (λ c. search ranges))
+    (λ c. rw var-tested (search ranges)))

@@ -1,4 +1,4 @@
-use Rattle.numbers.specs.Operands.{aBlock}
+use Rattle.numbers.specs.Tested.{aBlock}
 use Rattle.numbers.proofs.Fields.{ranges}
 use borrow.Author.Needs.{needs}
 use Rattle.numbers.proofs.operands.a_block.Statement.{statement}

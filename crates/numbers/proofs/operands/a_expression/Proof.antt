@@ -1,4 +1,4 @@
-use Rattle.numbers.specs.Operands.{aExpression}
+use Rattle.numbers.specs.Tested.{aExpression}
 use Rattle.numbers.proofs.Fields.{ranges}
 use Rattle.numbers.proofs.operands.a_expression.Statement.{statement}
 use Rattle.numbers.proofs.operands.a_expression.Tie as tie

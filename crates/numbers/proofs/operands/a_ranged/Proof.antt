@@ -1,4 +1,4 @@
-use Rattle.numbers.specs.Operands.{aRanged}
+use Rattle.numbers.specs.Tested.{aRanged}
 use Rattle.numbers.proofs.Fields.{ranges}
 use borrow.Author.Needs.{needs}
 use Rattle.numbers.proofs.operands.a_ranged.Statement.{statement}

@@ -1,4 +1,4 @@
-use Rattle.numbers.specs.Operands.{aVariable}
+use Rattle.numbers.specs.Tested.{aVariable}
 use Rattle.numbers.proofs.Fields.{ranges}
 use borrow.Author.Needs.{needs}
 use Rattle.numbers.proofs.operands.a_variable.Statement.{statement}

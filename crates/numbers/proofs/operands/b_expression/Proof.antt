@@ -1,4 +1,4 @@
-use Rattle.numbers.specs.Operands.{bExpression}
+use Rattle.numbers.specs.Tested.{bExpression}
 use Rattle.numbers.proofs.Fields.{ranges}
 use Rattle.numbers.proofs.operands.b_expression.Statement.{statement}
 use Rattle.numbers.proofs.operands.b_expression.Tie as tie

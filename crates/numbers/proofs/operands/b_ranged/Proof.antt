@@ -1,4 +1,4 @@
-use Rattle.numbers.specs.Operands.{bRanged}
+use Rattle.numbers.specs.Tested.{bRanged}
 use Rattle.numbers.proofs.Fields.{ranges}
 use borrow.Author.Needs.{needs}
 use Rattle.numbers.proofs.operands.b_ranged.Statement.{statement}

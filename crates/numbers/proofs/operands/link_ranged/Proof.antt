@@ -1,4 +1,4 @@
-use Rattle.numbers.specs.Operands.{linkRanged}
+use Rattle.numbers.specs.Tested.{linkRanged}
 use Rattle.numbers.proofs.Fields.{bounds}
 use borrow.Author.Needs.{needs}
 use Rattle.numbers.proofs.operands.link_ranged.Statement.{statement}

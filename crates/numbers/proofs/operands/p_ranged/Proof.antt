@@ -1,4 +1,4 @@
-use Rattle.numbers.specs.Operands.{pRanged}
+use Rattle.numbers.specs.Tested.{pRanged}
 use Rattle.numbers.proofs.Fields.{ranges}
 use borrow.Author.Needs.{needs}
 use Rattle.numbers.proofs.operands.p_ranged.Statement.{statement}
@@ -17,4 +17,5 @@ p-ranged-spec =
     (λ c κs. search needs)
     (λ c. search ranges)
     (λ c κs. search needs)
+    (λ c. search ranges)
     (λ c. search ranges))

@@ -1,4 +1,4 @@
-use Rattle.numbers.specs.Operands.{qRanged}
+use Rattle.numbers.specs.Tested.{qRanged}
 use Rattle.numbers.proofs.Fields.{ranges}
 use borrow.Author.Needs.{needs}
 use Rattle.numbers.proofs.operands.q_ranged.Statement.{statement}

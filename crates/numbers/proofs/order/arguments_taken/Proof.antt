@@ -2,7 +2,8 @@ use Prim.Native.Nat.{_≤_, _-_}
 use native.Mathlib.Omega.{arith}
 use Rattle.basics.specs.Chain.{taken, stepTake, testTake}
 use Rattle.basics.specs.Loops.{Chain}
-use Rattle.numbers.specs.Operands.{argumentsTaken, isCall, callFirst, callCount}
+use Rattle.table.specs.Kinds.{isCall}
+use Rattle.numbers.specs.Operands.{argumentsTaken, callFirst, callCount}
 use Rattle.code.specs.Code.{decoded}
 use Rattle.numbers.proofs.Taking.{orders}
 use borrow.Author.Needs.{needs}

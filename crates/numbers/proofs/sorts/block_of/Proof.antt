@@ -1,5 +1,5 @@
 use Rattle.basics.specs.Choice.{both}
-use Rattle.numbers.specs.Sorts.{blockOf}
+use Rattle.numbers.specs.Tested.{blockOf}
 use Rattle.numbers.proofs.Fields.{bounds}
 use borrow.Author.Needs.{needs}
 use Rattle.numbers.proofs.sorts.block_of.Statement.{statement}

@@ -1,5 +1,5 @@
 use Rattle.basics.specs.Choice.{both}
-use Rattle.numbers.specs.Sorts.{expressionBelow}
+use Rattle.numbers.specs.Tested.{expressionBelow}
 use Rattle.numbers.proofs.Fields.{ranges}
 use borrow.Author.Needs.{needs}
 use Rattle.numbers.proofs.sorts.expression_below.Statement.{statement}

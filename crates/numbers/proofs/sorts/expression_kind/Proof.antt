@@ -1,4 +1,4 @@
-use Rattle.numbers.specs.Sorts.{expressionKind}
+use Rattle.table.specs.Kinds.{expressionKind}
 use Rattle.numbers.proofs.Fields.{ranges}
 use borrow.Author.Needs.{needs}
 use Rattle.numbers.proofs.sorts.expression_kind.Statement.{statement}

@@ -1,5 +1,5 @@
 use Rattle.basics.specs.Choice.{both}
-use Rattle.numbers.specs.Sorts.{variableBelow}
+use Rattle.numbers.specs.Tested.{variableBelow}
 use Rattle.numbers.proofs.Fields.{ranges}
 use borrow.Author.Needs.{needs}
 use Rattle.numbers.proofs.sorts.variable_below.Statement.{statement}

@@ -1,4 +1,4 @@
-use Rattle.numbers.specs.Sorts.{variableKind}
+use Rattle.table.specs.Kinds.{variableKind}
 use Rattle.numbers.proofs.Fields.{ranges}
 use borrow.Author.Needs.{needs}
 use Rattle.numbers.proofs.sorts.variable_kind.Statement.{statement}
