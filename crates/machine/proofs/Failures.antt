@@ -6,7 +6,7 @@ use native.Mathlib.Omega.{arith}
 use lib.ListN.{length, replicate}
 use lib.Dec.{eqb, ltb}
 use borrow.Author.Tests.{eq-eqb, ne-eqb, le-leb}
-use Rattle.basics.specs.Choice.{both, either}
+use Rattle.basics.specs.Choice.{both, either, between}
 use Rattle.table.specs.Table.{Table}
 use Rattle.table.specs.Entries.{stmtCount}
 use Rattle.machine.specs.Memory.{Memory, update}
@@ -18,7 +18,7 @@ use Rattle.machine.specs.Context.{Context, contextOf}
 use Rattle.machine.specs.Operands.{operand}
 use Rattle.machine.specs.Processes.{onModule, onProcess, onReference}
 use Rattle.machine.specs.Statements.{Effect, effect, onArms, onOpener, Choice, enters, skips, endOf, goTo, goOn, wait, moved, doAssign, doLocalCall, free, doProcessCall, doCreate, doStart, chosen, doOpener, doEnd, doWrite, doBlockEnd, perform}
-use Rattle.machine.specs.Step.{done, settled, inRange, answers, performs, proceeds, exists, turn, step}
+use Rattle.machine.specs.Step.{done, settled, answers, performs, proceeds, exists, turn, step}
 use Rattle.machine.specs.Run.{ran, onDone, before, run}
 use Rattle.machine.proofs.Ends.{Ends, ends-ok, ends-fail, ends-stuck, ends-need, ends-failWhere, ends-pick, ends-andThen, ends-onPlace, ends-onValue, ends-onWord}
 
@@ -171,7 +171,7 @@ module _ (T : Table) (m page : Memory) (p : ℕ) where
   unfolding turn
   low-turn e =
       rw (eq-eqb (m failureAt) 0 e)
-      (ends-need Low _ _ (ends-pick Low (inRange 1 (m createdAt) p) _ _ low-exists (low-answers 3 (omega arith))))
+      (ends-need Low _ _ (ends-pick Low (between 1 (m createdAt) p) _ _ low-exists (low-answers 3 (omega arith))))
 
   settled-failed :
       (o : Outcome Effect) → Ends Low o → (a : ℕ) (s d : Memory) → settled m page o ≡ done a s d → 16 ≤ a → Failed m page a s d
@@ -187,7 +187,7 @@ module _ (T : Table) (m page : Memory) (p : ℕ) where
 
   -- AFTER A FAILURE every step answers its number, and changes nothing
   pub failed-step : 16 ≤ m failureAt → m failureAt ≤ 24 → step T m page p ≡ done (m failureAt) m page
-  unfolding step turn settled need answers inRange both
+  unfolding step turn settled need answers between both
   failed-step h k =
       let n : m failureAt ≡ 0 → ⊥ = λ e. omega arith in
       rw (ne-eqb (m failureAt) 0 n, le-leb 16 (m failureAt) h, le-leb (m failureAt) 24 k)

@@ -1,4 +1,4 @@
--- Laws of the tests `someBelow` and `inRange`. Assumes nothing.
+-- Laws of the tests `someBelow` and `between`. Assumes nothing.
 use Prim.Native.Nat.{ℕ, zero, suc, _≤_, _<_}
 use mathlib.Core.Path.{_≡_, sym, ap, _∙_}
 use mathlib.Core.Bool.{Bool, true}
@@ -6,10 +6,10 @@ use native.Mathlib.Omega.{arith}
 use native.Mathlib.Nat.{not-suc-le-zero}
 use lib.Dec.{eqb}
 use borrow.Author.Tests.{eqb-true, eqb-false, leb-true, le-leb}
+use Rattle.basics.specs.Choice.{between}
 use Rattle.basics.specs.Cases.{cases}
 use Rattle.basics.proofs.Bools.{no-true, both-l, both-r, both-i, either-l, either-r, either-case}
 use Rattle.machine.specs.Values.{someBelow}
-use Rattle.machine.specs.Step.{inRange}
 
 -- ---- a test that holds somewhere
 
@@ -31,14 +31,14 @@ some-case (suc k) f e g =
 
 -- ---- a number between two
 
-pub range-low : (l h n : ℕ) → inRange l h n ≡ true → l ≤ n
-unfolding inRange
+pub range-low : (l h n : ℕ) → between l h n ≡ true → l ≤ n
+unfolding between
 range-low l h n e = leb-true l n (both-l _ _ e)
 
-pub range-high : (l h n : ℕ) → inRange l h n ≡ true → n ≤ h
-unfolding inRange
+pub range-high : (l h n : ℕ) → between l h n ≡ true → n ≤ h
+unfolding between
 range-high l h n e = leb-true n h (both-r _ _ e)
 
-pub range-i : (l h n : ℕ) → l ≤ n → n ≤ h → inRange l h n ≡ true
-unfolding inRange
+pub range-i : (l h n : ℕ) → l ≤ n → n ≤ h → between l h n ≡ true
+unfolding between
 range-i l h n a b = both-i _ _ (le-leb l n a) (le-leb n h b)

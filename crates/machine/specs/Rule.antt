@@ -3,7 +3,7 @@
 use Prim.Native.Nat.{ℕ, zero, suc, _+_, _-_, _/_, _%_}
 use mathlib.Core.Bool.{Bool, true, false, not}
 use lib.Dec.{eqb, leb, ltb}
-use Rattle.basics.specs.Choice.{pick, both, either, allBelow}
+use Rattle.basics.specs.Choice.{pick, both, either, allBelow, between}
 use Rattle.table.specs.Table.{Table}
 use Rattle.table.specs.Entries.{varMode, varType, owner, firstVar, vars, firstStmt, stmtLimit}
 use Rattle.machine.specs.Memory.{Memory}
@@ -12,7 +12,6 @@ use Rattle.machine.specs.Entries.{waits, Statement, skip, assign, localC
 use Rattle.sizes.specs.Sizes.{moduleWords}
 use Rattle.machine.specs.Variables.{frameWords, offsetOf, isModule, isProcedure}
 use Rattle.machine.specs.Values.{holds, partOfBlock}
-use Rattle.machine.specs.Step.{inRange}
 
 -- statement c is one of block b's
 unfoldable pub liesIn : Table → ℕ → ℕ → Bool
@@ -51,7 +50,7 @@ mayWait noStatement = false
 module _ (T : Table) (m : Memory) where
   -- p is a created process
   unfoldable pub isCreated : ℕ → Bool
-  isCreated p = inRange 1 (m createdAt) p
+  isCreated p = between 1 (m createdAt) p
 
   -- word k of the area of process p lies in a value parameter or local of one of its d calls, the innermost of which has its frame at f,
   -- and a part of type τ begins there
@@ -142,8 +141,8 @@ module _ (T : Table) (m : Memory) where
   unfoldable pub moduleOk : ℕ → Bool
   moduleOk p =
       pick (eqb p 1)
-      (both (inRange 2 3 (m (statusAt p))) (eqb (m (moduleAt p)) 0))
-      (both (inRange 1 3 (m (statusAt p))) (isModule T (m (moduleAt p))))
+      (both (between 2 3 (m (statusAt p))) (eqb (m (moduleAt p)) 0))
+      (both (between 1 3 (m (statusAt p))) (isModule T (m (moduleAt p))))
 
   unfoldable pub startedOk : ℕ → Bool
   startedOk p =
@@ -157,11 +156,11 @@ module _ (T : Table) (m : Memory) where
       (pick (eqb (m (statusAt p)) 2) (startedOk p) true)))
 
   unfoldable pub failureOk : Bool
-  failureOk = either (eqb (m failureAt) 0) (inRange 16 24 (m failureAt))
+  failureOk = either (eqb (m failureAt) 0) (between 16 24 (m failureAt))
 
   -- THE STATE RULE
   unfoldable pub rule : Bool
   rule =
-      both (inRange 1 64 (m createdAt))
+      both (between 1 64 (m createdAt))
       (both failureOk
       (allBelow (m createdAt) (λ i. processOk (i + 1))))

@@ -7,7 +7,7 @@ use native.Mathlib.Omega.{arith}
 use lib.ListN.{length, getD, replicate}
 use lib.Dec.{eqb}
 use borrow.Author.Tests.{eqb-true, eqb-false, leb-true, le-ltb, le-leb, lt-ltb, eq-eqb}
-use Rattle.basics.specs.Choice.{either}
+use Rattle.basics.specs.Choice.{either, between}
 use Rattle.basics.specs.Cases.{cases}
 use Rattle.basics.proofs.Bools.{both-l, both-r, either-case}
 use Rattle.table.specs.Table.{Table}
@@ -25,7 +25,7 @@ use Rattle.machine.specs.Processes.{refers, created, started}
 use Rattle.machine.specs.Context.{contextOf, blockOf}
 use Rattle.machine.specs.Calls.{frame, topAfter, pushed, call, return}
 use Rattle.machine.specs.Statements.{Effect, effect, perform}
-use Rattle.machine.specs.Step.{settled, inRange, answers, proceeds, exists, turn, step}
+use Rattle.machine.specs.Step.{settled, answers, proceeds, exists, turn, step}
 use Rattle.machine.specs.Step as steps
 use Rattle.machine.specs.Rule.{liesIn, rule}
 use Rattle.machine.proofs.Tests.{range-low, range-high, range-i}
@@ -249,7 +249,7 @@ module _ (T : Table) (acc : Accepted T) (inner : scoped T ≡ true) (L : PlaceLa
       cases (eqb (m failureAt) 0)
       (λ e. rw e
       (needs _ _ (range-i 1 64 (m createdAt) (Rm .some) (Rm .most))
-      (cases (inRange 1 (m createdAt) p)
+      (cases (between 1 (m createdAt) p)
       (λ f. rw f (exists-kept (range-low 1 (m createdAt) p f) (range-high 1 (m createdAt) p f)))
       (λ f. rw f (answers-kept 3 (regular (omega arith)))))))
       (λ e.

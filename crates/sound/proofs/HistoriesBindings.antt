@@ -9,7 +9,7 @@ use lib.Dec.{eqb, leb, ltb}
 use lib.ListN.{length, replicate, length-append, length-replicate}
 use borrow.Author.Tests.{eqb-true, eqb-false, leb-true, ltb-true, ltb-false, ne-eqb, lt-leb, le-ltb}
 use Rattle.basics.specs.Cases.{cases}
-use Rattle.basics.specs.Choice.{both, either}
+use Rattle.basics.specs.Choice.{both, either, between}
 use Rattle.basics.proofs.Bools.{both-l, both-r, both-false-l, both-false-r, either-case}
 use Rattle.table.specs.Table.{Table}
 use Rattle.table.specs.Entries.{firstVar}
@@ -23,7 +23,7 @@ use Rattle.machine.specs.Context.{contextOf}
 use Rattle.machine.specs.Calls.{standing, frame, topAfter, pushed, popped, returns, return}
 use Rattle.machine.specs.Processes.{refers, created, started}
 use Rattle.machine.specs.Statements.{Effect, effect, perform}
-use Rattle.machine.specs.Step.{done, settled, inRange, answers, performs, proceeds, exists, turn, step}
+use Rattle.machine.specs.Step.{done, settled, answers, performs, proceeds, exists, turn, step}
 use Rattle.sizes.proofs.Counting.{words-simple}
 use Rattle.sound.specs.Evaluated.{Live, Pushable, Performed}
 use Rattle.machine.specs.Values.{partOfBlock}
@@ -379,7 +379,7 @@ module _ (T : Table) (ok : Accepted T) (L : PlaceLaws T) (m : Memory) (h : Ruled
         (λ k. answers-left 1)))))
 
     turn-left : Left (turn T m page p)
-    unfolding turn inRange
+    unfolding turn between
     turn-left =
         g-pick Left none (eqb (m failureAt) 0) _ _
         (λ e. g-need Left none _ _ (g-pick Left none (both (leb 1 p) (leb p (m createdAt))) _ _

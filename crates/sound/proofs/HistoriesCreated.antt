@@ -7,7 +7,7 @@ use native.Mathlib.Omega.{arith}
 use lib.Dec.{eqb}
 use lib.ListN.{length, replicate, length-append, length-replicate}
 use borrow.Author.Tests.{eqb-true, ne-eqb, leb-true, ltb-false, not-false}
-use Rattle.basics.specs.Choice.{pick, either}
+use Rattle.basics.specs.Choice.{pick, either, between}
 use Rattle.basics.specs.Cases.{cases}
 use Rattle.basics.proofs.Bools.{both-i, both-false-l, both-false-r}
 use Rattle.table.specs.Table.{Table}
@@ -21,7 +21,7 @@ use Rattle.machine.specs.Operands.{operand}
 use Rattle.machine.specs.Calls.{arguments, frame, topAfter, pushed, call, popped}
 use Rattle.machine.specs.Processes.{onProcess, onReference, started}
 use Rattle.machine.specs.Statements.{Effect, effect, goTo, goOn, wait, moved, doLocalCall, free, doProcessCall, doStart, perform}
-use Rattle.machine.specs.Step.{done, settled, inRange, answers, performs, proceeds, exists, turn, step}
+use Rattle.machine.specs.Step.{done, settled, answers, performs, proceeds, exists, turn, step}
 use Rattle.machine.proofs.Tests.{range-low, range-high}
 use Rattle.machine.proofs.Outcomes.{g-then, g-test, g-need, g-where, g-pick, g-place, g-module}
 use Rattle.sound.specs.Conditions.{ownBlock}
@@ -214,7 +214,7 @@ module _ (T : Table) (m page : Memory) (p : ℕ) where
   unfolding turn
   turn-left =
       g-pick Left none (eqb (m failureAt) 0) _ _
-      (λ e. g-test Left none _ _ (λ c. g-pick Left none (inRange 1 (m createdAt) p) _ _
+      (λ e. g-test Left none _ _ (λ c. g-pick Left none (between 1 (m createdAt) p) _ _
       (λ l. let u = range-high 1 64 _ c in let v = range-high 1 _ p l in exists-left (omega arith) u (range-low 1 64 _ c)) (λ l. answers-left 3 (λ z. omega arith))))
       (λ e. g-test Left none _ _ (λ c. let u = range-low 16 24 _ c in answers-left (m failureAt) (λ z. omega arith)))
 

@@ -5,6 +5,7 @@ use mathlib.Core.Bool.{true}
 use native.Mathlib.Omega.{arith}
 use lib.Dec.{eqb}
 use borrow.Author.Tests.{eqb-true, eqb-false, leb-true, ltb-true, eq-eqb, ne-eqb, le-leb, lt-ltb, not-true}
+use Rattle.basics.specs.Choice.{between}
 use Rattle.basics.specs.Cases.{cases}
 use Rattle.basics.proofs.Bools.{both-l, both-r, both-i, all-at, all-i, either-l, either-r}
 pub use Rattle.basics.proofs.Bools.{either-case}
@@ -16,7 +17,6 @@ use Rattle.machine.specs.Layout.{location, statusAt, moduleAt, statementAt, fra
 use Rattle.machine.specs.Entries.{stmtAt}
 use Rattle.machine.specs.Variables.{frameWords, offsetOf, isModule, isProcedure}
 use Rattle.machine.specs.Values.{holds}
-use Rattle.machine.specs.Step.{inRange}
 use Rattle.machine.specs.Rule.{liesIn, calls, isCreated, worked, lives, holdsOn, worksBy, moduleHolds, modulesHold, frameHolds, framesHold, frameOk, chain, moduleOk, startedOk, processOk, failureOk, rule}
 use Rattle.numbers.proofs.BlockPromise.{program-there, program-kind, owner-self, owner-there}
 use Rattle.machine.specs.Context.{blockOf, contextual}
@@ -26,10 +26,10 @@ use Rattle.sound.specs.InUse.{Created}
 use Rattle.sound.specs.Ruled.{Bottom, Framed, Chained, bottom, called, Held, held, given, Process, Ruled, Standing}
 
 module _ (m : Memory) (p : ℕ) where
-  pub created-in : Created m p → inRange 1 (m createdAt) p ≡ true
+  pub created-in : Created m p → between 1 (m createdAt) p ≡ true
   created-in c = range-i 1 (m createdAt) p (c .least) (c .most)
 
-  pub in-created : inRange 1 (m createdAt) p ≡ true → Created m p
+  pub in-created : between 1 (m createdAt) p ≡ true → Created m p
   in-created e = record { least = range-low 1 (m createdAt) p e; most = range-high 1 (m createdAt) p e }
 
 module _ (T : Table) where
@@ -182,11 +182,11 @@ module _ (T : Table) where
 
     -- a created process
     module _ (p : ℕ) where
-      module-first : moduleOk T m p ≡ true → p ≡ 1 → (inRange 2 3 (m (statusAt p)) ≡ true) × (m (moduleAt p) ≡ 0)
+      module-first : moduleOk T m p ≡ true → p ≡ 1 → (between 2 3 (m (statusAt p)) ≡ true) × (m (moduleAt p) ≡ 0)
       unfolding moduleOk
       module-first e n = let g = rw (eq-eqb p 1 n) at e in (both-l _ _ g, eqb-true (m (moduleAt p)) 0 (both-r _ _ g))
 
-      module-other : moduleOk T m p ≡ true → (p ≡ 1 → ⊥) → (inRange 1 3 (m (statusAt p)) ≡ true) × (isModule T (m (moduleAt p)) ≡ true)
+      module-other : moduleOk T m p ≡ true → (p ≡ 1 → ⊥) → (between 1 3 (m (statusAt p)) ≡ true) × (isModule T (m (moduleAt p)) ≡ true)
       unfolding moduleOk
       module-other e n = let g = rw (ne-eqb p 1 n) at e in (both-l _ _ g, both-r _ _ g)
 
@@ -235,7 +235,7 @@ module _ (T : Table) where
     failed-in : failureOk T m ≡ true → (m failureAt ≡ 0 → ⊥) → (16 ≤ m failureAt) × (m failureAt ≤ 24)
     unfolding failureOk
     failed-in e n =
-        either-case (eqb (m failureAt) 0) (inRange 16 24 (m failureAt)) e
+        either-case (eqb (m failureAt) 0) (between 16 24 (m failureAt)) e
         (λ q. absurd (n (eqb-true (m failureAt) 0 q)))
         (λ q. (range-low 16 24 (m failureAt) q, range-high 16 24 (m failureAt) q))
 
