@@ -12,6 +12,7 @@ use Rattle.machine.specs.Entries.{waits, Statement, skip, assign, localC
 use Rattle.sizes.specs.Sizes.{moduleWords}
 use Rattle.machine.specs.Variables.{frameWords, offsetOf, isModule, isProcedure}
 use Rattle.machine.specs.Values.{holds, partOfBlock}
+use Rattle.machine.specs.Outcomes.{isFailure}
 
 -- statement c is one of block b's
 unfoldable pub liesIn : Table → ℕ → ℕ → Bool
@@ -156,7 +157,7 @@ module _ (T : Table) (m : Memory) where
       (pick (eqb (m (statusAt p)) 2) (startedOk p) true)))
 
   unfoldable pub failureOk : Bool
-  failureOk = either (eqb (m failureAt) 0) (between 16 24 (m failureAt))
+  failureOk = either (eqb (m failureAt) 0) (isFailure (m failureAt))
 
   -- THE STATE RULE
   unfoldable pub rule : Bool

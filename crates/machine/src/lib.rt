@@ -2,6 +2,7 @@
 ghost use mathlib.Core.Path.{_≡_};
 ghost use Prim.Native.Nat.{_*_, _≤_, _<_};
 ghost use Rattle.machine.specs.Memory.{memoryOf, update};
+ghost use Rattle.machine.specs.Outcomes.{isFailure};
 ghost use Rattle.machine.specs.Layout.{location, recordAt, stateWords, locations};
 ghost use Rattle.machine.specs.Lent.{Lent, Changed, State, Becomes};
 
@@ -28,6 +29,13 @@ pub const DEPTH: usize = 7;
 pub const CREATED: usize = 8;
 
 pub const FAILURE: usize = 9;
+
+// n is the number of a failure (01, Step answers).
+pub fn is_failure(n: usize) -> bool
+    ensures { λ r. ⌜ r ≡ isFailure n ⌝ }
+{
+    basics::between(16, 24, n)
+}
 
 // Where word k of the area of process p stands.
 pub fn location_of(p: usize, k: usize) -> usize

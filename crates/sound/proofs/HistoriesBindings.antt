@@ -350,7 +350,7 @@ module _ (T : Table) (ok : Accepted T) (L : PlaceLaws T) (m : Memory) (h : Ruled
     performed-keeping _ (Performed.writes a v y l b c e) = keeps (k-record m p 2 _ k-none)
     performed-keeping _ (Performed.ends y e) = keeps (k-record _ p 6 0 (k-record m p 0 3 k-none))
     performed-keeping _ (Performed.returns n y e r w) = keeps (k-returns _ _ n r)
-    performed-keeping _ (Performed.fails n a b) = fails
+    performed-keeping _ (Performed.fails n a) = fails
 
   -- ---- the step: P says what its statement comes to (Evaluation, performed)
   module _ (page : Memory) (p : ℕ)

@@ -27,6 +27,7 @@ use Rattle.machine.specs.Statements.{doLocalCall, doProcessCall, doStart, perfo
 use Rattle.machine.specs.Step.{Step, done, settled, performs, proceeds, exists, turn, step}
 use Rattle.machine.proofs.Memories.{update-other}
 use Rattle.machine.proofs.Outcomes.{need-holds, need-stuck}
+use Rattle.machine.proofs.Tests.{failure-low}
 use Rattle.verdict.specs.Accepted.{Accepted}
 use Rattle.sound.specs.Ruled.{Ruled}
 use Rattle.sound.specs.InUse.{Created, innermost, caller}
@@ -400,7 +401,7 @@ module _ (T : Table) (acc : Accepted T) (m page : Memory) (R : Ruled T m) (p : �
 
   changes-calls : (n : ℕ) (s d : Memory) → m failureAt ≡ 0 → (step T m page p ≡ Step.stuck → ⊥) → Changes T m page p n s d → BindingsKept T m s → CallsKept T m page p n s
   changes-calls n _ _ z free (failureMark h) k =
-      let l = statement-listed T m page (contextOf m p) n (next T m page p) (h .fails) .least in
+      let l = failure-low n (statement-listed T m page (contextOf m p) n (next T m page p) (h .fails)) in
       other-step n _ (λ y. omega arith) (all-calls T m _ k (alike-record m m 0 (alike m 0) 1 9 n (omega arith)))
   changes-calls _ _ _ z free (nothing h) k = other-step 1 m (λ y. omega arith) (λ r. refl)
   changes-calls _ _ _ z free (givesUp h) k = other-step 1 _ (λ y. omega arith) (all-calls T m _ k (alike-record m m 0 (alike m 0) (m (worksAt p)) 6 0 (omega arith)))

@@ -12,7 +12,7 @@ use Rattle.basics.proofs.Bools.{no-true, either-l, either-r}
 use Rattle.table.specs.Table.{Table}
 use Rattle.machine.specs.Memory.{Memory, update}
 use Rattle.machine.specs.Layout.{statusAt, worksAt, holderAt, createdAt, failureAt}
-use Rattle.machine.specs.Outcomes.{Outcome, ok, fail, stuck, need}
+use Rattle.machine.specs.Outcomes.{Outcome, ok, fail, stuck, need, isFailure}
 use Rattle.machine.specs.Entries.{Statement, opener, processCall}
 use Rattle.machine.specs.Context.{contextOf}
 use Rattle.machine.specs.Statements.{Effect, effect, perform}
@@ -251,6 +251,6 @@ module _ (T : Table) (m page : Memory) (p : ℕ) where
   pub same-failure : (m failureAt ≡ 0 → ⊥) → (step T m page p ≡ Step.stuck → ⊥) → SameFailure T m page p
   unfolding step settled turn answers need
   same-failure n free =
-      cases (between 16 24 (m failureAt))
+      cases (isFailure (m failureAt))
       (λ e. rw (ne-eqb _ 0 n, e))
       (λ e. absurd (free (rw (ne-eqb _ 0 n, e))))

@@ -20,6 +20,7 @@ use Rattle.machine.specs.Values.{holds}
 use Rattle.machine.specs.Rule.{liesIn, calls, isCreated, worked, lives, holdsOn, worksBy, moduleHolds, modulesHold, frameHolds, framesHold, frameOk, chain, moduleOk, startedOk, processOk, failureOk, rule}
 use Rattle.numbers.proofs.BlockPromise.{program-there, program-kind, owner-self, owner-there}
 use Rattle.machine.specs.Context.{blockOf, contextual}
+use Rattle.machine.specs.Outcomes.{isFailure}
 pub use Rattle.machine.proofs.Tests.{range-low, range-high, range-i}
 use Rattle.verdict.specs.Accepted.{Accepted}
 use Rattle.sound.specs.InUse.{Created}
@@ -232,19 +233,19 @@ module _ (T : Table) where
           (λ e. rw e (chains p (m (depthAt p)) (m (frameAt p)) (m (worksAt p)) (m (statementAt p)) (m (topAt p)) (r .chain (eqb-true (m (statusAt p)) 2 e)) (r .holding (eqb-true (m (statusAt p)) 2 e))))
           (λ e. rw e))))
 
-    failed-in : failureOk T m ≡ true → (m failureAt ≡ 0 → ⊥) → (16 ≤ m failureAt) × (m failureAt ≤ 24)
+    failed-in : failureOk T m ≡ true → (m failureAt ≡ 0 → ⊥) → isFailure (m failureAt) ≡ true
     unfolding failureOk
     failed-in e n =
-        either-case (eqb (m failureAt) 0) (between 16 24 (m failureAt)) e
+        either-case (eqb (m failureAt) 0) (isFailure (m failureAt)) e
         (λ q. absurd (n (eqb-true (m failureAt) 0 q)))
-        (λ q. (range-low 16 24 (m failureAt) q, range-high 16 24 (m failureAt) q))
+        (λ q. q)
 
-    failure-ok : ((m failureAt ≡ 0 → ⊥) → (16 ≤ m failureAt) × (m failureAt ≤ 24)) → failureOk T m ≡ true
+    failure-ok : ((m failureAt ≡ 0 → ⊥) → isFailure (m failureAt) ≡ true) → failureOk T m ≡ true
     unfolding failureOk
     failure-ok h =
         cases (eqb (m failureAt) 0)
         (λ q. either-l _ _ q)
-        (λ q. let g = h (eqb-false (m failureAt) 0 q) in either-r (eqb (m failureAt) 0) _ (range-i 16 24 (m failureAt) (g .0) (g .1)))
+        (λ q. either-r (eqb (m failureAt) 0) _ (h (eqb-false (m failureAt) 0 q)))
 
     -- THE RULE as a record, and back
     pub ruled : rule T m ≡ true → Ruled T m

@@ -15,7 +15,7 @@ use Rattle.machine.specs.Variables.{firstWords, frameWords, offsetOf}
 use Rattle.machine.specs.Context.{blockOf}
 use Rattle.machine.specs.Values.{holds}
 use Rattle.sound.specs.Claims.{Keeps}
-use Rattle.machine.specs.Outcomes.{Outcome, ok, fail}
+use Rattle.machine.specs.Outcomes.{Outcome, ok, fail, isFailure}
 use Rattle.machine.specs.Rule.{calls, mayWait, worked, worksBy, lives, rule}
 
 -- process p executes its own block: the bottom of its chain
@@ -77,7 +77,7 @@ pub record Process (T : Table) (m : Memory) (p : ℕ) : Type 0 where
 pub record Ruled (T : Table) (m : Memory) : Type 0 where
   pub some : 1 ≤ m createdAt
   pub most : m createdAt ≤ 64
-  pub failed : (m failureAt ≡ 0 → ⊥) → (16 ≤ m failureAt) × (m failureAt ≤ 24)
+  pub failed : (m failureAt ≡ 0 → ⊥) → isFailure (m failureAt) ≡ true
   pub process : (p : ℕ) → 1 ≤ p → p ≤ m createdAt → Process T m p
 
 -- the context of a started process: its block exists, and is one of the module of the process that it works on

@@ -22,6 +22,7 @@ use Rattle.machine.specs.Layout.{location, linkAt, statusAt, moduleAt, statemen
 use Rattle.machine.specs.Entries.{waits, Statement, statementOf, stmtAt}
 use Rattle.machine.specs.Variables.{varWords, firstWords, frameWords, isModule, isProcedure}
 use Rattle.machine.specs.Rule.{liesIn, calls, mayWait, isCreated, worked, holdsOn, worksBy, modulesHold, framesHold, frameOk, chain, moduleOk, startedOk, processOk, failureOk, rule}
+use Rattle.machine.specs.Outcomes.{isFailure}
 use Rattle.values.specs.Walks.{Words}
 use Rattle.state_rule.specs.Chains.{Sum, Summed, startedOf, frameFits, calledOk, callMade, callOk, baseOk, Left, runningOk, failureHolds, processRow, processesHold}
 use Rattle.values.proofs.Parts.{first-none, first-more}
@@ -454,7 +455,7 @@ module _ (m : Memory) (n : ℕ) (h : n ≡ m failureAt) where
   unfolding failureHolds
   failure-none e = rw (← h, eq-eqb n 0 e)
 
-  pub failure-some : (r : Bool) → (n ≡ 0 → ⊥) → r ≡ between 16 24 n → r ≡ failureHolds m
+  pub failure-some : (r : Bool) → (n ≡ 0 → ⊥) → r ≡ isFailure n → r ≡ failureHolds m
   unfolding failureHolds
   failure-some r e g = rw (← h, ne-eqb n 0 e) g
 
@@ -491,7 +492,7 @@ module _ (T : Table) (m : Memory) (n : ℕ) (h : n ≡ m createdAt) where
   module _ (l : 1 ≤ n) (g : n ≤ 64) (x : Bool) (e : x ≡ failureHolds m) where
     failure-is : x ≡ failureOk T m
     unfolding failureOk failureHolds
-    failure-is = e ∙ either-pick (eqb (m failureAt) 0) (between 16 24 (m failureAt))
+    failure-is = e ∙ either-pick (eqb (m failureAt) 0) (isFailure (m failureAt))
 
     pub rule-failure : x ≡ false → false ≡ rule T m
     unfolding rule between both

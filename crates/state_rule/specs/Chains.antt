@@ -13,6 +13,7 @@ use Rattle.machine.specs.Layout.{moduleAt, statusAt, createdAt, failureAt, call
 use Rattle.machine.specs.Entries.{stmtAt}
 use Rattle.machine.specs.Variables.{frameWords, isProcedure}
 use Rattle.machine.specs.Rule.{liesIn, calls, holdsOn, worksBy, framesHold, frameOk, chain, startedOk, processOk}
+use Rattle.machine.specs.Outcomes.{isFailure}
 
 -- r is v, the words of the variables of a block
 pub record Sum (v r : ℕ) : Type 0 where
@@ -34,7 +35,7 @@ frameFits T f top q = both (leb (f + 4) 256) (both (leb top 256) (eqb (f + 4 + f
 
 -- the run has not failed, or by a number that there is
 unfoldable pub failureHolds : Memory → Bool
-failureHolds m = pick (eqb (m failureAt) 0) true (between 16 24 (m failureAt))
+failureHolds m = pick (eqb (m failureAt) 0) true (isFailure (m failureAt))
 
 module _ (T : Table) (m : Memory) where
   -- q is a procedure of the block of process w, which has been started

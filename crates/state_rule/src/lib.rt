@@ -107,7 +107,7 @@ fn failure_ok(state: &[u8]) -> bool
     if n == 0 {
         return true;
     }
-    between(16, 24, n)
+    machine::is_failure(n)
 }
 
 // Each created process.

@@ -5,12 +5,12 @@ use mathlib.Core.Bool.{Bool, true, false}
 use mathlib.Core.List.{List}
 use lib.ListN.{length, getD, set, take, length-set}
 use lib.Seq.{getD-set-same, getD-set-other, getD-take, length-take-le}
-use lib.Dec.{eqb, leb, ltb}
+use lib.Dec.{eqb, leb}
 use native.Mathlib.Omega.{arith}
 use native.Mathlib.Numerals.{add-one}
 use native.Mathlib.Nat.{add-zero, suc-mul}
-use borrow.Author.Tests.{eqb-true, eqb-false, eq-eqb, ne-eqb, lt-ltb}
-use Rattle.basics.specs.Choice.{pick, both, allBelow}
+use borrow.Author.Tests.{eqb-true, eqb-false, ne-eqb, lt-ltb}
+use Rattle.basics.specs.Choice.{both, allBelow}
 use Rattle.basics.specs.Cases.{cases}
 use Rattle.basics.proofs.Bools.{no-true}
 use Rattle.table.specs.Table.{Table}
@@ -21,8 +21,8 @@ use Rattle.sizes.proofs.Counting.{words-record, words-array, words-simple, part
 use Rattle.machine.specs.Memory.{Memory}
 use Rattle.machine.specs.Values.{holds}
 use Rattle.values.specs.Walks.{Near, Words, simpleHolds, referenceHolds, partHolds, fieldHolds, fieldsHold, elementHolds, elementsHold, RecordAt, ArrayAt}
-use Rattle.values.specs.Heads.{hasParts, wordHolds, wordsHold, wordUpTo, wordRefers, headHolds, Head, HeadsTo, Heads, PartHas, FieldsHave, PartSaid, FieldsSaid, Tested}
-use Rattle.values.proofs.Values.{no-standard, all-same, all-true, integer-holds, holds-record, holds-array, holds-process, holds-simple}
+use Rattle.values.specs.Heads.{hasParts, wordHolds, wordsHold, wordUpTo, wordRefers, headHolds, Head, HeadsTo, Heads, FieldsHave, PartSaid, FieldsSaid, Tested}
+use Rattle.values.proofs.Values.{all-same, all-true, integer-holds, holds-record, holds-array, holds-process, holds-simple}
 
 -- ---- tests of numbers one after the other
 

@@ -1,23 +1,22 @@
 -- Jumps down chains of only parts: the laws of each return. Assumes nothing.
-use Prim.Native.Nat.{ℕ, suc, _+_, _-_, _*_, _/_, _%_, _≤_, _<_}
-use mathlib.Core.Path.{_≡_, refl, sym, ap, _∙_}
+use Prim.Native.Nat.{ℕ, _+_, _-_, _*_, _%_, _≤_, _<_}
+use mathlib.Core.Path.{_≡_, refl, sym, _∙_}
 use mathlib.Core.Bool.{Bool, true, false}
 use mathlib.Core.List.{List}
 use lib.ListN.{length, getD, set, take, length-set}
 use lib.Seq.{getD-set-same, getD-set-other, getD-take, length-take-le}
-use lib.Dec.{eqb, ltb}
+use lib.Dec.{eqb}
 use native.Mathlib.Omega.{arith}
-use native.Mathlib.Nat.{add-zero, sub-zero, mod-eq-of-lt, div-eq-of-lt}
+use native.Mathlib.Nat.{sub-zero, mod-eq-of-lt, div-eq-of-lt}
 use borrow.Author.Tests.{eqb-true, eqb-false, ne-eqb, lt-ltb}
-use Rattle.basics.specs.Choice.{pick, both, either}
+use Rattle.basics.specs.Choice.{both, either}
 use Rattle.basics.specs.Cases.{cases}
 use Rattle.basics.proofs.Bools.{both-false-l}
 use Rattle.table.specs.Table.{Table}
 use Rattle.table.specs.Entries.{typeKind, typeP, typeQ, fieldType}
 use Rattle.types.specs.Match.{elements}
-use Rattle.sizes.specs.Sizes.{wordsOf, offsetIn}
+use Rattle.sizes.specs.Sizes.{wordsOf}
 use Rattle.sizes.proofs.Counting.{offset-none}
-use Rattle.machine.specs.Memory.{within}
 use Rattle.machine.specs.Values.{someBelow, part}
 use Rattle.values.specs.Walks.{Words, fieldBegins, fieldIBegins, fieldsBegin, elementBegins}
 use Rattle.values.specs.Jumps.{Jump, Leads, Ends, Kept, JumpsTo, Jumps}

@@ -1,4 +1,3 @@
-use native.Mathlib.Omega.{arith}
 use borrow.Author.Needs.{needs}
 use Rattle.state_rule.proofs.all_hold.Statement.{statement}
 use Rattle.state_rule.proofs.all_hold.Tie as tie
