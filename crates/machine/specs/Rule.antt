@@ -48,6 +48,12 @@ mayWait (write a b) = false
 mayWait blockEnd = false
 mayWait noStatement = false
 
+-- r is the process w that process p works on, or one that it worked on when it made one of its d calls, the innermost of which has its
+-- frame at f
+unfoldable pub worked : Memory → ℕ → ℕ → ℕ → ℕ → ℕ → Bool
+worked m p zero f w r = eqb w r
+worked m p (suc d) f w r = either (eqb w r) (worked m p d (callerFrame m p f) (callerWorks m p f) r)
+
 module _ (T : Table) (m : Memory) where
   -- p is a created process
   unfoldable pub isCreated : ℕ → Bool
@@ -61,17 +67,11 @@ module _ (T : Table) (m : Memory) where
       either (both (leb (f + 4) k) (partOfBlock T (calledBlock m p f) τ (k - (f + 4))))
       (owns p d (callerFrame m p f) τ k)
 
-  -- r is the process w that process p works on, or one that it worked on when it made one of its d calls, the innermost of which has its
-  -- frame at f
-  unfoldable pub worked : ℕ → ℕ → ℕ → ℕ → ℕ → Bool
-  worked p zero f w r = eqb w r
-  worked p (suc d) f w r = either (eqb w r) (worked p d (callerFrame m p f) (callerWorks m p f) r)
-
   -- at location a stands a live variable of type τ, or such a part of one: of the module variables of one of these processes, or of those d
   -- calls
   unfoldable pub lives : ℕ → ℕ → ℕ → ℕ → ℕ → ℕ → Bool
   lives p d f w τ a =
-      either (both (worked p d f w (a / 256 + 1)) (partOfBlock T (m (moduleAt (a / 256 + 1))) τ (a % 256)))
+      either (both (worked m p d f w (a / 256 + 1)) (partOfBlock T (m (moduleAt (a / 256 + 1))) τ (a % 256)))
       (both (eqb (a / 256 + 1) p) (owns p d f τ (a % 256)))
 
   -- process p holds the variables of process w, on which it works in its own block or in one of its calls; where it stands at a when or cycle
@@ -85,7 +85,7 @@ module _ (T : Table) (m : Memory) where
   worksBy p d f w skip = false
   worksBy p d f w (assign a b) = false
   worksBy p d f w (localCall q c n) = eqb (callerWorks m p f) w
-  worksBy p d f w (processCall a q c n) = not (worked p d (callerFrame m p f) (callerWorks m p f) w)
+  worksBy p d f w (processCall a q c n) = not (worked m p d (callerFrame m p f) (callerWorks m p f) w)
   worksBy p d f w (create a) = false
   worksBy p d f w (start a c n) = false
   worksBy p d f w (opener k) = false

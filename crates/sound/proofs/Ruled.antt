@@ -158,7 +158,7 @@ module _ (T : Table) where
         called (framed-of p d f w c top (calledBlock m p f) (both-l _ _ e) (both-l _ _ (both-r _ _ e)) (both-l _ _ calling) (both-r _ _ calling))
         (chained p d (callerFrame m p f) (callerWorks m p f) (callStatement m p f) f (both-r _ _ (both-r _ _ (both-r _ _ (both-r _ _ e)))))
 
-    pub holding : (p d f w c top : ℕ) → chain T m p d f w c top ≡ true → (r : ℕ) → worked T m p d f w r ≡ true → Held T m p r
+    pub holding : (p d f w c top : ℕ) → chain T m p d f w c top ≡ true → (r : ℕ) → worked m p d f w r ≡ true → Held T m p r
     unfolding chain worked
     holding p zero f w c top e r h = held-of p r (rw (eqb-true w r h) at (both-r _ _ (both-l _ _ (both-r _ _ e))))
     holding p (suc d) f w c top e r h =
@@ -167,7 +167,7 @@ module _ (T : Table) where
         (λ i. held-of p r (rw (eqb-true w r i) at (both-l _ _ rest)))
         (λ i. holding p d (callerFrame m p f) (callerWorks m p f) (callStatement m p f) f (both-r _ _ rest) r i)
 
-    pub chains : (p d f w c top : ℕ) → Chained T m p d f w c top → ((r : ℕ) → worked T m p d f w r ≡ true → Held T m p r) → chain T m p d f w c top ≡ true
+    pub chains : (p d f w c top : ℕ) → Chained T m p d f w c top → ((r : ℕ) → worked m p d f w r ≡ true → Held T m p r) → chain T m p d f w c top ≡ true
     unfolding chain worked
     chains p zero f w c top (bottom b) h =
         both-i _ _ (eq-eqb f 0 (b .no-frame))

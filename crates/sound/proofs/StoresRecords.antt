@@ -92,7 +92,7 @@ module _ (m : Memory) (r i v : ℕ) (a : 1 ≤ r) (l : i < 20) (no-module : i �
     pub set-own : (1 ≤ update m (recordAt r i) v (statusAt r)) → (update m (recordAt r i) v (statusAt r) ≤ 3) → (r ≡ 1 → 2 ≤ update m (recordAt r i) v (statusAt r))
         → update m (recordAt r i) v (holderAt r) ≤ m createdAt
         → (update m (recordAt r i) v (statusAt r) ≡ 2 → Chained T m r (update m (recordAt r i) v (depthAt r)) (update m (recordAt r i) v (frameAt r)) (update m (recordAt r i) v (worksAt r)) (update m (recordAt r i) v (statementAt r)) (update m (recordAt r i) v (topAt r)))
-        → (update m (recordAt r i) v (statusAt r) ≡ 2 → (x : ℕ) → worked T m r (update m (recordAt r i) v (depthAt r)) (update m (recordAt r i) v (frameAt r)) (update m (recordAt r i) v (worksAt r)) x ≡ true → Held T (update m (recordAt r i) v) r x)
+        → (update m (recordAt r i) v (statusAt r) ≡ 2 → (x : ℕ) → worked m r (update m (recordAt r i) v (depthAt r)) (update m (recordAt r i) v (frameAt r)) (update m (recordAt r i) v (worksAt r)) x ≡ true → Held T (update m (recordAt r i) v) r x)
         → Process T (update m (recordAt r i) v) r
     set-own x y z w k o =
         let u = h .most in

@@ -210,7 +210,7 @@ module _ (T : Table) (good : Accepted T) (L : PlaceLaws T) (m : Memory) (h : Rul
       (λ z. rw (stand-depth held r (firstStmt T μ) 0 (moduleWords T μ) r 0, stand-frame held r (firstStmt T μ) 0 (moduleWords T μ) r 0, stand-works held r (firstStmt T μ) 0 (moduleWords T μ) r 0, stand-statement held r (firstStmt T μ) 0 (moduleWords T μ) r 0, stand-top held r (firstStmt T μ) 0 (moduleWords T μ) r 0)
       begun-chain)
       (λ z. rw (stand-depth held r (firstStmt T μ) 0 (moduleWords T μ) r 0, stand-frame held r (firstStmt T μ) 0 (moduleWords T μ) r 0, stand-works held r (firstStmt T μ) 0 (moduleWords T μ) r 0)
-      (λ x t. let i = worked-bottom T begun r 0 r x t in rw (← i) (records.held e6)))
+      (λ x t. let i = worked-bottom begun r 0 r x t in rw (← i) (records.held e6)))
 
   started-carries : Carries m begun
   started-carries =

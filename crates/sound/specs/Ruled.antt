@@ -59,7 +59,7 @@ pub data Held (T : Table) (m : Memory) (p r : ℕ) : Type 0 where
 
 -- r is one of the processes that process p works on, in its own block or in one of its calls
 abbrev pub Worked : Table → Memory → ℕ → ℕ → Type 0
-Worked T m p r = worked T m p (m (depthAt p)) (m (frameAt p)) (m (worksAt p)) r ≡ true
+Worked T m p r = worked m p (m (depthAt p)) (m (frameAt p)) (m (worksAt p)) r ≡ true
 
 -- created process p
 pub record Process (T : Table) (m : Memory) (p : ℕ) : Type 0 where

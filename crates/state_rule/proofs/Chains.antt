@@ -139,7 +139,7 @@ module _ (T : Table) (m : Memory) (p d f w q c n : ℕ) (e : n ≡ stmtCount T) 
       unfolding callMade stmtAt statementOf calls both
       process-other g = rw (← e, lt-ltb c n l, ← hk, h, ← hb, ne-eqb b q g)
 
-      pub process-made : (g v : ℕ) (r : Bool) → b ≡ q → v ≡ m (location p (f + 2)) → g ≡ m (location p f) → r ≡ worked T m p d g v w → not r ≡ callMade T m p d f w q c
+      pub process-made : (g v : ℕ) (r : Bool) → b ≡ q → v ≡ m (location p (f + 2)) → g ≡ m (location p f) → r ≡ worked m p d g v w → not r ≡ callMade T m p d f w q c
       unfolding callMade stmtAt statementOf calls worksBy linkAt both
       process-made g v r x hv hg z = rw (← e, lt-ltb c n l, ← hk, h, ← hb, eq-eqb b q x, add-zero f, ← hg, ← hv, ← z)
 

@@ -113,25 +113,25 @@ pub ruleset framewalks = (frames-none, frames-more, frames-fail, frames-all)
 -- ---- live variables
 
 -- the search for what a process worked on goes from frame to frame
-module _ (T : Table) (m : Memory) (p r d f w n g v : ℕ) (h : worked T m p n g v r ≡ worked T m p d f w r) where
+module _ (m : Memory) (p r d f w n g v : ℕ) (h : worked m p n g v r ≡ worked m p d f w r) where
   module _ (l : 0 < n) where
     fewer : n ≡ suc (n - 1)
     fewer = omega arith
 
-    pub worked-found : v ≡ r → true ≡ worked T m p d f w r
+    pub worked-found : v ≡ r → true ≡ worked m p d f w r
     unfolding worked either
     worked-found x = (rw (fewer, eq-eqb v r x) at h)
 
-    pub worked-next : (g' v' : ℕ) → (v ≡ r → ⊥) → v' ≡ m (location p (g + 2)) → g' ≡ m (location p g) → worked T m p (n - 1) g' v' r ≡ worked T m p d f w r
+    pub worked-next : (g' v' : ℕ) → (v ≡ r → ⊥) → v' ≡ m (location p (g + 2)) → g' ≡ m (location p g) → worked m p (n - 1) g' v' r ≡ worked m p d f w r
     unfolding worked either linkAt
     worked-next g' v' x hv hg = rw (hv, hg) (rw (fewer, ne-eqb v r x, add-zero g) at h)
 
-  pub worked-last : n ≤ 0 → eqb v r ≡ worked T m p d f w r
+  pub worked-last : n ≤ 0 → eqb v r ≡ worked m p d f w r
   unfolding worked
   worked-last l = let e : n ≡ 0 = omega arith in (rw e at h)
 
 module _ (T : Table) (m : Memory) (p d f w τ a : ℕ) where
-  module _ (c : Bool) (h : c ≡ worked T m p d f w (a / 256 + 1)) where
+  module _ (c : Bool) (h : c ≡ worked m p d f w (a / 256 + 1)) where
     pub in-none : c ≡ false → false ≡ livesInModule T m p d f w τ a
     unfolding livesInModule both
     in-none e = rw (← h, e)

@@ -22,7 +22,7 @@ module _ (T : Table) (m : Memory) where
 
   -- the two ways in which a variable of type τ is live
   unfoldable pub livesInModule : ℕ → ℕ → ℕ → ℕ → ℕ → ℕ → Bool
-  livesInModule p d f w τ a = both (worked T m p d f w (a / 256 + 1)) (partOfBlock T (m (moduleAt (a / 256 + 1))) τ (a % 256))
+  livesInModule p d f w τ a = both (worked m p d f w (a / 256 + 1)) (partOfBlock T (m (moduleAt (a / 256 + 1))) τ (a % 256))
 
   unfoldable pub ownedIn : ℕ → ℕ → ℕ → ℕ → Bool
   ownedIn p f τ k = both (leb (f + 4) k) (partOfBlock T (calledBlock m p f) τ (k - (f + 4)))

@@ -99,7 +99,7 @@ fn lives_in_module(
     ensures { λ r. ⌜ r ≡ livesInModule (decoded (now (c .entry))) (memoryOf (now (state .entry))) p d f w y a ⌝ }
 {
     let r = a / 256 + 1;
-    if has_worked(c, state, p, d, f, w, r) {
+    if has_worked(state, p, d, f, w, r) {
         return part_of_block(
             c,
             sizes,

@@ -11,18 +11,10 @@ ghost use Rattle.machine.specs.Rule.{mayWait, worked, holdsOn};
 ghost use Rattle.state_rule.specs.Chains.{callMade};
 
 // Process r is w, or one that process p worked on when it made one of its d calls, the innermost of which has its frame at f.
-pub fn has_worked(
-    c: &code::Slots,
-    state: &[u8],
-    p: usize,
-    d: usize,
-    f: usize,
-    w: usize,
-    r: usize,
-) -> bool
+pub fn has_worked(state: &[u8], p: usize, d: usize, f: usize, w: usize, r: usize) -> bool
     requires { ⌜ State (now state) ⌝ }
     requires { ⌜ (1 ≤ p) × ((p ≤ 64) × (f < 65536)) ⌝ }
-    ensures { λ x. ⌜ x ≡ worked (decoded (now (c .entry))) (memoryOf (now (state .entry))) p d f w r ⌝ }
+    ensures { λ x. ⌜ x ≡ worked (memoryOf (now (state .entry))) p d f w r ⌝ }
 {
     let mut n = d;
     let mut g = f;
@@ -94,7 +86,7 @@ pub fn call_made(
         }
         if kind == 3 {
             if code::stmt_b(c, i) == q {
-                return !has_worked(c, state, p, d, area_word(state, p, f), v, w);
+                return !has_worked(state, p, d, area_word(state, p, f), v, w);
             }
             return false;
         }

@@ -14,7 +14,7 @@ pub fn word_or_zero(state: &[u8], i: usize) -> usize
     ensures { λ r. ⌜ Field (memoryOf (now (state .entry)) i) r ⌝ }
 {
     if i < machine::STATE_WORDS {
-        return wide(machine::word_of(state, machine::STATE_WORDS, i));
+        return wide(machine::word_of(state, i));
     }
     0
 }

@@ -10,10 +10,10 @@ use Rattle.state_rule.proofs.working.has_worked.Statement.{statement}
 use Rattle.state_rule.proofs.working.has_worked.Tie as tie
 
 abbrev Inv-loop : tie.InvT-loop
-Inv-loop c state p d f w r n₀ g₀ v₀ n g v = (g < 65536) × (worked (decoded c) (memoryOf state) p n g v r ≡ worked (decoded c) (memoryOf state) p d f w r)
+Inv-loop state p d f w r n₀ g₀ v₀ n g v = (g < 65536) × (worked (memoryOf state) p n g v r ≡ worked (memoryOf state) p d f w r)
 
 abbrev μ-loop : tie.MeasureT-loop
-μ-loop c state p d f w r n₀ g₀ v₀ n g v = n
+μ-loop state p d f w r n₀ g₀ v₀ n g v = n
 
 pub has-worked-spec : {M : Type 1} → statement M
 has-worked-spec =
