@@ -48,17 +48,21 @@ mayWait (write a b) = false
 mayWait blockEnd = false
 mayWait noStatement = false
 
+-- p is a created process
+unfoldable pub isCreated : Memory → ℕ → Bool
+isCreated m p = between 1 (m createdAt) p
+
 -- r is the process w that process p works on, or one that it worked on when it made one of its d calls, the innermost of which has its
 -- frame at f
 unfoldable pub worked : Memory → ℕ → ℕ → ℕ → ℕ → ℕ → Bool
 worked m p zero f w r = eqb w r
 worked m p (suc d) f w r = either (eqb w r) (worked m p d (callerFrame m p f) (callerWorks m p f) r)
 
-module _ (T : Table) (m : Memory) where
-  -- p is a created process
-  unfoldable pub isCreated : ℕ → Bool
-  isCreated p = between 1 (m createdAt) p
+-- the run has not failed, or by a number that there is
+unfoldable pub failureOk : Memory → Bool
+failureOk m = either (eqb (m failureAt) 0) (isFailure (m failureAt))
 
+module _ (T : Table) (m : Memory) where
   -- word k of the area of process p lies in a value parameter or local of one of its d calls, the innermost of which has its frame at f,
   -- and a part of type τ begins there
   unfoldable pub owns : ℕ → ℕ → ℕ → ℕ → ℕ → Bool
@@ -117,7 +121,7 @@ module _ (T : Table) (m : Memory) where
   unfoldable pub frameOk : ℕ → ℕ → ℕ → ℕ → ℕ → Bool
   frameOk f w c top q =
       both (leb (f + 4) 256)
-      (both (both (isCreated w) (not (eqb (m (statusAt w)) 1)))
+      (both (both (isCreated m w) (not (eqb (m (statusAt w)) 1)))
       (both (isProcedure T q)
       (both (eqb (owner T q) (m (moduleAt w)))
       (both (eqb (f + 4 + frameWords T q) top)
@@ -156,12 +160,9 @@ module _ (T : Table) (m : Memory) where
       (both (modulesHold p (m (moduleAt p)))
       (pick (eqb (m (statusAt p)) 2) (startedOk p) true)))
 
-  unfoldable pub failureOk : Bool
-  failureOk = either (eqb (m failureAt) 0) (isFailure (m failureAt))
-
   -- THE STATE RULE
   unfoldable pub rule : Bool
   rule =
       both (between 1 64 (m createdAt))
-      (both failureOk
+      (both (failureOk m)
       (allBelow (m createdAt) (λ i. processOk (i + 1))))

@@ -60,10 +60,10 @@ module _ (T : Table) (acc : Accepted T) (inner : scoped T ≡ true) (L : PlaceLa
   R = ruled T m (S .ruled)
 
   some : 1 ≤ p
-  some = created-low T m p (S .created)
+  some = created-low m p (S .created)
 
   made : p ≤ m createdAt
-  made = created-high T m p (S .created)
+  made = created-high m p (S .created)
 
   there : blockOf m p < blockCount T
   there = stands T acc m p some made (R .process p some made) (S .started) .there

@@ -77,10 +77,10 @@ module _ (T : Table) (acc : Accepted T) (inner : scoped T ≡ true) (L : PlaceLa
   R = ruled T m (S .ruled)
 
   some : 1 ≤ p
-  some = created-low T m p (S .created)
+  some = created-low m p (S .created)
 
   made : p ≤ m createdAt
-  made = created-high T m p (S .created)
+  made = created-high m p (S .created)
 
   process-small : p < 65536
   process-small = let x = R .most in let y = made in omega arith
@@ -222,8 +222,8 @@ module _ (T : Table) (acc : Accepted T) (inner : scoped T ≡ true) (L : PlaceLa
   proceeds-kept : Started T m p → Kept T (proceeds T m page p)
   unfolding proceeds steps.performs contextOf
   proceeds-kept S =
-      let a = created-low T m p (S .created) in
-      let b = created-high T m p (S .created) in
+      let a = created-low m p (S .created) in
+      let b = created-high m p (S .created) in
       let k = stands T acc m p a b (Rm .process p a b) (S .started) in
       needs _ _ (range-i 1 (m createdAt) (m (worksAt p)) (k .some-works) (k .works))
       (cases (either (eqb (m (holderAt (m (worksAt p)))) 0) (eqb (m (holderAt (m (worksAt p)))) p))
@@ -241,7 +241,7 @@ module _ (T : Table) (acc : Accepted T) (inner : scoped T ≡ true) (L : PlaceLa
       (λ f.
       let two : m (statusAt p) ≡ 2 = omega (arith, eqb-false (m (statusAt p)) 3 e, eqb-false (m (statusAt p)) 1 f) in
       rw (e, f)
-      (needs _ _ (eq-eqb (m (statusAt p)) 2 two) (proceeds-kept (record { ruled = rm; created = created-i T m p a b; started = two })))))
+      (needs _ _ (eq-eqb (m (statusAt p)) 2 two) (proceeds-kept (record { ruled = rm; created = created-i m p a b; started = two })))))
 
   turn-kept : Kept T (turn T m page p)
   unfolding turn

@@ -185,9 +185,9 @@ module _ (T : Table) (ok : Accepted T) (L : PlaceLaws T) (m : Memory) (h : Ruled
       let ob = o .base in
       let oj = o .below in
       let of = o .fits in
-      either-case (both (isCreated T m (a / 256 + 1)) (partOfBlock T (m (moduleAt (a / 256 + 1))) τ (a % 256))) (both (eqb (a / 256 + 1) p) (owns T m p (m (depthAt p)) (m (frameAt p)) τ (a % 256))) (lives-there T m p l g (h .process p l g .chain s) τ a e)
+      either-case (both (isCreated m (a / 256 + 1)) (partOfBlock T (m (moduleAt (a / 256 + 1))) τ (a % 256))) (both (eqb (a / 256 + 1) p) (owns T m p (m (depthAt p)) (m (frameAt p)) τ (a % 256))) (lives-there T m p l g (h .process p l g .chain s) τ a e)
       (λ y.
-      let r = h .process (a / 256 + 1) (created-low T m (a / 256 + 1) (both-l _ _ y)) (created-high T m (a / 256 + 1) (both-l _ _ y)) in
+      let r = h .process (a / 256 + 1) (created-low m (a / 256 + 1) (both-l _ _ y)) (created-high m (a / 256 + 1) (both-l _ _ y)) in
       let t = block-there T ok m (a / 256 + 1) r in
       let k = block-kind T ok m (a / 256 + 1) r in
       let z = block-in T ok (m (moduleAt (a / 256 + 1))) t τ (a % 256) (both-r _ _ y) .1 in

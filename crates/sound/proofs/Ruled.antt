@@ -233,14 +233,14 @@ module _ (T : Table) where
           (λ e. rw e (chains p (m (depthAt p)) (m (frameAt p)) (m (worksAt p)) (m (statementAt p)) (m (topAt p)) (r .chain (eqb-true (m (statusAt p)) 2 e)) (r .holding (eqb-true (m (statusAt p)) 2 e))))
           (λ e. rw e))))
 
-    failed-in : failureOk T m ≡ true → (m failureAt ≡ 0 → ⊥) → isFailure (m failureAt) ≡ true
+    failed-in : failureOk m ≡ true → (m failureAt ≡ 0 → ⊥) → isFailure (m failureAt) ≡ true
     unfolding failureOk
     failed-in e n =
         either-case (eqb (m failureAt) 0) (isFailure (m failureAt)) e
         (λ q. absurd (n (eqb-true (m failureAt) 0 q)))
         (λ q. q)
 
-    failure-ok : ((m failureAt ≡ 0 → ⊥) → isFailure (m failureAt) ≡ true) → failureOk T m ≡ true
+    failure-ok : ((m failureAt ≡ 0 → ⊥) → isFailure (m failureAt) ≡ true) → failureOk m ≡ true
     unfolding failureOk
     failure-ok h =
         cases (eqb (m failureAt) 0)

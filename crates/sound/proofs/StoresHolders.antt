@@ -90,8 +90,8 @@ module _ (T : Table) (ok : Accepted T) (L : PlaceLaws T) (m : Memory) (h : Ruled
 pub end-rule : (T : Table) → Accepted T → PlaceLaws T → (m : Memory) (p : ℕ) → Started T m p → mayWait (stmtAt T (m (statementAt p))) ≡ false → rule T (update (update m (statusAt p) 3) (holderAt p) 0) ≡ true
 end-rule T ok L m p s n =
     let h = ruled T m (s .ruled) in
-    let a = created-low T m p (s .created) in
-    let b = created-high T m p (s .created) in
+    let a = created-low m p (s .created) in
+    let b = created-high m p (s .created) in
     let e = set-carries m p 0 3 a (omega arith) (λ z. omega arith) (λ z. omega arith) (λ y z. omega arith) .grows in
     let e6 = set-word m p 0 3 a (omega arith) (λ z. omega arith) (λ z. omega arith) 6 (λ z. omega arith) in
     let e0 = update-at m (statusAt p) 3 (statusAt p) refl in

@@ -74,10 +74,10 @@ module _ (T : Table) (good : Accepted T) (L : PlaceLaws T) (m page : Memory) (p 
     h = ruled T m (st .ruled)
 
     a : 1 ≤ p
-    a = created-low T m p (st .created)
+    a = created-low m p (st .created)
 
     b : p ≤ m createdAt
-    b = created-high T m p (st .created)
+    b = created-high m p (st .created)
 
     chain : Chained T m p (m (depthAt p)) (m (frameAt p)) (m (worksAt p)) (m (statementAt p)) (m (topAt p))
     chain = h .process p a b .chain (st .started)

@@ -209,8 +209,8 @@ module _ (T : Table) (ok : Accepted T) (L : PlaceLaws T) (m : Memory) where
   pub goto-rule : (p c : ℕ) → Started T m p → mayWait (stmtAt T (m (statementAt p))) ≡ false → liesIn T (blockOf m p) c ≡ true → rule T (update m (statementAt p) c) ≡ true
   goto-rule p c s n e =
       let h = ruled T m (s .ruled) in
-      let a = created-low T m p (s .created) in
-      let b = created-high T m p (s .created) in
+      let a = created-low m p (s .created) in
+      let b = created-high m p (s .created) in
       rules T (update m (statementAt p) c) (goto-kept T ok L m h p c a b (s .started) (passing-holds T ok L m h p a b (s .started) n) e)
 
   pub fail-rule : (n : ℕ) → rule T m ≡ true → isFailure n ≡ true → rule T (update m failureAt n) ≡ true

@@ -71,10 +71,10 @@ module _ (T : Table) (good : Accepted T) (L : PlaceLaws T) (m page : Memory) (p 
   h = ruled T m (st .ruled)
 
   a : 1 ≤ p
-  a = created-low T m p (st .created)
+  a = created-low m p (st .created)
 
   b : p ≤ m createdAt
-  b = created-high T m p (st .created)
+  b = created-high m p (st .created)
 
   module _ (d : ℕ) (e : m (depthAt p) ≡ suc d) where
     chain-of : Chained T m p (suc d) (m (frameAt p)) (m (worksAt p)) (m (statementAt p)) (m (topAt p))

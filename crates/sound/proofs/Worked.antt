@@ -48,7 +48,7 @@ module _ (T : Table) (m : Memory) (p : ℕ) where
 
     -- a live variable is a module variable of a created process, or one of its process's calls
     pub lives-there : {d f w c top : ℕ} → Chained T m p d f w c top → (τ a : ℕ) → lives T m p d f w τ a ≡ true
-        → either (both (isCreated T m (a / 256 + 1)) (partOfBlock T (m (moduleAt (a / 256 + 1))) τ (a % 256))) (both (eqb (a / 256 + 1) p) (owns T m p d f τ (a % 256))) ≡ true
+        → either (both (isCreated m (a / 256 + 1)) (partOfBlock T (m (moduleAt (a / 256 + 1))) τ (a % 256))) (both (eqb (a / 256 + 1) p) (owns T m p d f τ (a % 256))) ≡ true
     unfolding lives isCreated
     lives-there {d = d} {f = f} {w = w} k τ a e =
         either-case (both (worked m p d f w (a / 256 + 1)) (partOfBlock T (m (moduleAt (a / 256 + 1))) τ (a % 256))) _ e

@@ -52,7 +52,7 @@ pub record PlaceLaws (T : Table) : Type 0 where
 -- process p is started, in a state that meets the rule
 pub record Started (T : Table) (m : Memory) (p : ℕ) : Type 0 where
   pub ruled : rule T m ≡ true
-  pub created : isCreated T m p ≡ true
+  pub created : isCreated m p ≡ true
   pub started : m (statusAt p) ≡ 2
 
 -- what an operand of type τ may come to: a live variable, a value, or a listed failure; never stuck

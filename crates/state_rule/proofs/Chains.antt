@@ -24,7 +24,7 @@ use Rattle.machine.specs.Variables.{varWords, firstWords, frameWords, isModule,
 use Rattle.machine.specs.Rule.{liesIn, calls, mayWait, isCreated, worked, holdsOn, worksBy, modulesHold, framesHold, frameOk, chain, moduleOk, startedOk, processOk, failureOk, rule}
 use Rattle.machine.specs.Outcomes.{isFailure}
 use Rattle.values.specs.Walks.{Words}
-use Rattle.state_rule.specs.Chains.{Sum, Summed, startedOf, frameFits, calledOk, callMade, callOk, baseOk, Left, runningOk, failureHolds, processRow, processesHold}
+use Rattle.state_rule.specs.Chains.{Sum, Summed, startedOf, frameFits, calledOk, callMade, callOk, baseOk, Left, runningOk, processRow, processesHold}
 use Rattle.values.proofs.Parts.{first-none, first-more}
 
 -- two tests that hold together are one
@@ -451,18 +451,13 @@ module _ (T : Table) (m : Memory) (p : ℕ) (x : Bool) (h : x ≡ moduleOk T m p
 pub ruleset processing = (running-started, running-other, process-module, process-holder, process-variables, process-calls)
 
 module _ (m : Memory) (n : ℕ) (h : n ≡ m failureAt) where
-  pub failure-none : n ≡ 0 → true ≡ failureHolds m
-  unfolding failureHolds
+  pub failure-none : n ≡ 0 → true ≡ failureOk m
+  unfolding failureOk either
   failure-none e = rw (← h, eq-eqb n 0 e)
 
-  pub failure-some : (r : Bool) → (n ≡ 0 → ⊥) → r ≡ isFailure n → r ≡ failureHolds m
-  unfolding failureHolds
+  pub failure-some : (r : Bool) → (n ≡ 0 → ⊥) → r ≡ isFailure n → r ≡ failureOk m
+  unfolding failureOk either
   failure-some r e g = rw (← h, ne-eqb n 0 e) g
-
-either-pick : (b c : Bool) → pick b true c ≡ either b c
-unfolding either
-either-pick true c = refl
-either-pick false c = refl
 
 -- all processes, and the rule
 pub few : (x n : ℕ) → n ≡ x → n ≤ 64 → x ≤ 64
@@ -489,17 +484,13 @@ module _ (T : Table) (m : Memory) (n : ℕ) (h : n ≡ m createdAt) where
   unfolding rule between both
   rule-many l g = rw (← h, le-leb 1 n l, lt-leb n 64 g)
 
-  module _ (l : 1 ≤ n) (g : n ≤ 64) (x : Bool) (e : x ≡ failureHolds m) where
-    failure-is : x ≡ failureOk T m
-    unfolding failureOk failureHolds
-    failure-is = e ∙ either-pick (eqb (m failureAt) 0) (isFailure (m failureAt))
-
+  module _ (l : 1 ≤ n) (g : n ≤ 64) (x : Bool) (e : x ≡ failureOk m) where
     pub rule-failure : x ≡ false → false ≡ rule T m
     unfolding rule between both
-    rule-failure z = rw (le-leb 1 (m createdAt) (rw h at l), le-leb (m createdAt) 64 (rw h at g), ← failure-is, z)
+    rule-failure z = rw (le-leb 1 (m createdAt) (rw h at l), le-leb (m createdAt) 64 (rw h at g), ← e, z)
 
     pub rule-processes : (r : Bool) → x ≡ true → r ≡ processesHold T m → r ≡ rule T m
     unfolding rule between both processesHold processRow
-    rule-processes r z v = rw (le-leb 1 (m createdAt) (rw h at l), le-leb (m createdAt) 64 (rw h at g), ← failure-is, z) v
+    rule-processes r z v = rw (le-leb 1 (m createdAt) (rw h at l), le-leb (m createdAt) 64 (rw h at g), ← e, z) v
 
 pub ruleset ruling = (rule-none, rule-many, rule-failure, rule-processes)

@@ -9,11 +9,10 @@ use Rattle.table.specs.Table.{Table}
 use Rattle.table.specs.Entries.{owner}
 use Rattle.sizes.specs.Sizes.{moduleWords}
 use Rattle.machine.specs.Memory.{Memory}
-use Rattle.machine.specs.Layout.{moduleAt, statusAt, createdAt, failureAt, callStatement, calledBlock}
+use Rattle.machine.specs.Layout.{moduleAt, statusAt, createdAt, callStatement, calledBlock}
 use Rattle.machine.specs.Entries.{stmtAt}
 use Rattle.machine.specs.Variables.{frameWords, isProcedure}
 use Rattle.machine.specs.Rule.{liesIn, calls, holdsOn, worksBy, framesHold, frameOk, chain, startedOk, processOk}
-use Rattle.machine.specs.Outcomes.{isFailure}
 
 -- r is v, the words of the variables of a block
 pub record Sum (v r : ℕ) : Type 0 where
@@ -32,10 +31,6 @@ startedOf m b w = both (both (between 1 (m createdAt) w) (not (eqb (m (statusAt 
 -- the frame of procedure q at f ends at top, within the area
 unfoldable pub frameFits : Table → ℕ → ℕ → ℕ → Bool
 frameFits T f top q = both (leb (f + 4) 256) (both (leb top 256) (eqb (f + 4 + frameWords T q) top))
-
--- the run has not failed, or by a number that there is
-unfoldable pub failureHolds : Memory → Bool
-failureHolds m = pick (eqb (m failureAt) 0) true (isFailure (m failureAt))
 
 module _ (T : Table) (m : Memory) where
   -- q is a procedure of the block of process w, which has been started

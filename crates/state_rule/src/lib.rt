@@ -17,10 +17,10 @@ ghost use Rattle.code.specs.Code.{decoded};
 ghost use Rattle.machine.specs.Memory.{memoryOf};
 ghost use Rattle.machine.specs.Layout.{createdAt};
 ghost use Rattle.machine.specs.Lent.{State};
-ghost use Rattle.machine.specs.Rule.{moduleOk, processOk, rule};
+ghost use Rattle.machine.specs.Rule.{moduleOk, processOk, failureOk, rule};
 ghost use Rattle.values.specs.Heads.{Heads};
 ghost use Rattle.values.specs.Jumps.{Jumps};
-ghost use Rattle.state_rule.specs.Chains.{runningOk, failureHolds, processesHold};
+ghost use Rattle.state_rule.specs.Chains.{runningOk, processesHold};
 ghost use Rattle.values.specs.Walks.{Ready};
 
 // Process 1 is started and runs block 0; the others are created, of a process module.
@@ -101,7 +101,7 @@ fn process_ok(
 
 fn failure_ok(state: &[u8]) -> bool
     requires { ⌜ State (now state) ⌝ }
-    ensures { λ r. ⌜ r ≡ failureHolds (memoryOf (now (state .entry))) ⌝ }
+    ensures { λ r. ⌜ r ≡ failureOk (memoryOf (now (state .entry))) ⌝ }
 {
     let n = record_word(state, 1, machine::FAILURE);
     if n == 0 {
