@@ -23,7 +23,7 @@ pub fn copy_words(state: &mut [u8], at: usize, n: usize, words: &[u16])
 {
     let mut k: usize = 0;
     while k < n {
-        machine::set_word(state, machine::STATE_WORDS, at + k, words[k]);
+        machine::set_word(state, at + k, words[k]);
         k += 1;
     }
 }
@@ -36,8 +36,8 @@ fn copy_across(state: &mut [u8], from: usize, to: usize, n: usize)
 {
     let mut k = 0;
     while k < n {
-        let w = machine::word_of(state, machine::STATE_WORDS, from + k);
-        machine::set_word(state, machine::STATE_WORDS, to + k, w);
+        let w = machine::word_of(state, from + k);
+        machine::set_word(state, to + k, w);
         k += 1;
     }
 }
@@ -62,7 +62,7 @@ pub fn clear_words(state: &mut [u8], at: usize, n: usize)
 {
     let mut k: usize = 0;
     while k < n {
-        machine::set_word(state, machine::STATE_WORDS, at + k, 0);
+        machine::set_word(state, at + k, 0);
         k += 1;
     }
 }
@@ -374,7 +374,7 @@ pub fn create_at(state: &mut [u8], p: usize, c: u16, n: usize, block: u16, at: u
     ensures { λ _. ⌜ Becomes (now (state .exit)) (update (update (created (memoryOf (now (state .entry))) n block) at n) (statementAt p) c) ⌝ }
 {
     create(state, n, block);
-    machine::set_word(state, machine::STATE_WORDS, at, n as u16);
+    machine::set_word(state, at, n as u16);
     go_to(state, p, c);
 }
 

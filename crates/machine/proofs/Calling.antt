@@ -1,7 +1,7 @@
 -- Refused calls, and an empty schedule (01, The four calls; Verdicts and other refusals). Assumes nothing.
 use Prim.Native.Nat.{ℕ, _≤_}
 use mathlib.Core.Path.{_≡_}
-use mathlib.Core.Bool.{Bool, true, false}
+use mathlib.Core.Bool.{Bool, true}
 use mathlib.Core.List.{List, []}
 use native.Mathlib.Omega.{arith}
 use lib.ListN.{length}
@@ -22,18 +22,6 @@ use Rattle.machine.specs.Layout.{stateWords, stateSize, pageSize}
 -- ---- refusals, in the order of their numbers
 
 module _ (lengths : Bool) (v : ℕ) (state : Bool) where
-  pub refuses-lengths : lengths ≡ false → refusal lengths v state ≡ 1
-  unfolding refusal
-  refuses-lengths e = rw e
-
-  pub refuses-table : lengths ≡ true → (v ≡ 0 → ⊥) → refusal lengths v state ≡ v
-  unfolding refusal
-  refuses-table e h = rw (e, ne-eqb v 0 h)
-
-  pub refuses-state : lengths ≡ true → v ≡ 0 → state ≡ false → refusal lengths v state ≡ 10
-  unfolding refusal
-  refuses-state e h s = rw (e, eq-eqb v 0 h, s)
-
   pub refuses-none : lengths ≡ true → v ≡ 0 → state ≡ true → refusal lengths v state ≡ 0
   unfolding refusal
   refuses-none e h s = rw (e, eq-eqb v 0 h, s)

@@ -1,26 +1,28 @@
 -- A failing step changes only the run's failure mark; every later step then answers the same number (01, Step answers). Assumes nothing.
 use Prim.Native.Nat.{ℕ, zero, suc, _≤_}
 use mathlib.Core.Path.{_≡_, refl}
+use mathlib.Core.Bool.{true}
 use mathlib.Core.List.{List, [], _∷_}
 use native.Mathlib.Omega.{arith}
 use lib.ListN.{length, replicate}
 use lib.Dec.{eqb, ltb}
-use borrow.Author.Tests.{eq-eqb, ne-eqb, le-leb}
-use Rattle.basics.specs.Choice.{both, either}
+use borrow.Author.Tests.{eq-eqb, ne-eqb}
+use Rattle.basics.specs.Choice.{either, between}
 use Rattle.table.specs.Table.{Table}
 use Rattle.table.specs.Entries.{stmtCount}
 use Rattle.machine.specs.Memory.{Memory, update}
 use Rattle.machine.specs.Layout.{statusAt, worksAt, holderAt, depthAt, createdAt, failureAt}
-use Rattle.machine.specs.Outcomes.{Outcome, ok, fail, stuck, need}
+use Rattle.machine.specs.Outcomes.{Outcome, ok, fail, stuck, need, isFailure}
 use Rattle.machine.specs.Entries.{TypeEntry, integer, boolean, character, recordType, arrayType, processType, noType, typeAt}
 use Rattle.machine.specs.Entries.{Opener, waits, repeats, Statement, skip, assign, localCall, processCall, create, start, opener, arm, endArms, write, blockEnd, noStatement, stmtAt}
 use Rattle.machine.specs.Context.{Context, contextOf}
 use Rattle.machine.specs.Operands.{operand}
 use Rattle.machine.specs.Processes.{onModule, onProcess, onReference}
 use Rattle.machine.specs.Statements.{Effect, effect, onArms, onOpener, Choice, enters, skips, endOf, goTo, goOn, wait, moved, doAssign, doLocalCall, free, doProcessCall, doCreate, doStart, chosen, doOpener, doEnd, doWrite, doBlockEnd, perform}
-use Rattle.machine.specs.Step.{done, settled, inRange, answers, performs, proceeds, exists, turn, step}
+use Rattle.machine.specs.Step.{done, settled, answers, performs, proceeds, exists, turn, step}
 use Rattle.machine.specs.Run.{ran, onDone, before, run}
 use Rattle.machine.proofs.Ends.{Ends, ends-ok, ends-fail, ends-stuck, ends-need, ends-failWhere, ends-pick, ends-andThen, ends-onPlace, ends-onValue, ends-onWord}
+use Rattle.machine.proofs.Tests.{failure-low}
 
 -- ---- what a step that does not fail answers
 
@@ -171,7 +173,7 @@ module _ (T : Table) (m page : Memory) (p : ℕ) where
   unfolding turn
   low-turn e =
       rw (eq-eqb (m failureAt) 0 e)
-      (ends-need Low _ _ (ends-pick Low (inRange 1 (m createdAt) p) _ _ low-exists (low-answers 3 (omega arith))))
+      (ends-need Low _ _ (ends-pick Low (between 1 (m createdAt) p) _ _ low-exists (low-answers 3 (omega arith))))
 
   settled-failed :
       (o : Outcome Effect) → Ends Low o → (a : ℕ) (s d : Memory) → settled m page o ≡ done a s d → 16 ≤ a → Failed m page a s d
@@ -186,16 +188,17 @@ module _ (T : Table) (m page : Memory) (p : ℕ) where
   failing-step e a s d q h = settled-failed (turn T m page p) (low-turn e) a s d q h
 
   -- AFTER A FAILURE every step answers its number, and changes nothing
-  pub failed-step : 16 ≤ m failureAt → m failureAt ≤ 24 → step T m page p ≡ done (m failureAt) m page
-  unfolding step turn settled need answers inRange both
-  failed-step h k =
+  pub failed-step : isFailure (m failureAt) ≡ true → step T m page p ≡ done (m failureAt) m page
+  unfolding step turn settled need answers
+  failed-step h =
+      let l = failure-low (m failureAt) h in
       let n : m failureAt ≡ 0 → ⊥ = λ e. omega arith in
-      rw (ne-eqb (m failureAt) 0 n, le-leb 16 (m failureAt) h, le-leb (m failureAt) 24 k)
+      rw (ne-eqb (m failureAt) 0 n, h)
 
 -- and so does every step of a run
 pub failed-run :
-    (T : Table) (m page : Memory) (schedule : List ℕ) → 16 ≤ m failureAt → m failureAt ≤ 24
+    (T : Table) (m page : Memory) (schedule : List ℕ) → isFailure (m failureAt) ≡ true
     → run T schedule m page ≡ ran (replicate (length schedule) (m failureAt)) m page
 unfolding run onDone before
-failed-run T m page [] h k = refl
-failed-run T m page (p ∷ schedule) h k = rw (failed-step T m page p h k, failed-run T m page schedule h k)
+failed-run T m page [] h = refl
+failed-run T m page (p ∷ schedule) h = rw (failed-step T m page p h, failed-run T m page schedule h)

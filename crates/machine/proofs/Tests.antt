@@ -1,15 +1,16 @@
--- Laws of the tests `someBelow` and `inRange`. Assumes nothing.
+-- Laws of the tests `someBelow`, `between` and `isFailure`. Assumes nothing.
 use Prim.Native.Nat.{ℕ, zero, suc, _≤_, _<_}
 use mathlib.Core.Path.{_≡_, sym, ap, _∙_}
 use mathlib.Core.Bool.{Bool, true}
 use native.Mathlib.Omega.{arith}
 use native.Mathlib.Nat.{not-suc-le-zero}
 use lib.Dec.{eqb}
-use borrow.Author.Tests.{eqb-true, eqb-false, leb-true, le-leb}
+use borrow.Author.Tests.{eqb-true, eqb-false, le-leb}
+use Rattle.basics.specs.Choice.{between}
 use Rattle.basics.specs.Cases.{cases}
-use Rattle.basics.proofs.Bools.{no-true, both-l, both-r, both-i, either-l, either-r, either-case}
+use Rattle.basics.proofs.Bools.{no-true, between-true, both-i, either-l, either-r, either-case}
 use Rattle.machine.specs.Values.{someBelow}
-use Rattle.machine.specs.Step.{inRange}
+use Rattle.machine.specs.Outcomes.{isFailure}
 
 -- ---- a test that holds somewhere
 
@@ -31,14 +32,27 @@ some-case (suc k) f e g =
 
 -- ---- a number between two
 
-pub range-low : (l h n : ℕ) → inRange l h n ≡ true → l ≤ n
-unfolding inRange
-range-low l h n e = leb-true l n (both-l _ _ e)
+pub range-low : (l h n : ℕ) → between l h n ≡ true → l ≤ n
+range-low l h n e = between-true l h n e .0
 
-pub range-high : (l h n : ℕ) → inRange l h n ≡ true → n ≤ h
-unfolding inRange
-range-high l h n e = leb-true n h (both-r _ _ e)
+pub range-high : (l h n : ℕ) → between l h n ≡ true → n ≤ h
+range-high l h n e = between-true l h n e .1
 
-pub range-i : (l h n : ℕ) → l ≤ n → n ≤ h → inRange l h n ≡ true
-unfolding inRange
+pub range-i : (l h n : ℕ) → l ≤ n → n ≤ h → between l h n ≡ true
+unfolding between
 range-i l h n a b = both-i _ _ (le-leb l n a) (le-leb n h b)
+
+-- ---- the number of a failure
+
+pub failure-i : (n : ℕ) → 16 ≤ n → n ≤ 24 → isFailure n ≡ true
+unfolding isFailure
+failure-i n a b = range-i 16 24 n a b
+
+-- it is no other answer, and a byte
+pub failure-low : (n : ℕ) → isFailure n ≡ true → 16 ≤ n
+unfolding isFailure
+failure-low n e = range-low _ _ n e
+
+pub failure-byte : (n : ℕ) → isFailure n ≡ true → n < 256
+unfolding isFailure
+failure-byte n e = let h = range-high _ _ n e in omega arith

@@ -6,8 +6,13 @@ use mathlib.Core.Bool.{Bool, true, false}
 use mathlib.Core.List.{List}
 use lib.ListN.{getD}
 use lib.Dec.{eqb}
+use Rattle.basics.specs.Choice.{between}
 
--- a result; a failure with its answer, 16..24; stuck: a number lies outside its section or area, or an operand is of another type than
+-- n is the number of a failure (01, Step answers)
+unfoldable pub isFailure : ℕ → Bool
+isFailure n = between 16 24 n
+
+-- a result; a failure with its number; stuck: a number lies outside its section or area, or an operand is of another type than
 -- its place asks
 pub data Outcome (A : Type 0) : Type 0 where
   ok : A → Outcome A

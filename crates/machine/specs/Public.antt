@@ -5,14 +5,13 @@ use mathlib.Core.Bool.{Bool}
 use mathlib.Core.List.{List, _++_}
 use lib.ListN.{length, drop}
 use lib.Dec.{eqb, leb, ltb}
-use Rattle.basics.specs.Choice.{pick, both}
+use Rattle.basics.specs.Choice.{pick, both, between}
 use Rattle.table.specs.Table.{Table, tableOf}
 use Rattle.table.specs.Entries.{varType}
 use Rattle.machine.specs.Memory.{Memory, memoryOf, bytesOf}
 use Rattle.machine.specs.Layout.{location, statusAt, moduleAt, createdAt, stateWords, stateSize, pageWords, pageSize}
 use Rattle.sizes.specs.Sizes.{wordsOf}
 use Rattle.machine.specs.Variables.{offsetOf, belongs}
-use Rattle.machine.specs.Step.{inRange}
 use Rattle.machine.specs.Run.{Run, ran, begin, run}
 use Rattle.machine.specs.Rule.{rule}
 
@@ -25,8 +24,8 @@ refusal lengths v state = pick lengths (pick (eqb v 0) (pick state 0 10) v) 1
 -- process, variable and place name a word of a started process's module variables
 unfoldable pub visible : Table → Memory → ℕ → ℕ → ℕ → Bool
 visible T m p v k =
-    both (inRange 1 (m createdAt) p)
-    (both (inRange 2 3 (m (statusAt p)))
+    both (between 1 (m createdAt) p)
+    (both (between 2 3 (m (statusAt p)))
     (both (belongs T (m (moduleAt p)) v)
     (ltb k (wordsOf T (varType T v)))))
 

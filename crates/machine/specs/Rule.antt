@@ -3,7 +3,7 @@
 use Prim.Native.Nat.{ℕ, zero, suc, _+_, _-_, _/_, _%_}
 use mathlib.Core.Bool.{Bool, true, false, not}
 use lib.Dec.{eqb, leb, ltb}
-use Rattle.basics.specs.Choice.{pick, both, either, allBelow}
+use Rattle.basics.specs.Choice.{pick, both, either, allBelow, between}
 use Rattle.table.specs.Table.{Table}
 use Rattle.table.specs.Entries.{varMode, varType, owner, firstVar, vars, firstStmt, stmtLimit}
 use Rattle.machine.specs.Memory.{Memory}
@@ -12,7 +12,7 @@ use Rattle.machine.specs.Entries.{waits, Statement, skip, assign, localC
 use Rattle.sizes.specs.Sizes.{moduleWords}
 use Rattle.machine.specs.Variables.{frameWords, offsetOf, isModule, isProcedure}
 use Rattle.machine.specs.Values.{holds, partOfBlock}
-use Rattle.machine.specs.Step.{inRange}
+use Rattle.machine.specs.Outcomes.{isFailure}
 
 -- statement c is one of block b's
 unfoldable pub liesIn : Table → ℕ → ℕ → Bool
@@ -48,11 +48,21 @@ mayWait (write a b) = false
 mayWait blockEnd = false
 mayWait noStatement = false
 
-module _ (T : Table) (m : Memory) where
-  -- p is a created process
-  unfoldable pub isCreated : ℕ → Bool
-  isCreated p = inRange 1 (m createdAt) p
+-- p is a created process
+unfoldable pub isCreated : Memory → ℕ → Bool
+isCreated m p = between 1 (m createdAt) p
 
+-- r is the process w that process p works on, or one that it worked on when it made one of its d calls, the innermost of which has its
+-- frame at f
+unfoldable pub worked : Memory → ℕ → ℕ → ℕ → ℕ → ℕ → Bool
+worked m p zero f w r = eqb w r
+worked m p (suc d) f w r = either (eqb w r) (worked m p d (callerFrame m p f) (callerWorks m p f) r)
+
+-- the run has not failed, or by a number that there is
+unfoldable pub failureOk : Memory → Bool
+failureOk m = either (eqb (m failureAt) 0) (isFailure (m failureAt))
+
+module _ (T : Table) (m : Memory) where
   -- word k of the area of process p lies in a value parameter or local of one of its d calls, the innermost of which has its frame at f,
   -- and a part of type τ begins there
   unfoldable pub owns : ℕ → ℕ → ℕ → ℕ → ℕ → Bool
@@ -61,17 +71,11 @@ module _ (T : Table) (m : Memory) where
       either (both (leb (f + 4) k) (partOfBlock T (calledBlock m p f) τ (k - (f + 4))))
       (owns p d (callerFrame m p f) τ k)
 
-  -- r is the process w that process p works on, or one that it worked on when it made one of its d calls, the innermost of which has its
-  -- frame at f
-  unfoldable pub worked : ℕ → ℕ → ℕ → ℕ → ℕ → Bool
-  worked p zero f w r = eqb w r
-  worked p (suc d) f w r = either (eqb w r) (worked p d (callerFrame m p f) (callerWorks m p f) r)
-
   -- at location a stands a live variable of type τ, or such a part of one: of the module variables of one of these processes, or of those d
   -- calls
   unfoldable pub lives : ℕ → ℕ → ℕ → ℕ → ℕ → ℕ → Bool
   lives p d f w τ a =
-      either (both (worked p d f w (a / 256 + 1)) (partOfBlock T (m (moduleAt (a / 256 + 1))) τ (a % 256)))
+      either (both (worked m p d f w (a / 256 + 1)) (partOfBlock T (m (moduleAt (a / 256 + 1))) τ (a % 256)))
       (both (eqb (a / 256 + 1) p) (owns p d f τ (a % 256)))
 
   -- process p holds the variables of process w, on which it works in its own block or in one of its calls; where it stands at a when or cycle
@@ -85,7 +89,7 @@ module _ (T : Table) (m : Memory) where
   worksBy p d f w skip = false
   worksBy p d f w (assign a b) = false
   worksBy p d f w (localCall q c n) = eqb (callerWorks m p f) w
-  worksBy p d f w (processCall a q c n) = not (worked p d (callerFrame m p f) (callerWorks m p f) w)
+  worksBy p d f w (processCall a q c n) = not (worked m p d (callerFrame m p f) (callerWorks m p f) w)
   worksBy p d f w (create a) = false
   worksBy p d f w (start a c n) = false
   worksBy p d f w (opener k) = false
@@ -117,7 +121,7 @@ module _ (T : Table) (m : Memory) where
   unfoldable pub frameOk : ℕ → ℕ → ℕ → ℕ → ℕ → Bool
   frameOk f w c top q =
       both (leb (f + 4) 256)
-      (both (both (isCreated w) (not (eqb (m (statusAt w)) 1)))
+      (both (both (isCreated m w) (not (eqb (m (statusAt w)) 1)))
       (both (isProcedure T q)
       (both (eqb (owner T q) (m (moduleAt w)))
       (both (eqb (f + 4 + frameWords T q) top)
@@ -142,8 +146,8 @@ module _ (T : Table) (m : Memory) where
   unfoldable pub moduleOk : ℕ → Bool
   moduleOk p =
       pick (eqb p 1)
-      (both (inRange 2 3 (m (statusAt p))) (eqb (m (moduleAt p)) 0))
-      (both (inRange 1 3 (m (statusAt p))) (isModule T (m (moduleAt p))))
+      (both (between 2 3 (m (statusAt p))) (eqb (m (moduleAt p)) 0))
+      (both (between 1 3 (m (statusAt p))) (isModule T (m (moduleAt p))))
 
   unfoldable pub startedOk : ℕ → Bool
   startedOk p =
@@ -156,12 +160,9 @@ module _ (T : Table) (m : Memory) where
       (both (modulesHold p (m (moduleAt p)))
       (pick (eqb (m (statusAt p)) 2) (startedOk p) true)))
 
-  unfoldable pub failureOk : Bool
-  failureOk = either (eqb (m failureAt) 0) (inRange 16 24 (m failureAt))
-
   -- THE STATE RULE
   unfoldable pub rule : Bool
   rule =
-      both (inRange 1 64 (m createdAt))
-      (both failureOk
+      both (between 1 64 (m createdAt))
+      (both (failureOk m)
       (allBelow (m createdAt) (λ i. processOk (i + 1))))

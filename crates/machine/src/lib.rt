@@ -2,8 +2,9 @@
 ghost use mathlib.Core.Path.{_≡_};
 ghost use Prim.Native.Nat.{_*_, _≤_, _<_};
 ghost use Rattle.machine.specs.Memory.{memoryOf, update};
+ghost use Rattle.machine.specs.Outcomes.{isFailure};
 ghost use Rattle.machine.specs.Layout.{location, recordAt, stateWords, locations};
-ghost use Rattle.machine.specs.Lent.{Lent, Changed, State, Becomes};
+ghost use Rattle.machine.specs.Lent.{State, Becomes};
 
 // The words of a state: 64 areas of 256 words, then 64 control records of 20.
 pub const STATE_WORDS: usize = 17664;
@@ -29,6 +30,13 @@ pub const CREATED: usize = 8;
 
 pub const FAILURE: usize = 9;
 
+// n is the number of a failure (01, Step answers).
+pub fn is_failure(n: usize) -> bool
+    ensures { λ r. ⌜ r ≡ isFailure n ⌝ }
+{
+    basics::between(16, 24, n)
+}
+
 // Where word k of the area of process p stands.
 pub fn location_of(p: usize, k: usize) -> usize
     requires { ⌜ (1 ≤ p) × ((p ≤ 64) × (k ≤ 255)) ⌝ }
@@ -45,22 +53,22 @@ pub fn record_of(p: usize, k: usize) -> usize
     16384 + (p - 1) * 20 + k
 }
 
-// Word i of a memory of n words.
-pub fn word_of(s: &[u8], n: usize, i: usize) -> u16
-    requires { ⌜ Lent n (now s) ⌝ }
-    requires { ⌜ i < n ⌝ }
-    ensures { λ r. ⌜ r ≡ memoryOf (now (s .entry)) i ⌝ }
+// Word i of a state.
+pub fn word_of(state: &[u8], i: usize) -> u16
+    requires { ⌜ State (now state) ⌝ }
+    requires { ⌜ i < stateWords ⌝ }
+    ensures { λ r. ⌜ r ≡ memoryOf (now (state .entry)) i ⌝ }
 {
-    words::memory::get(s, i)
+    words::memory::get(state, i)
 }
 
-// Makes word i of a memory of n words v.
-pub fn set_word(s: &mut [u8], n: usize, i: usize, v: u16)
-    requires { ⌜ Lent n (now s) ⌝ }
-    requires { ⌜ i < n ⌝ }
-    ensures { λ _. ⌜ Changed n (now (s .exit)) (update (memoryOf (now (s .entry))) i v) ⌝ }
+// Makes it v.
+pub fn set_word(state: &mut [u8], i: usize, v: u16)
+    requires { ⌜ State (now state) ⌝ }
+    requires { ⌜ i < stateWords ⌝ }
+    ensures { λ _. ⌜ Becomes (now (state .exit)) (update (memoryOf (now (state .entry))) i v) ⌝ }
 {
-    words::memory::put(s, i, v);
+    words::memory::put(state, i, v);
 }
 
 // Word k of the area of process p.
@@ -69,7 +77,7 @@ pub fn area_word(state: &[u8], p: usize, k: usize) -> u16
     requires { ⌜ (1 ≤ p) × ((p ≤ 64) × (k ≤ 255)) ⌝ }
     ensures { λ r. ⌜ r ≡ memoryOf (now (state .entry)) (location p k) ⌝ }
 {
-    word_of(state, STATE_WORDS, location_of(p, k))
+    word_of(state, location_of(p, k))
 }
 
 pub fn set_area_word(state: &mut [u8], p: usize, k: usize, v: u16)
@@ -77,7 +85,7 @@ pub fn set_area_word(state: &mut [u8], p: usize, k: usize, v: u16)
     requires { ⌜ (1 ≤ p) × ((p ≤ 64) × (k ≤ 255)) ⌝ }
     ensures { λ _. ⌜ Becomes (now (state .exit)) (update (memoryOf (now (state .entry))) (location p k) v) ⌝ }
 {
-    set_word(state, STATE_WORDS, location_of(p, k), v);
+    set_word(state, location_of(p, k), v);
 }
 
 // Word k of the control record of process p.
@@ -86,7 +94,7 @@ pub fn record_word(state: &[u8], p: usize, k: usize) -> u16
     requires { ⌜ (1 ≤ p) × ((p ≤ 64) × (k < 20)) ⌝ }
     ensures { λ r. ⌜ r ≡ memoryOf (now (state .entry)) (recordAt p k) ⌝ }
 {
-    word_of(state, STATE_WORDS, record_of(p, k))
+    word_of(state, record_of(p, k))
 }
 
 pub fn set_record_word(state: &mut [u8], p: usize, k: usize, v: u16)
@@ -94,5 +102,5 @@ pub fn set_record_word(state: &mut [u8], p: usize, k: usize, v: u16)
     requires { ⌜ (1 ≤ p) × ((p ≤ 64) × (k < 20)) ⌝ }
     ensures { λ _. ⌜ Becomes (now (state .exit)) (update (memoryOf (now (state .entry))) (recordAt p k) v) ⌝ }
 {
-    set_word(state, STATE_WORDS, record_of(p, k), v);
+    set_word(state, record_of(p, k), v);
 }

@@ -39,11 +39,11 @@ use Rattle.sound.proofs.EvaluationScopes.{node-scoping, all-scoped}
 module _ (T : Table) (m : Memory) (p τ : ℕ) where
   place-is-good : (o : Outcome Operand) → GoodPlace T m p τ o → Good T m p τ o
   place-is-good _ (at-place a l) = selects a (l .alive)
-  place-is-good _ (no-place n l h) = claims.fails n l h
+  place-is-good _ (no-place n l) = claims.fails n l
 
   value-is-good : (o : Outcome Operand) → GoodValue T m τ o → Good T m p τ o
   value-is-good _ (a-value ws v s) = yields ws v
-  value-is-good _ (no-value n l h) = claims.fails n l h
+  value-is-good _ (no-value n l) = claims.fails n l
 
 -- the words of arguments fill the parameters of block b
 pub fills : (T : Table) (m : Memory) (p b : ℕ) (ws : List ℕ) → Bound T m p (params T b) (firstVar T b) ws → Fills T m p b ws
@@ -60,10 +60,10 @@ module _ (T : Table) (acc : Accepted T) (inner : scoped T ≡ true) (L : PlaceLa
   R = ruled T m (S .ruled)
 
   some : 1 ≤ p
-  some = created-low T m p (S .created)
+  some = created-low m p (S .created)
 
   made : p ≤ m createdAt
-  made = created-high T m p (S .created)
+  made = created-high m p (S .created)
 
   there : blockOf m p < blockCount T
   there = stands T acc m p some made (R .process p some made) (S .started) .there

@@ -23,7 +23,7 @@ use Rattle.sizes.specs.Sizes.{sumBelow}
 use Rattle.sizes.proofs.Sums.{sum-up}
 use Rattle.machine.specs.Memory.{Memory, wordsAt}
 use Rattle.machine.specs.Layout.{statusAt, createdAt, locations}
-use Rattle.machine.specs.Outcomes.{Outcome, ok, fail, andThen}
+use Rattle.machine.specs.Outcomes.{Outcome, ok, fail, andThen, isFailure}
 use Rattle.machine.specs.Variables.{varWords, firstWords, frameWords, fits}
 use Rattle.machine.specs.Values.{holds}
 use Rattle.machine.specs.Context.{contextOf, blockOf}
@@ -188,7 +188,7 @@ module _ (T : Table) (acc : Accepted T) (m : Memory) (p q : ℕ) (there : q < bl
 data GoodArgument (T : Table) (m : Memory) (p v : ℕ) : Outcome (List ℕ) → Type 0 where
   for-value : (us : List ℕ) → (varMode T v ≡ 2 → ⊥) → IsValue T m (varType T v) us → SmallWords us → GoodArgument T m p v (ok us)
   for-place : (a : ℕ) → varMode T v ≡ 2 → Live T m p (varType T v) a → GoodArgument T m p v (ok (a ∷ []))
-  for-none : (n : ℕ) → 16 ≤ n → n ≤ 24 → GoodArgument T m p v (fail n)
+  for-none : (n : ℕ) → isFailure n ≡ true → GoodArgument T m p v (fail n)
 
 -- the argument i suits the parameter v
 pub record Passes (T : Table) (scope : ℕ → Type 0) (v i : ℕ) : Type 0 where
@@ -237,11 +237,11 @@ module _ (T : Table) (acc : Accepted T) (L : PlaceLaws T) (W : WordTable T) (m :
 
   joined : (k v : ℕ) (o q : Outcome (List ℕ)) → GoodArgument T m p v o → GoodArguments T m p k (v + 1) q → GoodArguments T m p (suc k) v (andThen o λ us. andThen q λ vs. ok (us ++ vs))
   unfolding andThen
-  joined k v _ _ (for-none n l h) g = no-words n l h
+  joined k v _ _ (for-none n l) g = no-words n l
   joined k v _ _ (for-value us n u w) (the-words ws b) = the-words (us ++ ws) (by-value us n u w b)
-  joined k v _ _ (for-value us n u w) (no-words j l h) = no-words j l h
+  joined k v _ _ (for-value us n u w) (no-words j l) = no-words j l
   joined k v _ _ (for-place a e l) (the-words ws b) = the-words (a ∷ ws) (by-place a e l b)
-  joined k v _ _ (for-place a e l) (no-words j g h) = no-words j g h
+  joined k v _ _ (for-place a e l) (no-words j g) = no-words j g
 
   words-good : (k v i : ℕ) → ((j : ℕ) → j < k → Passes T scope (v + j) (i + j)) → GoodArguments T m p k v (argumentWords T m page (contextOf m p) k v i)
   unfolding argumentWords

@@ -9,7 +9,7 @@ use borrow.Author.Tests.{eq-eqb}
 use Rattle.table.specs.Table.{Table}
 use Rattle.machine.specs.Memory.{Memory}
 use Rattle.machine.specs.Layout.{location}
-use Rattle.machine.specs.Outcomes.{Outcome, fail, andThen, need, failWhere, Operand, placed, valued, onPlace, onValue, onWord, wordOf}
+use Rattle.machine.specs.Outcomes.{Outcome, fail, andThen, need, failWhere, Operand, placed, valued, onPlace, onValue, onWord, wordOf, isFailure}
 use Rattle.machine.proofs.Outcomes.{need-true}
 use Rattle.sound.specs.Claims.{IsValue}
 use Rattle.sound.specs.Evaluated.{SmallWords, Live, GoodPlace, at-place, no-place, GoodValue, a-value, no-value}
@@ -17,25 +17,25 @@ use Rattle.sound.specs.Evaluated.{SmallWords, Live, GoodPlace, at-place,
 -- ---- outcomes
 
 -- what holds of an outcome, where each listed failure has it
-module _ {A : Type 0} (R : Outcome A → Type 0) (fails : (n : ℕ) → 16 ≤ n → n ≤ 24 → R (fail n)) where
+module _ {A : Type 0} (R : Outcome A → Type 0) (fails : (n : ℕ) → isFailure n ≡ true → R (fail n)) where
   pub on-need : (b : Bool) (o : Outcome A) → b ≡ true → R o → R (need b o)
   on-need b o e h = rw (need-true b o e) h
 
-  pub on-fail : (b : Bool) (n : ℕ) (o : Outcome A) → 16 ≤ n → n ≤ 24 → (b ≡ false → R o) → R (failWhere b n o)
+  pub on-fail : (b : Bool) (n : ℕ) (o : Outcome A) → isFailure n ≡ true → (b ≡ false → R o) → R (failWhere b n o)
   unfolding failWhere
-  on-fail true n o l k h = fails n l k
-  on-fail false n o l k h = h refl
+  on-fail true n o l h = fails n l
+  on-fail false n o l h = h refl
 
   module _ (T : Table) (m : Memory) where
     pub on-place : (p τ : ℕ) (o : Outcome Operand) (f : ℕ → ℕ → Outcome A) → GoodPlace T m p τ o → ((a : ℕ) → Live T m p τ a → R (f a τ)) → R (onPlace o f)
     unfolding onPlace andThen placed
     on-place p τ _ f (at-place a l) h = h a l
-    on-place p τ _ f (no-place n l k) h = fails n l k
+    on-place p τ _ f (no-place n l) h = fails n l
 
     pub on-value : (τ : ℕ) (o : Outcome Operand) (f : ℕ → List ℕ → Outcome A) → GoodValue T m τ o → ((ws : List ℕ) → IsValue T m τ ws → SmallWords ws → R (f τ ws)) → R (onValue o f)
     unfolding onValue andThen valued
     on-value τ _ f (a-value ws v s) h = h ws v s
-    on-value τ _ f (no-value n l k) h = fails n l k
+    on-value τ _ f (no-value n l) h = fails n l
 
     pub on-word : (τ : ℕ) (o : Outcome Operand) (f : ℕ → Outcome A) → GoodValue T m τ o → ((ws : List ℕ) → IsValue T m τ ws → SmallWords ws → R (f (wordOf ws))) → R (onWord o τ f)
     unfolding onWord

@@ -28,6 +28,7 @@ use Rattle.machine.specs.Entries.{whole, nodeOf, nodeAt}
 use Rattle.machine.specs.Context.{contextOf, blockOf}
 use Rattle.machine.specs.Operands.{onRecord, onArray, outside, placeAt, fieldPlace, elementPlace, nodeOperand, operandAt, operand}
 use Rattle.machine.proofs.Entries.{at-record, at-array}
+use Rattle.machine.proofs.Tests.{failure-i}
 use Rattle.verdict.specs.Accepted.{Accepted}
 use Rattle.sound.specs.Claims.{PlaceLaws}
 use Rattle.sound.specs.Answers.{Small}
@@ -56,7 +57,7 @@ module _ (T : Table) (acc : Accepted T) (L : PlaceLaws T) (W : WordTable T) (m :
   element-good a σ o k g v =
       rw (at-array T σ k)
       (on-word (GoodPlace T m p (typeQ T σ)) no-place T m (typeP T σ) o _ g (λ ws u t.
-      on-fail (GoodPlace T m p (typeQ T σ)) no-place (outside (typeLow T σ) (typeHigh T σ) (wordOf ws)) 18 _ (omega arith) (omega arith) (λ e. found (wordOf ws) (word-small ws t) e)))
+      on-fail (GoodPlace T m p (typeQ T σ)) no-place (outside (typeLow T σ) (typeHigh T σ) (wordOf ws)) 18 _ (failure-i 18 (omega arith) (omega arith)) (λ e. found (wordOf ws) (word-small ws t) e)))
     where
       found : (i : ℕ) → i < 65536 → outside (typeLow T σ) (typeHigh T σ) i ≡ false → GoodPlace T m p (typeQ T σ) (placeAt T (a + (offset i - offset (typeLow T σ)) * wordsOf T (typeQ T σ)) (typeQ T σ))
       found i l e =

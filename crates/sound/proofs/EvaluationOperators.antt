@@ -24,9 +24,10 @@ use Rattle.words.proofs.Integers.{word-lt, in-range-mag}
 use Rattle.words.proofs.StandardTypes.{boolean-is, character-is}
 use Rattle.words.proofs.BitLaws.{and-word, or-word, not-boolean, and-boolean, or-boolean}
 use Rattle.machine.specs.Memory.{Memory}
-use Rattle.machine.specs.Outcomes.{Outcome, fail, need, wordOf}
+use Rattle.machine.specs.Outcomes.{Outcome, fail, need, wordOf, isFailure}
 use Rattle.machine.specs.Entries.{unaryAt, binaryAt}
 use Rattle.machine.specs.Operands.{simple, truth, given, deviceWord, unaryValue, ordered, integral, logical, binaryValue, outside}
+use Rattle.machine.proofs.Tests.{failure-i}
 use Rattle.sound.specs.Claims.{IsValue}
 use Rattle.sound.specs.Answers.{Small}
 use Rattle.sound.specs.Evaluated.{SmallWords, GoodValue, a-value, no-value}
@@ -37,17 +38,17 @@ use Rattle.sound.proofs.EvaluationTypes.{one-small, word-small}
 -- an operator gives a word, or a listed failure
 pub data Ranged : words.Outcome → Type 0 where
   a-word : (w : ℕ) → w < 65536 → Ranged (words.word w)
-  no-word : (n : ℕ) → 16 ≤ n → n ≤ 24 → Ranged (words.fail n)
+  no-word : (n : ℕ) → isFailure n ≡ true → Ranged (words.fail n)
 
 ranged-is : (z : ℤ) → Ranged (ranged z)
 unfolding ranged
 ranged-is z =
     cases (between (negsuc 32767) (pos 32767) z)
     (λ e. rw e (a-word (numbers.wordOf z) (word-lt z (in-range-mag z e))))
-    (λ e. rw e (no-word 16 (omega arith) (omega arith)))
+    (λ e. rw e (no-word 16 (failure-i 16 (omega arith) (omega arith))))
 
 divided : (b : ℕ) (z : ℤ) → Ranged (pick (eqb b 0) (words.fail 17) (ranged z))
-divided b z = cases (eqb b 0) (λ e. rw e (no-word 17 (omega arith) (omega arith))) (λ e. rw e (ranged-is z))
+divided b z = cases (eqb b 0) (λ e. rw e (no-word 17 (failure-i 17 (omega arith) (omega arith)))) (λ e. rw e (ranged-is z))
 
 add-is : (a b : ℕ) → Ranged (addW a b)
 unfolding addW
@@ -119,12 +120,12 @@ module _ (T : Table) (m : Memory) where
   given-good : (o : words.Outcome) → Ranged o → GoodValue T m 0 (given 0 o)
   unfolding given
   given-good _ (a-word w l) = integer-good w l
-  given-good _ (no-word n l h) = no-value n l h
+  given-good _ (no-word n l) = no-value n l
 
   transferred : (τ w : ℕ) (b : Bool) → (b ≡ true → IsValue T m τ (w ∷ [])) → w < 65536 → GoodValue T m τ (given τ (pick b (words.word w) (words.fail 23)))
   unfolding given
   transferred τ w true h l = simple-good τ w (h refl) l
-  transferred τ w false h l = no-value 23 (omega arith) (omega arith)
+  transferred τ w false h l = no-value 23 (failure-i 23 (omega arith) (omega arith))
 
   pub transfer-good : (τ w : ℕ) → τ ≤ 2 → w < 65536 → GoodValue T m τ (given τ (transferW τ w))
   unfolding transferW
@@ -157,7 +158,7 @@ module _ (T : Table) (m : Memory) where
     unary-good (suc (suc (suc zero))) τ a b h i =
         let e : τ ≡ 0 = i (λ z. omega arith) in
         rw e (on-need (GoodValue T m 0) no-value true _ refl
-        (on-fail (GoodValue T m 0) no-value (bool.not (isDevice (intOf w))) 21 _ (omega arith) (omega arith) (λ z. integer-good (page (deviceWord w)) (ps .small (deviceWord w)))))
+        (on-fail (GoodValue T m 0) no-value (bool.not (isDevice (intOf w))) 21 _ (failure-i 21 (omega arith) (omega arith)) (λ z. integer-good (page (deviceWord w)) (ps .small (deviceWord w)))))
     unary-good (suc (suc (suc (suc q)))) τ a b h i = absurd (omega arith)
 
   -- binary operators

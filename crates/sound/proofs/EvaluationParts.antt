@@ -85,7 +85,7 @@ module _ (T : Table) (acc : Accepted T) (L : PlaceLaws T) (σ τ k : ℕ) (t : �
       unfolding lives
       further-lives e =
           rw (area, word)
-          (either-case (both (worked T m p (m (depthAt p)) (m (frameAt p)) (m (worksAt p)) (a / 256 + 1)) (partOfBlock T (m (moduleAt (a / 256 + 1))) σ (a % 256))) (both (eqb (a / 256 + 1) p) (owns T m p (m (depthAt p)) (m (frameAt p)) σ (a % 256))) e
+          (either-case (both (worked m p (m (depthAt p)) (m (frameAt p)) (m (worksAt p)) (a / 256 + 1)) (partOfBlock T (m (moduleAt (a / 256 + 1))) σ (a % 256))) (both (eqb (a / 256 + 1) p) (owns T m p (m (depthAt p)) (m (frameAt p)) σ (a % 256))) e
           (λ q.
           let c : ℕ = a / 256 + 1 in
           let h = both-l _ _ q in

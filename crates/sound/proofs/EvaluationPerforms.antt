@@ -16,7 +16,7 @@ use Rattle.numbers.proofs.OperandPromise as ranged
 use Rattle.typing.proofs.Promise as typing
 use Rattle.machine.specs.Memory.{Memory, update}
 use Rattle.machine.specs.Layout.{statusAt, moduleAt, statementAt, frameAt, topAt, worksAt, holderAt, depthAt, createdAt, callerFrame, callStatement, callerWorks, calledBlock}
-use Rattle.machine.specs.Outcomes.{Outcome, ok, fail, andThen, wordOf}
+use Rattle.machine.specs.Outcomes.{Outcome, ok, fail, andThen, wordOf, isFailure}
 use Rattle.machine.specs.Entries.{Opener, if, while, when, cycle, Statement, skip, assign, localCall, processCall, create, start, opener, arm, endArms, write, blockEnd, noStatement, statementOf, stmtAt}
 use Rattle.machine.specs.Entries as entries
 use Rattle.machine.specs.Context.{contextOf, blockOf}
@@ -52,7 +52,7 @@ module _ (T : Table) (b c : ℕ) where
 pub data Chosen (T : Table) (b : ℕ) : Outcome Choice → Type 0 where
   entering : (i : ℕ) → StmtOf T b i → stmtKind T i ≡ 10 → Chosen T b (ok (enters i))
   skipping : (i : ℕ) → StmtOf T b i → stmtKind T i ≡ 11 → Chosen T b (ok (skips i))
-  failing : (n : ℕ) → 16 ≤ n → n ≤ 24 → Chosen T b (fail n)
+  failing : (n : ℕ) → isFailure n ≡ true → Chosen T b (fail n)
 
 -- statement numbers are words
 pub next-small : (T : Table) → WordTable T → (b : ℕ) → stmtLimit T b < 65536
@@ -143,10 +143,10 @@ module _ (T : Table) (acc : Accepted T) (L : PlaceLaws T) (W : WordTable T) (m :
   chosen-good while w _ (skipping i o e) = goes (i + 1) w (after i o (λ z. omega arith))
   chosen-good when w _ (skipping i o e) = gives-up w
   chosen-good cycle w _ (skipping i o e) = gives-up w
-  chosen-good if w _ (failing n l h) = fails n l h
-  chosen-good while w _ (failing n l h) = fails n l h
-  chosen-good when w _ (failing n l h) = fails n l h
-  chosen-good cycle w _ (failing n l h) = fails n l h
+  chosen-good if w _ (failing n l) = fails n l
+  chosen-good while w _ (failing n l) = fails n l
+  chosen-good when w _ (failing n l) = fails n l
+  chosen-good cycle w _ (failing n l) = fails n l
 
   module _ (low : 6 ≤ stmtKind T stmt) (high : stmtKind T stmt ≤ 9) where
     next : StmtOf T (blockOf m p) (stmt + 1)
@@ -188,7 +188,7 @@ module _ (T : Table) (acc : Accepted T) (L : PlaceLaws T) (W : WordTable T) (m :
       (λ q.
       let k : stmtKind T i ≡ 10 = eqb-true (stmtKind T i) 10 q in
       rw (arm-is i o k)
-      (on-need (Performed T m page p) (λ n l h. fails n l h) (ltb i (stmtLink T i)) _ (lt-ltb i (stmtLink T i) (arm-up T (acc .nesting) (blockOf m p) there i o k)) (next k)))
+      (on-need (Performed T m page p) (λ n l. fails n l) (ltb i (stmtLink T i)) _ (lt-ltb i (stmtLink T i) (arm-up T (acc .nesting) (blockOf m p) there i o k)) (next k)))
       (λ q.
       let k : stmtKind T i ≡ 11 = omega (arith, eqb-false (stmtKind T i) 10 q) in
       rw (end-is i o k) (stop k))

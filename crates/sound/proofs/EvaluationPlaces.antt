@@ -6,7 +6,7 @@ use native.Mathlib.Omega.{arith}
 use native.Mathlib.Nat.{zero-add}
 use lib.Dec.{eqb, leb}
 use borrow.Author.Tests.{eqb-true, leb-true, le-leb, lt-ltb}
-use Rattle.basics.specs.Choice.{both}
+use Rattle.basics.specs.Choice.{both, between}
 use Rattle.basics.proofs.Bools.{no-true, both-l, both-r, both-i, either-case}
 use Rattle.table.specs.Table.{Table}
 use Rattle.table.specs.Entries.{typeCount, blockCount, varMode, varType, firstVar, vars}
@@ -15,7 +15,6 @@ use Rattle.machine.specs.Memory.{Memory}
 use Rattle.machine.specs.Layout.{location, moduleAt, createdAt, callerFrame, callStatement, callerWorks, calledBlock, locations}
 use Rattle.machine.specs.Variables.{offsetOf, fits}
 use Rattle.machine.specs.Values.{holds, partOfBlock}
-use Rattle.machine.specs.Step.{inRange}
 use Rattle.machine.specs.Rule.{isCreated, owns, lives}
 use Rattle.machine.proofs.Tests.{range-low, range-high}
 use Rattle.verdict.specs.Accepted.{Accepted}
@@ -109,7 +108,7 @@ module _ (T : Table) (ok : Accepted T) (L : PlaceLaws T) (m : Memory) (R : Ruled
     pub lives-housed : (d f w c top τ a : ℕ) → Chained T m p d f w c top → lives T m p d f w τ a ≡ true → Housed T m τ a
     unfolding isCreated
     lives-housed d f w c top τ a C e =
-        either-case (both (inRange 1 (m createdAt) (a / 256 + 1)) (partOfBlock T (m (moduleAt (a / 256 + 1))) τ (a % 256))) (both (eqb (a / 256 + 1) p) (owns T m p d f τ (a % 256))) (lives-there T m p some made C τ a e)
+        either-case (both (between 1 (m createdAt) (a / 256 + 1)) (partOfBlock T (m (moduleAt (a / 256 + 1))) τ (a % 256))) (both (eqb (a / 256 + 1) p) (owns T m p d f τ (a % 256))) (lives-there T m p some made C τ a e)
         (λ q. rw (location-of a) at (module-housed (a / 256 + 1) (range-low 1 (m createdAt) (a / 256 + 1) (both-l _ _ q)) (range-high 1 (m createdAt) (a / 256 + 1) (both-l _ _ q)) τ (a % 256) (both-r _ _ q)))
         (λ q.
         let i : a / 256 + 1 ≡ p = eqb-true (a / 256 + 1) p (both-l _ _ q) in

@@ -22,7 +22,7 @@ use Rattle.typing.proofs.Promise.{Arguments}
 use Rattle.typing.proofs.Promise as typing
 use Rattle.machine.specs.Memory.{Memory, update}
 use Rattle.machine.specs.Layout.{statusAt, statementAt, worksAt, holderAt, depthAt, createdAt}
-use Rattle.machine.specs.Outcomes.{Outcome, ok, fail, andThen, need, failWhere, wordOf}
+use Rattle.machine.specs.Outcomes.{Outcome, ok, fail, andThen, need, failWhere, wordOf, isFailure}
 use Rattle.machine.specs.Entries.{localCall, processCall, statementOf, stmtAt}
 use Rattle.machine.specs.Variables.{frameWords, isProcedure}
 use Rattle.machine.specs.Processes.{onModule, onProcess, refers, onReference}
@@ -33,6 +33,7 @@ use Rattle.machine.specs.Calls.{arguments, topAfter, pushed, call}
 use Rattle.machine.specs.Statements.{Effect, effect, goTo, goOn, wait, moved, doAssign, doLocalCall, free, doProcessCall, doCreate, doStart, doWrite, perform}
 use Rattle.machine.specs.Rule as state
 use Rattle.machine.proofs.Entries.{at-process}
+use Rattle.machine.proofs.Tests.{failure-i}
 use Rattle.words.specs.Numbers.{intOf}
 use Rattle.words.specs.Devices.{isDevice}
 use Rattle.verdict.specs.Accepted.{Accepted}
@@ -81,8 +82,8 @@ module _ (T : Table) (acc : Accepted T) (L : PlaceLaws T) (W : WordTable T) (m :
   passes : (k : ℕ) → stmtKind T stmt ≡ k → state.mayWait (statementOf k (stmtA T stmt) (stmtB T stmt) (stmtC T stmt) (stmtD T stmt) (stmtLink T stmt)) ≡ false → Passing T m p
   passes k e h = rw (stmt-is T stmt k l e) h
 
-  on-failed : (n : ℕ) → 16 ≤ n → n ≤ 24 → Performed T m page p (fail n)
-  on-failed n a b = fails n a b
+  on-failed : (n : ℕ) → isFailure n ≡ true → Performed T m page p (fail n)
+  on-failed n a = fails n a
 
   pub variable-good : (n : ℕ) → Variable T (nodeCount T) n → scope n → GoodPlace T m p (typeOf T n) (operand T m page (contextOf m p) n)
   variable-good n v c = node-good T acc L W m R ms page ps p some made s scope S n (v .below) c .variable (v .low) (v .high)
@@ -112,7 +113,7 @@ module _ (T : Table) (acc : Accepted T) (L : PlaceLaws T) (W : WordTable T) (m :
       (rw (typing.written-address T (acc .types) stmt l k) at (expression-good (stmtA T stmt) (ranged.write-address T (acc .numbers) stmt l k) ca))
       (λ us u a. on-word (Performed T m page p) on-failed T m 0 (operand T m page (contextOf m p) (stmtB T stmt)) _
       (rw (typing.written-value T (acc .types) stmt l k) at (expression-good (stmtB T stmt) (ranged.write-value T (acc .numbers) stmt l k) cb))
-      (λ vs v b. on-fail (Performed T m page p) on-failed (not (isDevice (intOf (wordOf us)))) 21 _ (omega arith) (omega arith)
+      (λ vs v b. on-fail (Performed T m page p) on-failed (not (isDevice (intOf (wordOf us)))) 21 _ (failure-i 21 (omega arith) (omega arith))
       (λ e. writes (wordOf us) (wordOf vs) (passes 12 k refl) on (word-small us a) (word-small vs b) (not-false _ e)))))
 
   -- 4, create
@@ -129,14 +130,14 @@ module _ (T : Table) (acc : Accepted T) (L : PlaceLaws T) (W : WordTable T) (m :
       let t = typing.created-variable T (acc .types) stmt l k in
       rw (stmt-is T stmt 4 l k)
       (on-process (stmtA T stmt) _ t (ranged.create-variable T (acc .numbers) stmt l k) c
-      (λ a w. on-fail (Performed T m page p) on-failed (eqb (m createdAt) 64) 24 _ (omega arith) (omega arith)
+      (λ a w. on-fail (Performed T m page p) on-failed (eqb (m createdAt) 64) 24 _ (failure-i 24 (omega arith) (omega arith))
       (λ e. let z = eqb-false (m createdAt) 64 e in let y = R .most in creates (typeOf T (stmtA T stmt)) a (passes 4 k refl) on w t (omega arith))))
 
   -- references
   on-reference : (τ a : ℕ) (f : ℕ → Outcome Effect) → Live T m p τ a → typeKind T τ ≡ 3 → (refers m (typeP T τ) (m a) ≡ true → Performed T m page p (f (m a))) → Performed T m page p (onReference m a (typeP T τ) f)
   unfolding onReference
   on-reference τ a f v k h =
-      on-fail (Performed T m page p) on-failed (eqb (m a) 0) 19 _ (omega arith) (omega arith)
+      on-fail (Performed T m page p) on-failed (eqb (m a) 0) 19 _ (failure-i 19 (omega arith) (omega arith))
       (λ e.
       let g = reference T m p τ a v k (eqb-false (m a) 0 e) in
       on-need (Performed T m page p) on-failed (refers m (typeP T τ) (m a)) _ g (h g))
@@ -155,7 +156,7 @@ module _ (T : Table) (acc : Accepted T) (L : PlaceLaws T) (W : WordTable T) (m :
   pushes u q r ws a h =
       rw (le-leb (length ws) (frameWords T q) a)
       (cases (ltb 256 (topAfter T m page (contextOf m p) q))
-      (λ e. rw e (on-failed 22 (omega arith) (omega arith)))
+      (λ e. rw e (on-failed 22 (failure-i 22 (omega arith) (omega arith))))
       (λ e.
       let b : topAfter T m page (contextOf m p) q ≤ 256 = ltb-false 256 (topAfter T m page (contextOf m p) q) e in
       rw (e, lt-ltb (m (depthAt p)) 64 (shallow q b)) (h b (shallow q b))))
@@ -166,7 +167,7 @@ module _ (T : Table) (acc : Accepted T) (L : PlaceLaws T) (W : WordTable T) (m :
     where
       go : (o : Outcome (List ℕ)) → GoodArguments T m p (params T q) (firstVar T q) o → Performed T m page p (andThen o f)
       go _ (the-words ws b) = unfold andThen in h ws b
-      go _ (no-words n x y) = unfold andThen in on-failed n x y
+      go _ (no-words n x) = unfold andThen in on-failed n x
 
   -- 2, local call
   pub local-performs : stmtKind T stmt ≡ 2 → owner T (stmtA T stmt) ≡ owner T (blockOf m p) → ((k : ℕ) → k < stmtD T stmt → scope (argNode T (stmtC T stmt + k))) → Performed T m page p (perform T m page (contextOf m p) (stmtAt T stmt))
@@ -245,7 +246,7 @@ module _ (T : Table) (acc : Accepted T) (L : PlaceLaws T) (W : WordTable T) (m :
       (λ a w.
       let μ = process-module T (acc .numbers) (typeOf T (stmtA T stmt)) (w .type) t in
       on-reference (typeOf T (stmtA T stmt)) a _ w t (λ g.
-      on-fail (Performed T m page p) on-failed (not (eqb (m (statusAt (m a))) 1)) 20 _ (omega arith) (omega arith) (λ h.
+      on-fail (Performed T m page p) on-failed (not (eqb (m (statusAt (m a))) 1)) 20 _ (failure-i 20 (omega arith) (omega arith)) (λ h.
       on-arguments (typeP T (typeOf T (stmtA T stmt))) (stmtC T stmt) (stmtD T stmt) _ (μ .0) (typing.started-arguments T (acc .types) stmt l k) (ranged.start-args T (acc .numbers) stmt l k) inside (λ ws b.
       let f = arguments-fit T acc m p (typeP T (typeOf T (stmtA T stmt))) (μ .0) ws b in
       let y = μ .1 in

@@ -7,7 +7,7 @@ use native.Mathlib.Omega.{arith}
 use lib.ListN.{length, getD, replicate}
 use lib.Dec.{eqb}
 use borrow.Author.Tests.{eqb-true, eqb-false, leb-true, le-ltb, le-leb, lt-ltb, eq-eqb}
-use Rattle.basics.specs.Choice.{either}
+use Rattle.basics.specs.Choice.{either, between}
 use Rattle.basics.specs.Cases.{cases}
 use Rattle.basics.proofs.Bools.{both-l, both-r, either-case}
 use Rattle.table.specs.Table.{Table}
@@ -18,17 +18,17 @@ use Rattle.sizes.specs.Sizes.{moduleWords}
 use Rattle.sizes.proofs.Promise.{module-most}
 use Rattle.machine.specs.Memory.{Memory, update}
 use Rattle.machine.specs.Layout.{location, statusAt, moduleAt, statementAt, frameAt, topAt, worksAt, holderAt, depthAt, createdAt, failureAt}
-use Rattle.machine.specs.Outcomes.{Outcome, ok, fail, need, failWhere}
+use Rattle.machine.specs.Outcomes.{Outcome, ok, fail, need, failWhere, isFailure}
 use Rattle.machine.specs.Entries.{localCall, processCall, stmtAt}
 use Rattle.machine.specs.Variables.{frameWords}
 use Rattle.machine.specs.Processes.{refers, created, started}
 use Rattle.machine.specs.Context.{contextOf, blockOf}
 use Rattle.machine.specs.Calls.{frame, topAfter, pushed, call, return}
 use Rattle.machine.specs.Statements.{Effect, effect, perform}
-use Rattle.machine.specs.Step.{settled, inRange, answers, proceeds, exists, turn, step}
+use Rattle.machine.specs.Step.{settled, answers, proceeds, exists, turn, step}
 use Rattle.machine.specs.Step as steps
 use Rattle.machine.specs.Rule.{liesIn, rule}
-use Rattle.machine.proofs.Tests.{range-low, range-high, range-i}
+use Rattle.machine.proofs.Tests.{range-low, range-high, range-i, failure-byte}
 use Rattle.machine.proofs.Entries.{at-process}
 use Rattle.verdict.specs.Accepted.{Accepted}
 use Rattle.sound.specs.Claims.{PlaceLaws, Started}
@@ -58,7 +58,7 @@ use Rattle.sound.proofs.Evaluation.{fills, performed}
 -- an outcome that leaves a state which meets the rule, or a listed failure
 data Kept (T : Table) : Outcome Effect → Type 0 where
   kept : (a : ℕ) (n d : Memory) → Listed a → rule T n ≡ true → Small n → Small d → Kept T (ok (effect a n d))
-  failed : (n : ℕ) → 16 ≤ n → n ≤ 24 → Kept T (fail n)
+  failed : (n : ℕ) → isFailure n ≡ true → Kept T (fail n)
 
 zeros-small : (n : ℕ) → SmallWords (replicate n 0)
 zeros-small n = record { words = go n }
@@ -77,10 +77,10 @@ module _ (T : Table) (acc : Accepted T) (inner : scoped T ≡ true) (L : PlaceLa
   R = ruled T m (S .ruled)
 
   some : 1 ≤ p
-  some = created-low T m p (S .created)
+  some = created-low m p (S .created)
 
   made : p ≤ m createdAt
-  made = created-high T m p (S .created)
+  made = created-high m p (S .created)
 
   process-small : p < 65536
   process-small = let x = R .most in let y = made in omega arith
@@ -195,7 +195,7 @@ module _ (T : Table) (acc : Accepted T) (inner : scoped T ≡ true) (L : PlaceLa
       kept 2 _ page (regular (omega arith)) (end-rule T acc L m p S y)
       (update-small _ (holderAt p) 0 (update-small m (statusAt p) 3 ms (omega arith)) (omega arith)) ps
   performed-kept alone _ (returns n y d e v) = return-kept n y d e v
-  performed-kept alone _ (fails n l h) = failed n l h
+  performed-kept alone _ (fails n l) = failed n l
 
   performs-kept : ((q : ℕ) → 1 ≤ q → m (holderAt (m (worksAt p))) ≡ q → q ≡ p) → Kept T (perform T m page (contextOf m p) (stmtAt T (m (statementAt p))))
   performs-kept alone = performed-kept alone _ (performed T acc inner L W m page p S ms ps)
@@ -222,8 +222,8 @@ module _ (T : Table) (acc : Accepted T) (inner : scoped T ≡ true) (L : PlaceLa
   proceeds-kept : Started T m p → Kept T (proceeds T m page p)
   unfolding proceeds steps.performs contextOf
   proceeds-kept S =
-      let a = created-low T m p (S .created) in
-      let b = created-high T m p (S .created) in
+      let a = created-low m p (S .created) in
+      let b = created-high m p (S .created) in
       let k = stands T acc m p a b (Rm .process p a b) (S .started) in
       needs _ _ (range-i 1 (m createdAt) (m (worksAt p)) (k .some-works) (k .works))
       (cases (either (eqb (m (holderAt (m (worksAt p)))) 0) (eqb (m (holderAt (m (worksAt p)))) p))
@@ -241,7 +241,7 @@ module _ (T : Table) (acc : Accepted T) (inner : scoped T ≡ true) (L : PlaceLa
       (λ f.
       let two : m (statusAt p) ≡ 2 = omega (arith, eqb-false (m (statusAt p)) 3 e, eqb-false (m (statusAt p)) 1 f) in
       rw (e, f)
-      (needs _ _ (eq-eqb (m (statusAt p)) 2 two) (proceeds-kept (record { ruled = rm; created = created-i T m p a b; started = two })))))
+      (needs _ _ (eq-eqb (m (statusAt p)) 2 two) (proceeds-kept (record { ruled = rm; created = created-i m p a b; started = two })))))
 
   turn-kept : Kept T (turn T m page p)
   unfolding turn
@@ -249,26 +249,26 @@ module _ (T : Table) (acc : Accepted T) (inner : scoped T ≡ true) (L : PlaceLa
       cases (eqb (m failureAt) 0)
       (λ e. rw e
       (needs _ _ (range-i 1 64 (m createdAt) (Rm .some) (Rm .most))
-      (cases (inRange 1 (m createdAt) p)
+      (cases (between 1 (m createdAt) p)
       (λ f. rw f (exists-kept (range-low 1 (m createdAt) p f) (range-high 1 (m createdAt) p f)))
       (λ f. rw f (answers-kept 3 (regular (omega arith)))))))
       (λ e.
       let g = Rm .failed (eqb-false (m failureAt) 0 e) in
-      rw e (needs _ _ (range-i 16 24 (m failureAt) (g .0) (g .1)) (answers-kept (m failureAt) (failure (g .0) (g .1)))))
+      rw e (needs _ _ g (answers-kept (m failureAt) (failure g))))
 
   settled-sound : (o : Outcome Effect) → Kept T o → Sound T (settled m page o)
   unfolding settled
   settled-sound _ (kept a n d l r s t) = record { answer = a; state = n; page = d; is = refl; ruled = r; words = s; devices = t; listed = l }
-  settled-sound _ (failed n a b) =
+  settled-sound _ (failed n a) =
       record {
         answer = n;
         state = update m failureAt n;
         page = page;
         is = refl;
-        ruled = fail-rule T acc L m n rm a b;
-        words = update-small m failureAt n ms (omega arith);
+        ruled = fail-rule T acc L m n rm a;
+        words = update-small m failureAt n ms (let k = failure-byte n a in omega arith);
         devices = ps;
-        listed = failure a b;
+        listed = failure a;
       }
 
   sound-step : Sound T (step T m page p)

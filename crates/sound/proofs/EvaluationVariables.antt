@@ -48,7 +48,7 @@ belongs-placed T b v e =
 
 -- how live places arise
 module _ (T : Table) (m : Memory) (p d f τ k : ℕ) (l : k < 256) where
-  pub module-lives : (v w : ℕ) → 1 ≤ w → worked T m p d f v w ≡ true → partOfBlock T (m (moduleAt w)) τ k ≡ true → lives T m p d f v τ (location w k) ≡ true
+  pub module-lives : (v w : ℕ) → 1 ≤ w → worked m p d f v w ≡ true → partOfBlock T (m (moduleAt w)) τ k ≡ true → lives T m p d f v τ (location w k) ≡ true
   unfolding lives
   module-lives v w a t e =
       either-l _ _
@@ -71,8 +71,8 @@ module _ (T : Table) (m : Memory) (p d f τ : ℕ) where
   pub outer-lives : (w a : ℕ) → lives T m p d (callerFrame m p f) (callerWorks m p f) τ a ≡ true → lives T m p (suc d) f w τ a ≡ true
   unfolding lives owns
   outer-lives w a e =
-      either-case (both (worked T m p d (callerFrame m p f) (callerWorks m p f) (a / 256 + 1)) (partOfBlock T (m (moduleAt (a / 256 + 1))) τ (a % 256))) (both (eqb (a / 256 + 1) p) (owns T m p d (callerFrame m p f) τ (a % 256))) e
-      (λ h. either-l _ _ (both-i _ _ (worked-outer T m p d f w (a / 256 + 1) (both-l _ _ h)) (both-r _ _ h)))
+      either-case (both (worked m p d (callerFrame m p f) (callerWorks m p f) (a / 256 + 1)) (partOfBlock T (m (moduleAt (a / 256 + 1))) τ (a % 256))) (both (eqb (a / 256 + 1) p) (owns T m p d (callerFrame m p f) τ (a % 256))) e
+      (λ h. either-l _ _ (both-i _ _ (worked-outer m p d f w (a / 256 + 1) (both-l _ _ h)) (both-r _ _ h)))
       (λ h. either-r _ _ (both-i _ _ (both-l _ _ h) (either-r (both (leb (f + 4) (a % 256)) (partOfBlock T (calledBlock m p f) τ (a % 256 - (f + 4)))) _ (both-r _ _ h))))
 
 module _ (T : Table) (acc : Accepted T) (L : PlaceLaws T) (m : Memory) (R : Ruled T m) (p : ℕ) (some : 1 ≤ p) (made : p ≤ m createdAt) (s : m (statusAt p) ≡ 2) where
@@ -128,7 +128,7 @@ module _ (T : Table) (acc : Accepted T) (L : PlaceLaws T) (m : Memory) (R : Rule
       rw (sym (k .owned), r .is)
       (need-place (offsetOf T (m (moduleAt w)) (firstVar T (m (moduleAt w)) + r .number)) (varType T (firstVar T (m (moduleAt w)) + r .number)) (location w (offsetOf T (m (moduleAt w)) (firstVar T (m (moduleAt w)) + r .number)))
       (module-word w (k .some-works) (k .works) (r .number) (r .below))
-      (module-live w (k .some-works) (k .works) (r .number) (r .below) (worked-first T m p (m (depthAt p)) (m (frameAt p)) w w refl)))
+      (module-live w (k .some-works) (k .works) (r .number) (r .below) (worked-first m p (m (depthAt p)) (m (frameAt p)) w w refl)))
 
   -- variable i of the procedure of its innermost call
   module _ (d : ℕ) (deep : m (depthAt p) ≡ suc d) (F : Framed T m p d (m (frameAt p)) (m (worksAt p)) (m (statementAt p)) (m (topAt p)) (calledBlock m p (m (frameAt p))))

@@ -9,7 +9,7 @@ use lib.Dec.{eqb, leb, ltb}
 use lib.ListN.{length, replicate, length-append, length-replicate}
 use borrow.Author.Tests.{eqb-true, eqb-false, leb-true, ltb-true, ltb-false, ne-eqb, lt-leb, le-ltb}
 use Rattle.basics.specs.Cases.{cases}
-use Rattle.basics.specs.Choice.{both, either}
+use Rattle.basics.specs.Choice.{both, either, between}
 use Rattle.basics.proofs.Bools.{both-l, both-r, both-false-l, both-false-r, either-case}
 use Rattle.table.specs.Table.{Table}
 use Rattle.table.specs.Entries.{firstVar}
@@ -23,7 +23,7 @@ use Rattle.machine.specs.Context.{contextOf}
 use Rattle.machine.specs.Calls.{standing, frame, topAfter, pushed, popped, returns, return}
 use Rattle.machine.specs.Processes.{refers, created, started}
 use Rattle.machine.specs.Statements.{Effect, effect, perform}
-use Rattle.machine.specs.Step.{done, settled, inRange, answers, performs, proceeds, exists, turn, step}
+use Rattle.machine.specs.Step.{done, settled, answers, performs, proceeds, exists, turn, step}
 use Rattle.sizes.proofs.Counting.{words-simple}
 use Rattle.sound.specs.Evaluated.{Live, Pushable, Performed}
 use Rattle.machine.specs.Values.{partOfBlock}
@@ -185,9 +185,9 @@ module _ (T : Table) (ok : Accepted T) (L : PlaceLaws T) (m : Memory) (h : Ruled
       let ob = o .base in
       let oj = o .below in
       let of = o .fits in
-      either-case (both (isCreated T m (a / 256 + 1)) (partOfBlock T (m (moduleAt (a / 256 + 1))) τ (a % 256))) (both (eqb (a / 256 + 1) p) (owns T m p (m (depthAt p)) (m (frameAt p)) τ (a % 256))) (lives-there T m p l g (h .process p l g .chain s) τ a e)
+      either-case (both (isCreated m (a / 256 + 1)) (partOfBlock T (m (moduleAt (a / 256 + 1))) τ (a % 256))) (both (eqb (a / 256 + 1) p) (owns T m p (m (depthAt p)) (m (frameAt p)) τ (a % 256))) (lives-there T m p l g (h .process p l g .chain s) τ a e)
       (λ y.
-      let r = h .process (a / 256 + 1) (created-low T m (a / 256 + 1) (both-l _ _ y)) (created-high T m (a / 256 + 1) (both-l _ _ y)) in
+      let r = h .process (a / 256 + 1) (created-low m (a / 256 + 1) (both-l _ _ y)) (created-high m (a / 256 + 1) (both-l _ _ y)) in
       let t = block-there T ok m (a / 256 + 1) r in
       let k = block-kind T ok m (a / 256 + 1) r in
       let z = block-in T ok (m (moduleAt (a / 256 + 1))) t τ (a % 256) (both-r _ _ y) .1 in
@@ -350,7 +350,7 @@ module _ (T : Table) (ok : Accepted T) (L : PlaceLaws T) (m : Memory) (h : Ruled
     performed-keeping _ (Performed.writes a v y l b c e) = keeps (k-record m p 2 _ k-none)
     performed-keeping _ (Performed.ends y e) = keeps (k-record _ p 6 0 (k-record m p 0 3 k-none))
     performed-keeping _ (Performed.returns n y e r w) = keeps (k-returns _ _ n r)
-    performed-keeping _ (Performed.fails n a b) = fails
+    performed-keeping _ (Performed.fails n a) = fails
 
   -- ---- the step: P says what its statement comes to (Evaluation, performed)
   module _ (page : Memory) (p : ℕ)
@@ -379,7 +379,7 @@ module _ (T : Table) (ok : Accepted T) (L : PlaceLaws T) (m : Memory) (h : Ruled
         (λ k. answers-left 1)))))
 
     turn-left : Left (turn T m page p)
-    unfolding turn inRange
+    unfolding turn between
     turn-left =
         g-pick Left none (eqb (m failureAt) 0) _ _
         (λ e. g-need Left none _ _ (g-pick Left none (both (leb 1 p) (leb p (m createdAt))) _ _

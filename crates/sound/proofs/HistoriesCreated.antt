@@ -1,19 +1,19 @@
 -- A step creates a process exactly if it carries out a create, and keeps those created before (11.4). Assumes nothing.
 use Prim.Native.Nat.{ℕ, _+_, _-_, _≤_, _<_}
 use mathlib.Core.Path.{_≡_, refl, ap, _∙_}
-use mathlib.Core.Bool.{false}
+use mathlib.Core.Bool.{true, false}
 use mathlib.Core.List.{List, [], _∷_, _++_}
 use native.Mathlib.Omega.{arith}
 use lib.Dec.{eqb}
 use lib.ListN.{length, replicate, length-append, length-replicate}
 use borrow.Author.Tests.{eqb-true, ne-eqb, leb-true, ltb-false, not-false}
-use Rattle.basics.specs.Choice.{pick, either}
+use Rattle.basics.specs.Choice.{pick, either, between}
 use Rattle.basics.specs.Cases.{cases}
 use Rattle.basics.proofs.Bools.{both-i, both-false-l, both-false-r}
 use Rattle.table.specs.Table.{Table}
 use Rattle.machine.specs.Memory.{Memory, memoryOf, update}
 use Rattle.machine.specs.Layout.{location, statusAt, statementAt, topAt, worksAt, holderAt, createdAt, failureAt}
-use Rattle.machine.specs.Outcomes.{Outcome, ok, fail, stuck, andThen, place}
+use Rattle.machine.specs.Outcomes.{Outcome, ok, fail, stuck, andThen, place, isFailure}
 use Rattle.machine.specs.Entries.{processType, typeAt, waits, Statement, create}
 use Rattle.machine.specs.Context.{Context, contextOf}
 use Rattle.machine.specs.Variables.{frameWords}
@@ -21,8 +21,8 @@ use Rattle.machine.specs.Operands.{operand}
 use Rattle.machine.specs.Calls.{arguments, frame, topAfter, pushed, call, popped}
 use Rattle.machine.specs.Processes.{onProcess, onReference, started}
 use Rattle.machine.specs.Statements.{Effect, effect, goTo, goOn, wait, moved, doLocalCall, free, doProcessCall, doStart, perform}
-use Rattle.machine.specs.Step.{done, settled, inRange, answers, performs, proceeds, exists, turn, step}
-use Rattle.machine.proofs.Tests.{range-low, range-high}
+use Rattle.machine.specs.Step.{done, settled, answers, performs, proceeds, exists, turn, step}
+use Rattle.machine.proofs.Tests.{range-low, range-high, failure-low}
 use Rattle.machine.proofs.Outcomes.{g-then, g-test, g-need, g-where, g-pick, g-place, g-module}
 use Rattle.sound.specs.Conditions.{ownBlock}
 use Rattle.sound.specs.Carried.{Inside, nextArm, lastEnd, Carries, skips, assigns, callsLocal, callsProcess, starts, enters, passes, leaves, again, writes, returnsLocal, returnsProcess}
@@ -74,7 +74,7 @@ module _ (T : Table) (m page : Memory) (x : Context) where
     keeps : {a : ℕ} {s d : Memory} → isCreate S ≡ false → Still m s → Comes S (ok (effect a s d))
     makes : {s d : Memory} (a i τ μ : ℕ) → S ≡ create a → operand T m page x a ≡ ok (place i τ) → typeAt T τ ≡ processType μ
         → NewProcess s (m createdAt + 1) μ i → ProcessesKept m s → s failureAt ≡ m failureAt → Comes S (ok (effect 0 s d))
-    fails : {n : ℕ} → 16 ≤ n → Comes S (fail n)
+    fails : {n : ℕ} → isFailure n ≡ true → Comes S (fail n)
     none : Comes S stuck
 
   -- started processes, of 64
@@ -159,7 +159,7 @@ module _ (T : Table) (m page : Memory) (x : Context) where
     comes _ _ e (waited w (gives u h)) = keeps refl (holder-still _ 0)
     comes _ _ e (waited w Leaves.keeps) = keeps refl (still m)
     comes _ _ e (ended (ownBlock u)) = keeps refl (still-record m _ (still-status m m (still m) (x .process) 3 (omega arith)) (x .process) 6 0 (omega arith))
-    comes S _ e (failed {f = f} h) = fails (statement-listed T m page x f S h .least)
+    comes S _ e (failed {f = f} h) = fails (statement-listed T m page x f S h)
     comes S _ e strays = none
 
 -- ---- steps
@@ -182,7 +182,7 @@ module _ (T : Table) (m page : Memory) (p : ℕ) where
 
   data Left : Outcome Effect → Type 0 where
     left : {a : ℕ} {s d : Memory} → CreatedKept T m page p a s → Left (ok (effect a s d))
-    fails : {n : ℕ} → 16 ≤ n → Left (fail n)
+    fails : {n : ℕ} → isFailure n ≡ true → Left (fail n)
     none : Left stuck
 
   answers-left : (a : ℕ) → (a ≡ 0 → ⊥) → Left (answers T m page p a)
@@ -214,13 +214,13 @@ module _ (T : Table) (m page : Memory) (p : ℕ) where
   unfolding turn
   turn-left =
       g-pick Left none (eqb (m failureAt) 0) _ _
-      (λ e. g-test Left none _ _ (λ c. g-pick Left none (inRange 1 (m createdAt) p) _ _
+      (λ e. g-test Left none _ _ (λ c. g-pick Left none (between 1 (m createdAt) p) _ _
       (λ l. let u = range-high 1 64 _ c in let v = range-high 1 _ p l in exists-left (omega arith) u (range-low 1 64 _ c)) (λ l. answers-left 3 (λ z. omega arith))))
-      (λ e. g-test Left none _ _ (λ c. let u = range-low 16 24 _ c in answers-left (m failureAt) (λ z. omega arith)))
+      (λ e. g-test Left none _ _ (λ c. let u = failure-low _ c in answers-left (m failureAt) (λ z. omega arith)))
 
-  failed-step : (n : ℕ) → 16 ≤ n → CreatedKept T m page p n (update m failureAt n)
+  failed-step : (n : ℕ) → isFailure n ≡ true → CreatedKept T m page p n (update m failureAt n)
   unfolding createsOne
-  failed-step n l = record { creating = same (both-false-l _ _ (ne-eqb n 0 (λ z. omega arith))) (fail-count m n); kept = fail-kept m n; mark = λ k. absurd (omega arith) }
+  failed-step n h = let l = failure-low n h in record { creating = same (both-false-l _ _ (ne-eqb n 0 (λ z. omega arith))) (fail-count m n); kept = fail-kept m n; mark = λ k. absurd (omega arith) }
 
   settled-left : (o : Outcome Effect) → Left o → (a : ℕ) (s d : Memory) → settled m page o ≡ done a s d → CreatedKept T m page p a s
   unfolding settled

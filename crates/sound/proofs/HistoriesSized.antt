@@ -7,7 +7,7 @@ use native.Mathlib.Omega.{arith}
 use lib.Dec.{eqb, leb, ltb}
 use lib.ListN.{length, replicate, length-append, length-replicate}
 use borrow.Author.Tests.{ne-eqb, leb-true, ltb-true, ltb-false, le-ltb}
-use Rattle.basics.specs.Choice.{pick, either}
+use Rattle.basics.specs.Choice.{pick, either, between}
 use Rattle.basics.specs.Cases.{cases}
 use Rattle.basics.proofs.Bools.{both-l, both-r, both-false-r}
 use Rattle.table.specs.Table.{Table}
@@ -23,7 +23,7 @@ use Rattle.machine.specs.Operands.{operand}
 use Rattle.machine.specs.Calls.{standing, arguments, frame, topAfter, pushed, call, popped}
 use Rattle.machine.specs.Processes.{onProcess, onReference, created, started}
 use Rattle.machine.specs.Statements.{Effect, effect, goTo, goOn, wait, moved, doLocalCall, free, doProcessCall, doStart, perform}
-use Rattle.machine.specs.Step.{done, settled, inRange, answers, performs, proceeds, exists, turn, step}
+use Rattle.machine.specs.Step.{done, settled, answers, performs, proceeds, exists, turn, step}
 use Rattle.machine.specs.Run.{begin}
 use Rattle.machine.proofs.Memories.{location-plus}
 use Rattle.machine.proofs.Tests.{range-high}
@@ -220,7 +220,7 @@ module _ (T : Table) (m page : Memory) (p : ℕ) (hm : Sized stateWords m) (hp :
   unfolding turn
   turn-in =
       g-pick Inside none (eqb (m failureAt) 0) _ _
-      (λ e. g-test Inside none _ _ (λ c. g-pick Inside none (inRange 1 (m createdAt) p) _ _
+      (λ e. g-test Inside none _ _ (λ c. g-pick Inside none (between 1 (m createdAt) p) _ _
       (λ l. exists-in (let u = range-high _ _ _ c in let v = range-high _ _ _ l in omega arith) (range-high _ _ _ c)) (λ l. answers-in 3)))
       (λ e. g-need Inside none _ _ (answers-in (m failureAt)))
 

@@ -220,7 +220,7 @@ module _ (T : Table) (m : Memory) (small : Small m) (ruled : rule T m ≡ true) 
       bound-at τ _ _ _ _ (ofCall p d f (variable T (calledBlock m p f) (b .i)) (c d refl) (of-block T _ _ _ b) (b .mode) refl refl) (part-of T τ _ _ (b .part)) (ap (location p) y ∙ location-plus p _ _))
       (λ h. owned p d (callerFrame m p f) τ k (λ i z. caller f (rw z at (c d refl)) refl) h)
 
-  lives-bound : (p d f w τ a : ℕ) → ((e : ℕ) → d ≡ suc e → Call T m p e f) → ((r : ℕ) → worked T m p d f w r ≡ true → Created m r) → lives T m p d f w τ a ≡ true → Bound T m τ a
+  lives-bound : (p d f w τ a : ℕ) → ((e : ℕ) → d ≡ suc e → Call T m p e f) → ((r : ℕ) → worked m p d f w r ≡ true → Created m r) → lives T m p d f w τ a ≡ true → Bound T m τ a
   unfolding lives
   lives-bound p d f w τ a c n e =
       either-case _ _ e
@@ -235,14 +235,14 @@ module _ (T : Table) (m : Memory) (small : Small m) (ruled : rule T m ≡ true) 
       rw x (owned p d f τ (a % 256) c (both-r _ _ h)))
 
   -- what the caller of a call works on is created
-  call-worked : (p d f : ℕ) → Call T m p d f → (r : ℕ) → worked T m p d (callerFrame m p f) (callerWorks m p f) r ≡ true → Created m r
+  call-worked : (p d f : ℕ) → Call T m p d f → (r : ℕ) → worked m p d (callerFrame m p f) (callerWorks m p f) r ≡ true → Created m r
   call-worked p d f c =
       let h = call-framed p d f c in
       let n = call-created T m p d f c in
       outer (chain-of T m p (suc d) f (h .works) (h .statement) (h .top) (h .chained))
       (n .least) (n .most)
     where
-      outer : {d f w c top : ℕ} → Chained T m p (suc d) f w c top → 1 ≤ p → p ≤ m createdAt → (r : ℕ) → worked T m p d (callerFrame m p f) (callerWorks m p f) r ≡ true → Created m r
+      outer : {d f w c top : ℕ} → Chained T m p (suc d) f w c top → 1 ≤ p → p ≤ m createdAt → (r : ℕ) → worked m p d (callerFrame m p f) (callerWorks m p f) r ≡ true → Created m r
       outer (Chained.called k q) a b = worked-created T m p a b q
 
   call-bound : (p d f v : ℕ) → Call T m p d f → Of T (calledBlock m p f) v → varMode T v ≡ 2 → Bound T m (varType T v) (m (callVariable T m p f v))

@@ -10,7 +10,7 @@ use Rattle.machine.specs.Entries.{stmtAt}
 use Rattle.machine.specs.Rule.{rule}
 use Rattle.sound.specs.InUse.{Call, innermost, caller}
 use Rattle.sound.specs.Ruled.{Chained, called, Ruled}
-use Rattle.sound.specs.StateRule.{Going}
+use Rattle.sound.specs.StateRule.{NotWaiting}
 use Rattle.sound.proofs.Ruled.{ruled}
 use Rattle.sound.proofs.Worked.{worked-first, worked-own, works-outer, held-fast}
 
@@ -19,13 +19,13 @@ module _ (T : Table) (m : Memory) (e : rule T m ≡ true) where
   h = ruled T m e
 
   -- a process that stands at no when or cycle holds what it works on
-  going-holds : (p : ℕ) → Going T m p → m (holderAt (m (worksAt p))) ≡ p
-  going-holds p g =
+  unwaiting-holds : (p : ℕ) → NotWaiting T m p → m (holderAt (m (worksAt p))) ≡ p
+  unwaiting-holds p g =
       held-fast T m p (m (worksAt p)) (g .passing)
-      (h .process p (g .created .least) (g .created .most) .holding (g .started) (m (worksAt p)) (worked-first T m p (m (depthAt p)) (m (frameAt p)) (m (worksAt p)) (m (worksAt p)) refl))
+      (h .process p (g .created .least) (g .created .most) .holding (g .started) (m (worksAt p)) (worked-first m p (m (depthAt p)) (m (frameAt p)) (m (worksAt p)) (m (worksAt p)) refl))
 
-  pub works-apart : (p q : ℕ) → Going T m p → Going T m q → m (worksAt p) ≡ m (worksAt q) → p ≡ q
-  works-apart p q a b w = sym (going-holds p a) ∙ rw w (going-holds q b)
+  pub works-apart : (p q : ℕ) → NotWaiting T m p → NotWaiting T m q → m (worksAt p) ≡ m (worksAt q) → p ≡ q
+  works-apart p q a b w = sym (unwaiting-holds p a) ∙ rw w (unwaiting-holds q b)
 
   -- a call of process p, with d calls below it, that works on p
   record OwnCall (p d f : ℕ) : Type 0 where

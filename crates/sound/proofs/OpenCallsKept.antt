@@ -10,7 +10,7 @@ use native.Mathlib.Numerals.{add-one}
 use lib.Dec.{eqb, ltb}
 use lib.ListN.{length}
 use borrow.Author.Tests.{eqb-true, eqb-false, eq-eqb, ne-eqb, leb-true, ltb-true, ltb-false}
-use Rattle.basics.specs.Choice.{pick, both, either}
+use Rattle.basics.specs.Choice.{pick, both, either, between}
 use Rattle.basics.specs.Cases.{cases}
 use Rattle.basics.proofs.Bools.{both-l, both-r, both-false-l, either-l, either-r}
 use Rattle.table.specs.Table.{Table}
@@ -24,9 +24,10 @@ use Rattle.machine.specs.Context.{Context, contextOf}
 use Rattle.machine.specs.Calls.{standing, frame, pushed, popped}
 use Rattle.machine.specs.Processes.{onModule, onProcess, refers, onReference, created, started}
 use Rattle.machine.specs.Statements.{doLocalCall, doProcessCall, doStart, perform}
-use Rattle.machine.specs.Step.{Step, done, settled, inRange, performs, proceeds, exists, turn, step}
+use Rattle.machine.specs.Step.{Step, done, settled, performs, proceeds, exists, turn, step}
 use Rattle.machine.proofs.Memories.{update-other}
 use Rattle.machine.proofs.Outcomes.{need-holds, need-stuck}
+use Rattle.machine.proofs.Tests.{failure-low}
 use Rattle.verdict.specs.Accepted.{Accepted}
 use Rattle.sound.specs.Ruled.{Ruled}
 use Rattle.sound.specs.InUse.{Created, innermost, caller}
@@ -116,7 +117,7 @@ alike-for m s e h = record { count = h .count; words = λ r l n. h .words r l (�
 open-bottom : (m : Memory) (p : ℕ) → m (depthAt p) ≡ 0 → openCalls m p ≡ []
 unfolding openCalls callsFrom
 open-bottom m p e =
-    cases (both (inRange 1 (m createdAt) p) (eqb (m (statusAt p)) 2))
+    cases (both (between 1 (m createdAt) p) (eqb (m (statusAt p)) 2))
     (λ z. rw (z, e))
     (λ z. rw z)
 
@@ -257,7 +258,7 @@ module _ (T : Table) (acc : Accepted T) (m page : Memory) (R : Ruled T m) (p : �
     create-kept k r =
         let l = new .last in
         let u = new .unstarted in
-        cases (inRange 1 (m createdAt) r)
+        cases (between 1 (m createdAt) r)
         (λ e.
         let h = in-created m r e in
         let a = h .most in
@@ -400,7 +401,7 @@ module _ (T : Table) (acc : Accepted T) (m page : Memory) (R : Ruled T m) (p : �
 
   changes-calls : (n : ℕ) (s d : Memory) → m failureAt ≡ 0 → (step T m page p ≡ Step.stuck → ⊥) → Changes T m page p n s d → BindingsKept T m s → CallsKept T m page p n s
   changes-calls n _ _ z free (failureMark h) k =
-      let l = statement-listed T m page (contextOf m p) n (next T m page p) (h .fails) .least in
+      let l = failure-low n (statement-listed T m page (contextOf m p) n (next T m page p) (h .fails)) in
       other-step n _ (λ y. omega arith) (all-calls T m _ k (alike-record m m 0 (alike m 0) 1 9 n (omega arith)))
   changes-calls _ _ _ z free (nothing h) k = other-step 1 m (λ y. omega arith) (λ r. refl)
   changes-calls _ _ _ z free (givesUp h) k = other-step 1 _ (λ y. omega arith) (all-calls T m _ k (alike-record m m 0 (alike m 0) (m (worksAt p)) 6 0 (omega arith)))

@@ -8,7 +8,7 @@ use native.Mathlib.Omega.{arith}
 use lib.Dec.{eqb}
 use lib.ListN.{length}
 use borrow.Author.Tests.{eqb-true, eqb-false, eq-eqb, ne-eqb}
-use Rattle.basics.specs.Choice.{both}
+use Rattle.basics.specs.Choice.{both, between}
 use Rattle.basics.specs.Cases.{cases}
 use Rattle.basics.proofs.Bools.{no-true, both-l, both-r, both-i, both-false-l, both-false-r}
 use Rattle.table.specs.Table.{Table}
@@ -16,7 +16,6 @@ use Rattle.machine.specs.Memory.{Memory, memoryOf, update, zeros}
 use Rattle.machine.specs.Layout.{recordAt, statusAt, frameAt, depthAt, createdAt, callerFrame, calledBlock}
 use Rattle.machine.specs.Calls.{standing}
 use Rattle.machine.specs.Run.{begin}
-use Rattle.machine.specs.Step.{inRange}
 use Rattle.sound.specs.InUse.{Created, Call, innermost, caller}
 use Rattle.sound.specs.Histories.{Seen, finally, Threaded, Every}
 use Rattle.sound.specs.OpenCalls.{OpenCall, callsFrom, openCalls, Among, CallsListed, callsAfter, callsMade, CallsKept}
@@ -27,7 +26,7 @@ use Rattle.sound.proofs.Ruled.{created-in, in-created}
 -- ---- of a state
 
 module _ (m : Memory) (p : ℕ) where
-  pub not-created : inRange 1 (m createdAt) p ≡ false → Created m p → ⊥
+  pub not-created : between 1 (m createdAt) p ≡ false → Created m p → ⊥
   not-created e h = no-true (sym e ∙ created-in m p h)
 
   -- the calls of a started process; of another there are none
@@ -38,8 +37,8 @@ module _ (m : Memory) (p : ℕ) where
   pub open-none : (Created m p → m (statusAt p) ≡ 2 → ⊥) → openCalls m p ≡ []
   unfolding openCalls
   open-none h =
-      cases (inRange 1 (m createdAt) p)
-      (λ c. rw (both-false-r (inRange 1 (m createdAt) p) _ (ne-eqb (m (statusAt p)) 2 (h (in-created m p c)))))
+      cases (between 1 (m createdAt) p)
+      (λ c. rw (both-false-r (between 1 (m createdAt) p) _ (ne-eqb (m (statusAt p)) 2 (h (in-created m p c)))))
       (λ c. rw (both-false-l _ (eqb (m (statusAt p)) 2) c))
 
   from-length : (d f : ℕ) → length (callsFrom m p d f) ≡ d
@@ -95,7 +94,7 @@ module _ (T : Table) (m : Memory) where
     where
       in-use : (p d q f : ℕ) → Among (record { procedure = q; frame = f }) d (openCalls m p) → Call T m p d f × (calledBlock m p f ≡ q)
       in-use p d q f h =
-          cases (both (inRange 1 (m createdAt) p) (eqb (m (statusAt p)) 2))
+          cases (both (between 1 (m createdAt) p) (eqb (m (statusAt p)) 2))
           (λ e.
           let c = in-created m p (both-l _ _ e) in
           let s = eqb-true _ 2 (both-r _ _ e) in
@@ -124,7 +123,7 @@ calls-made T r s (e ∷ es) fs t h =
 
 -- at the start there are none
 first-none : (T : Table) → openCalls (begin T) 1 ≡ []
-unfolding begin standing update zeros recordAt openCalls callsFrom inRange both
+unfolding begin standing update zeros recordAt openCalls callsFrom between both
 first-none T = refl
 
 pub begin-none : (T : Table) (r : ℕ) → openCalls (begin T) r ≡ []

@@ -6,12 +6,12 @@ use native.Mathlib.Omega.{arith}
 use lib.Dec.{eqb}
 use lib.ListN.{length}
 use borrow.Author.Tests.{eqb-true, eqb-false}
+use Rattle.basics.specs.Choice.{between}
 use Rattle.basics.specs.Cases.{cases}
 use Rattle.table.specs.Table.{Table}
 use Rattle.machine.specs.Memory.{Memory, update, store}
 use Rattle.machine.specs.Layout.{recordAt, linkAt, statusAt, frameAt, depthAt, createdAt, callerFrame, calledBlock, locations}
 use Rattle.machine.specs.Calls.{standing}
-use Rattle.machine.specs.Step.{inRange}
 use Rattle.machine.proofs.Memories.{update-other}
 use Rattle.sound.specs.InUse.{Created, Call, innermost, caller}
 use Rattle.sound.specs.Bindings.{link, BindingsKept}
@@ -113,7 +113,7 @@ module _ (T : Table) (m s : Memory) (k : BindingsKept T m s) where
   pub alike-calls : (e : ℕ) → Alike m s e → (r : ℕ) → (1 ≤ r → r ≡ e → ⊥) → openCalls s r ≡ openCalls m r
   alike-calls e h r n =
       let q = h .count in
-      cases (inRange 1 (m createdAt) r)
+      cases (between 1 (m createdAt) r)
       (λ i.
       let c = in-created m r i in
       let a = c .least in

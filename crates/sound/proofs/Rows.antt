@@ -7,16 +7,16 @@ use native.Mathlib.Omega.{arith}
 use lib.Dec.{eqb}
 use borrow.Author.Tests.{eqb-true, eqb-false, eq-eqb, ne-eqb}
 use Rattle.basics.specs.Cases.{cases}
-use Rattle.basics.specs.Choice.{either}
+use Rattle.basics.specs.Choice.{either, between}
 use Rattle.basics.proofs.Bools.{no-true, either-l, either-r}
 use Rattle.table.specs.Table.{Table}
 use Rattle.machine.specs.Memory.{Memory, update}
 use Rattle.machine.specs.Layout.{statusAt, worksAt, holderAt, createdAt, failureAt}
-use Rattle.machine.specs.Outcomes.{Outcome, ok, fail, stuck, need}
+use Rattle.machine.specs.Outcomes.{Outcome, ok, fail, stuck, need, isFailure}
 use Rattle.machine.specs.Entries.{Statement, opener, processCall}
 use Rattle.machine.specs.Context.{contextOf}
 use Rattle.machine.specs.Statements.{Effect, effect, perform}
-use Rattle.machine.specs.Step.{Step, done, settled, inRange, answers, performs, proceeds, exists, turn, step}
+use Rattle.machine.specs.Step.{Step, done, settled, answers, performs, proceeds, exists, turn, step}
 use Rattle.machine.proofs.Outcomes.{g-need}
 use Rattle.sound.specs.InUse.{Created}
 use Rattle.sound.specs.Rows.{next, Ready, Waiting, unstarted, held, waiting, Ended, before, now, Absent, Failing, CarriedOut, Row, row0, row1, row2, row3, row16, Blocked, atGuards, Changes, failureMark, nothing, givesUp, endedBefore, endsNow, absent, carried, Answers, RowsHold, SameFailure}
@@ -106,7 +106,7 @@ module _ (T : Table) (m page : Memory) (p : ℕ) where
   unfolding turn answers
   turn-view z =
       rw (eq-eqb _ 0 z) (g-need Stepped astray _ _
-      (cases (inRange 1 (m createdAt) p)
+      (cases (between 1 (m createdAt) p)
       (λ e. rw e (exists-view (in-created m p e)))
       (λ e. rw e (missing (record { none = λ c. no-true (sym e ∙ created-in m p c) })))))
 
@@ -120,7 +120,7 @@ module _ (T : Table) (m page : Memory) (p : ℕ) where
   unfolding turn answers
   near-absent z a =
       rw (eq-eqb _ 0 z) (n-need _ _ _
-      (cases (inRange 1 (m createdAt) p) (λ e. absurd (a .none (in-created m p e))) (λ e. rw e (same refl))))
+      (cases (between 1 (m createdAt) p) (λ e. absurd (a .none (in-created m p e))) (λ e. rw e (same refl))))
 
   near-proceeds : {R : Outcome Effect} → m (statusAt p) ≡ 2 → Near R (proceeds T m page p) → Near R (exists T m page p)
   unfolding exists need
@@ -251,6 +251,6 @@ module _ (T : Table) (m page : Memory) (p : ℕ) where
   pub same-failure : (m failureAt ≡ 0 → ⊥) → (step T m page p ≡ Step.stuck → ⊥) → SameFailure T m page p
   unfolding step settled turn answers need
   same-failure n free =
-      cases (inRange 16 24 (m failureAt))
+      cases (isFailure (m failureAt))
       (λ e. rw (ne-eqb _ 0 n, e))
       (λ e. absurd (free (rw (ne-eqb _ 0 n, e))))

@@ -63,11 +63,6 @@ module _ (F : ℕ → Type 0) where
   unfolding truth
   met-truth b = met-simple 1 _
 
-  met-given : (τ : ℕ) (o : words.Outcome) → ((f : ℕ) → o ≡ words.fail f → F f) → Met F (given τ o)
-  unfolding given
-  met-given τ (words.word w) h = met-simple τ w
-  met-given τ (words.fail n) h = is-fail (h n refl)
-
   -- an operator's word, or its failure
   met-tested : (τ : ℕ) (b : Bool) (w n : ℕ) → (b ≡ false → F n) → Met F (given τ (pick b (words.word w) (words.fail n)))
   unfolding given

@@ -5,6 +5,7 @@ use mathlib.Core.Bool.{true}
 use native.Mathlib.Omega.{arith}
 use lib.Dec.{eqb}
 use borrow.Author.Tests.{eqb-true, eqb-false, leb-true, ltb-true, eq-eqb, ne-eqb, le-leb, lt-ltb, not-true}
+use Rattle.basics.specs.Choice.{between}
 use Rattle.basics.specs.Cases.{cases}
 use Rattle.basics.proofs.Bools.{both-l, both-r, both-i, all-at, all-i, either-l, either-r}
 pub use Rattle.basics.proofs.Bools.{either-case}
@@ -16,20 +17,20 @@ use Rattle.machine.specs.Layout.{location, statusAt, moduleAt, statementAt, fra
 use Rattle.machine.specs.Entries.{stmtAt}
 use Rattle.machine.specs.Variables.{frameWords, offsetOf, isModule, isProcedure}
 use Rattle.machine.specs.Values.{holds}
-use Rattle.machine.specs.Step.{inRange}
 use Rattle.machine.specs.Rule.{liesIn, calls, isCreated, worked, lives, holdsOn, worksBy, moduleHolds, modulesHold, frameHolds, framesHold, frameOk, chain, moduleOk, startedOk, processOk, failureOk, rule}
 use Rattle.numbers.proofs.BlockPromise.{program-there, program-kind, owner-self, owner-there}
 use Rattle.machine.specs.Context.{blockOf, contextual}
+use Rattle.machine.specs.Outcomes.{isFailure}
 pub use Rattle.machine.proofs.Tests.{range-low, range-high, range-i}
 use Rattle.verdict.specs.Accepted.{Accepted}
 use Rattle.sound.specs.InUse.{Created}
 use Rattle.sound.specs.Ruled.{Bottom, Framed, Chained, bottom, called, Held, held, given, Process, Ruled, Standing}
 
 module _ (m : Memory) (p : ℕ) where
-  pub created-in : Created m p → inRange 1 (m createdAt) p ≡ true
+  pub created-in : Created m p → between 1 (m createdAt) p ≡ true
   created-in c = range-i 1 (m createdAt) p (c .least) (c .most)
 
-  pub in-created : inRange 1 (m createdAt) p ≡ true → Created m p
+  pub in-created : between 1 (m createdAt) p ≡ true → Created m p
   in-created e = record { least = range-low 1 (m createdAt) p e; most = range-high 1 (m createdAt) p e }
 
 module _ (T : Table) where
@@ -157,7 +158,7 @@ module _ (T : Table) where
         called (framed-of p d f w c top (calledBlock m p f) (both-l _ _ e) (both-l _ _ (both-r _ _ e)) (both-l _ _ calling) (both-r _ _ calling))
         (chained p d (callerFrame m p f) (callerWorks m p f) (callStatement m p f) f (both-r _ _ (both-r _ _ (both-r _ _ (both-r _ _ e)))))
 
-    pub holding : (p d f w c top : ℕ) → chain T m p d f w c top ≡ true → (r : ℕ) → worked T m p d f w r ≡ true → Held T m p r
+    pub holding : (p d f w c top : ℕ) → chain T m p d f w c top ≡ true → (r : ℕ) → worked m p d f w r ≡ true → Held T m p r
     unfolding chain worked
     holding p zero f w c top e r h = held-of p r (rw (eqb-true w r h) at (both-r _ _ (both-l _ _ (both-r _ _ e))))
     holding p (suc d) f w c top e r h =
@@ -166,7 +167,7 @@ module _ (T : Table) where
         (λ i. held-of p r (rw (eqb-true w r i) at (both-l _ _ rest)))
         (λ i. holding p d (callerFrame m p f) (callerWorks m p f) (callStatement m p f) f (both-r _ _ rest) r i)
 
-    pub chains : (p d f w c top : ℕ) → Chained T m p d f w c top → ((r : ℕ) → worked T m p d f w r ≡ true → Held T m p r) → chain T m p d f w c top ≡ true
+    pub chains : (p d f w c top : ℕ) → Chained T m p d f w c top → ((r : ℕ) → worked m p d f w r ≡ true → Held T m p r) → chain T m p d f w c top ≡ true
     unfolding chain worked
     chains p zero f w c top (bottom b) h =
         both-i _ _ (eq-eqb f 0 (b .no-frame))
@@ -182,11 +183,11 @@ module _ (T : Table) where
 
     -- a created process
     module _ (p : ℕ) where
-      module-first : moduleOk T m p ≡ true → p ≡ 1 → (inRange 2 3 (m (statusAt p)) ≡ true) × (m (moduleAt p) ≡ 0)
+      module-first : moduleOk T m p ≡ true → p ≡ 1 → (between 2 3 (m (statusAt p)) ≡ true) × (m (moduleAt p) ≡ 0)
       unfolding moduleOk
       module-first e n = let g = rw (eq-eqb p 1 n) at e in (both-l _ _ g, eqb-true (m (moduleAt p)) 0 (both-r _ _ g))
 
-      module-other : moduleOk T m p ≡ true → (p ≡ 1 → ⊥) → (inRange 1 3 (m (statusAt p)) ≡ true) × (isModule T (m (moduleAt p)) ≡ true)
+      module-other : moduleOk T m p ≡ true → (p ≡ 1 → ⊥) → (between 1 3 (m (statusAt p)) ≡ true) × (isModule T (m (moduleAt p)) ≡ true)
       unfolding moduleOk
       module-other e n = let g = rw (ne-eqb p 1 n) at e in (both-l _ _ g, both-r _ _ g)
 
@@ -232,19 +233,19 @@ module _ (T : Table) where
           (λ e. rw e (chains p (m (depthAt p)) (m (frameAt p)) (m (worksAt p)) (m (statementAt p)) (m (topAt p)) (r .chain (eqb-true (m (statusAt p)) 2 e)) (r .holding (eqb-true (m (statusAt p)) 2 e))))
           (λ e. rw e))))
 
-    failed-in : failureOk T m ≡ true → (m failureAt ≡ 0 → ⊥) → (16 ≤ m failureAt) × (m failureAt ≤ 24)
+    failed-in : failureOk m ≡ true → (m failureAt ≡ 0 → ⊥) → isFailure (m failureAt) ≡ true
     unfolding failureOk
     failed-in e n =
-        either-case (eqb (m failureAt) 0) (inRange 16 24 (m failureAt)) e
+        either-case (eqb (m failureAt) 0) (isFailure (m failureAt)) e
         (λ q. absurd (n (eqb-true (m failureAt) 0 q)))
-        (λ q. (range-low 16 24 (m failureAt) q, range-high 16 24 (m failureAt) q))
+        (λ q. q)
 
-    failure-ok : ((m failureAt ≡ 0 → ⊥) → (16 ≤ m failureAt) × (m failureAt ≤ 24)) → failureOk T m ≡ true
+    failure-ok : ((m failureAt ≡ 0 → ⊥) → isFailure (m failureAt) ≡ true) → failureOk m ≡ true
     unfolding failureOk
     failure-ok h =
         cases (eqb (m failureAt) 0)
         (λ q. either-l _ _ q)
-        (λ q. let g = h (eqb-false (m failureAt) 0 q) in either-r (eqb (m failureAt) 0) _ (range-i 16 24 (m failureAt) (g .0) (g .1)))
+        (λ q. either-r (eqb (m failureAt) 0) _ (h (eqb-false (m failureAt) 0 q)))
 
     -- THE RULE as a record, and back
     pub ruled : rule T m ≡ true → Ruled T m

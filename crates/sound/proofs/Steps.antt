@@ -32,5 +32,5 @@ module _ (T : Table) (acc : Accepted T) where
           sound = evaluation.step-sound T acc (acc .scopes) words;
           bindings = λ m page p r ms ps.
               step-bindings T acc (place-laws T acc) m (ruled T m r) page p
-              (λ l g s. performed T acc (acc .scopes) (place-laws T acc) words m page p (record { ruled = r; created = created-i T m p l g; started = s }) ms ps);
+              (λ l g s. performed T acc (acc .scopes) (place-laws T acc) words m page p (record { ruled = r; created = created-i m p l g; started = s }) ms ps);
         }

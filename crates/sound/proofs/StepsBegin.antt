@@ -131,7 +131,7 @@ module _ (T : Table) (ok : Accepted T) where
               (bottom first-bottom);
           holding = λ z.
               rw (stand-depth empty 1 (firstStmt T 0) 0 (moduleWords T 0) 1 0, stand-frame empty 1 (firstStmt T 0) 0 (moduleWords T 0) 1 0, stand-works empty 1 (firstStmt T 0) 0 (moduleWords T 0) 1 0)
-              (λ x t. let i = worked-bottom T first 1 0 1 x t in rw (← i) (held h));
+              (λ x t. let i = worked-bottom first 1 0 1 x t in rw (← i) (held h));
         }
 
     first-ruled : Ruled T first

@@ -100,7 +100,7 @@ module _ (T : Table) (good : Accepted T) (L : PlaceLaws T) (s : Memory) (h : Rul
   module _ (q r : ℕ) (ws : List ℕ) (F : Fills T s p q ws) (there : q < blockCount T) (kind : blockKind T q ≡ 2) (r1 : 1 ≤ r) (r2 : r ≤ s createdAt) (owned : owner T q ≡ s (moduleAt r)) (room : s (topAt p) + 4 + frameWords T q ≤ 256) (calling : calls q (stmtAt T (s (statementAt p))) ≡ true)
       (begun : s (statusAt r) ≡ 1 → ⊥) (strict : Holds T s p) (taken : s (holderAt r) ≡ p)
       (as-local : (q c n : ℕ) → stmtAt T (s (statementAt p)) ≡ localCall q c n → s (worksAt p) ≡ r)
-      (as-process : (i q c n : ℕ) → stmtAt T (s (statementAt p)) ≡ processCall i q c n → worked T s p (s (depthAt p)) (s (frameAt p)) (s (worksAt p)) r ≡ false) where
+      (as-process : (i q c n : ℕ) → stmtAt T (s (statementAt p)) ≡ processCall i q c n → worked s p (s (depthAt p)) (s (frameAt p)) (s (worksAt p)) r ≡ false) where
     abbrev fr : List ℕ
     fr = frameOf (s (frameAt p)) (s (statementAt p)) (s (worksAt p)) q ws (frameWords T q - length ws)
 
@@ -217,9 +217,9 @@ module _ (T : Table) (good : Accepted T) (L : PlaceLaws T) (s : Memory) (h : Rul
     new-holder : (x : ℕ) → new (holderAt x) ≡ s (holderAt x)
     new-holder x = let u = h .most in area-record s p (s (topAt p)) fr x 6 a (omega arith) fits
 
-    new-strict : (x : ℕ) → worked T new p (suc (s (depthAt p))) (s (topAt p)) r x ≡ true → new (holderAt x) ≡ p
+    new-strict : (x : ℕ) → worked new p (suc (s (depthAt p))) (s (topAt p)) r x ≡ true → new (holderAt x) ≡ p
     new-strict x e =
-        worked-case T new p (s (depthAt p)) (s (topAt p)) r x e
+        worked-case new p (s (depthAt p)) (s (topAt p)) r x e
         (λ i. new-holder x ∙ rw i at taken)
         (λ i. new-holder x ∙ strict x (rw (link0, link2, new-alike .working x) at i))
 

@@ -37,17 +37,17 @@ carries-keeps m n c =
 pub same-carries : (m : Memory) → Carries m m
 same-carries m = record { grows = omega arith; modules = λ q l g. refl; begun = λ q l g n. n }
 
-pub created-low : (T : Table) (m : Memory) (p : ℕ) → isCreated T m p ≡ true → 1 ≤ p
+pub created-low : (m : Memory) (p : ℕ) → isCreated m p ≡ true → 1 ≤ p
 unfolding isCreated
-created-low T m p e = range-low 1 (m createdAt) p e
+created-low m p e = range-low 1 (m createdAt) p e
 
-pub created-high : (T : Table) (m : Memory) (p : ℕ) → isCreated T m p ≡ true → p ≤ m createdAt
+pub created-high : (m : Memory) (p : ℕ) → isCreated m p ≡ true → p ≤ m createdAt
 unfolding isCreated
-created-high T m p e = range-high 1 (m createdAt) p e
+created-high m p e = range-high 1 (m createdAt) p e
 
-pub created-i : (T : Table) (m : Memory) (p : ℕ) → 1 ≤ p → p ≤ m createdAt → isCreated T m p ≡ true
+pub created-i : (m : Memory) (p : ℕ) → 1 ≤ p → p ≤ m createdAt → isCreated m p ≡ true
 unfolding isCreated
-created-i T m p l h = range-i 1 (m createdAt) p l h
+created-i m p l h = range-i 1 (m createdAt) p l h
 
 -- the frames lie above the module's variables
 pub chain-over : (T : Table) (m : Memory) (p : ℕ) {d f w c top : ℕ} → Chained T m p d f w c top → moduleWords T (m (moduleAt p)) ≤ top

@@ -245,6 +245,6 @@ pub create-rule : (T : Table) → Accepted T → PlaceLaws T → (m : Memory) (p
     → rule T (update (update (created m (m createdAt + 1) μ) i (m createdAt + 1)) (statementAt p) c) ≡ true
 create-rule T good L m p s n μ τ i c room there kind e v l =
     let h = ruled T m (s .ruled) in
-    let a = created-low T m p (s .created) in
-    let b = created-high T m p (s .created) in
+    let a = created-low m p (s .created) in
+    let b = created-high m p (s .created) in
     rules T _ (create-kept T good L m h μ room there kind p a b (s .started) (passing-holds T good L m h p a b (s .started) n) τ i c e v l)

@@ -60,7 +60,7 @@ module _ (T : Table) (ok : Accepted T) (L : PlaceLaws T) (m : Memory) (h : Ruled
       given-same T m (update m (holderAt p) v) q p d (f 5 l (omega arith) (λ z. omega arith)) (f 2 l (omega arith) (λ z. omega arith)) k
 
   -- what a process works on stays when holders change
-  pub holder-worked : (r v p : ℕ) → 1 ≤ r → 1 ≤ p → p ≤ m createdAt → m (statusAt p) ≡ 2 → (x : ℕ) → worked T (update m (holderAt r) v) p (m (depthAt p)) (m (frameAt p)) (m (worksAt p)) x ≡ worked T m p (m (depthAt p)) (m (frameAt p)) (m (worksAt p)) x
+  pub holder-worked : (r v p : ℕ) → 1 ≤ r → 1 ≤ p → p ≤ m createdAt → m (statusAt p) ≡ 2 → (x : ℕ) → worked (update m (holderAt r) v) p (m (depthAt p)) (m (frameAt p)) (m (worksAt p)) x ≡ worked m p (m (depthAt p)) (m (frameAt p)) (m (worksAt p)) x
   holder-worked r v p a c d s =
       let u = h .most in
       alike-stays T ok L m (update m (holderAt r) v) (set-carries m r 6 v a (omega arith) (λ z. omega arith) (λ z. omega arith) (λ z. absurd (omega arith))) p c d (h .process p c d)
@@ -90,8 +90,8 @@ module _ (T : Table) (ok : Accepted T) (L : PlaceLaws T) (m : Memory) (h : Ruled
 pub end-rule : (T : Table) → Accepted T → PlaceLaws T → (m : Memory) (p : ℕ) → Started T m p → mayWait (stmtAt T (m (statementAt p))) ≡ false → rule T (update (update m (statusAt p) 3) (holderAt p) 0) ≡ true
 end-rule T ok L m p s n =
     let h = ruled T m (s .ruled) in
-    let a = created-low T m p (s .created) in
-    let b = created-high T m p (s .created) in
+    let a = created-low m p (s .created) in
+    let b = created-high m p (s .created) in
     let e = set-carries m p 0 3 a (omega arith) (λ z. omega arith) (λ z. omega arith) (λ y z. omega arith) .grows in
     let e6 = set-word m p 0 3 a (omega arith) (λ z. omega arith) (λ z. omega arith) 6 (λ z. omega arith) in
     let e0 = update-at m (statusAt p) 3 (statusAt p) refl in

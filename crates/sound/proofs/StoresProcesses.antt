@@ -55,7 +55,7 @@ module _ (T : Table) (m n : Memory) (p : ℕ) (r : Process T m p) where
     pub process-keeps :
         ((i : ℕ) → i < vars T (m (moduleAt p)) → holds T n (varType T (firstVar T (m (moduleAt p)) + i)) (location p (offsetOf T (m (moduleAt p)) (firstVar T (m (moduleAt p)) + i))) ≡ true)
         → (m (statusAt p) ≡ 2 → Chained T n p (m (depthAt p)) (m (frameAt p)) (m (worksAt p)) (m (statementAt p)) (m (topAt p)))
-        → (m (statusAt p) ≡ 2 → (x : ℕ) → worked T n p (m (depthAt p)) (m (frameAt p)) (m (worksAt p)) x ≡ true → Held T n p x)
+        → (m (statusAt p) ≡ 2 → (x : ℕ) → worked n p (m (depthAt p)) (m (frameAt p)) (m (worksAt p)) x ≡ true → Held T n p x)
         → Process T n p
     process-keeps v k o =
         let e0 = same 0 (omega arith) in
@@ -99,7 +99,7 @@ module _ (T : Table) (ok : Accepted T) (L : PlaceLaws T) (m n : Memory) (cs : Ca
   -- what it works on stays held, where the chain stays
   pub holding-stays : (s : m (statusAt p) ≡ 2) → Alike T m n p (m (depthAt p)) (m (frameAt p)) (m (worksAt p))
       → ((x : ℕ) → Created m x → Worked T m p x → Held T m p x → Held T n p x)
-      → (x : ℕ) → worked T n p (m (depthAt p)) (m (frameAt p)) (m (worksAt p)) x ≡ true → Held T n p x
+      → (x : ℕ) → worked n p (m (depthAt p)) (m (frameAt p)) (m (worksAt p)) x ≡ true → Held T n p x
   holding-stays s A o x e =
       let w : Worked T m p x = rw (A .working x) at e in
       o x (worked-created T m p some made (r .chain s) x w) w (r .holding s x w)

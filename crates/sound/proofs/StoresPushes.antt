@@ -48,7 +48,7 @@ module _ (T : Table) (good : Accepted T) (L : PlaceLaws T) (m page : Memory) (p 
       (q r : ℕ) (ws : List ℕ) (F : Fills T s p q ws) (there : q < blockCount T) (kind : blockKind T q ≡ 2) (r1 : 1 ≤ r) (r2 : r ≤ s createdAt) (owned : owner T q ≡ s (moduleAt r)) (calling : calls q (stmtAt T (m (statementAt p))) ≡ true)
       (begun : s (statusAt r) ≡ 1 → ⊥) (strict : Holds T s p) (taken : s (holderAt r) ≡ p)
       (as-local : (q c n : ℕ) → stmtAt T (m (statementAt p)) ≡ localCall q c n → s (worksAt p) ≡ r)
-      (as-process : (i q c n : ℕ) → stmtAt T (m (statementAt p)) ≡ processCall i q c n → worked T s p (s (depthAt p)) (s (frameAt p)) (s (worksAt p)) r ≡ false) where
+      (as-process : (i q c n : ℕ) → stmtAt T (m (statementAt p)) ≡ processCall i q c n → worked s p (s (depthAt p)) (s (frameAt p)) (s (worksAt p)) r ≡ false) where
     calling-s : calls q (stmtAt T (s (statementAt p))) ≡ true
     calling-s = rw e2 calling
 
@@ -74,10 +74,10 @@ module _ (T : Table) (good : Accepted T) (L : PlaceLaws T) (m page : Memory) (p 
     h = ruled T m (st .ruled)
 
     a : 1 ≤ p
-    a = created-low T m p (st .created)
+    a = created-low m p (st .created)
 
     b : p ≤ m createdAt
-    b = created-high T m p (st .created)
+    b = created-high m p (st .created)
 
     chain : Chained T m p (m (depthAt p)) (m (frameAt p)) (m (worksAt p)) (m (statementAt p)) (m (topAt p))
     chain = h .process p a b .chain (st .started)
@@ -88,7 +88,7 @@ module _ (T : Table) (good : Accepted T) (L : PlaceLaws T) (m page : Memory) (p 
     local-call-rule c n is owned =
         let k = stands T good m p a b (h .process p a b) (st .started) in
         let strict = passing-holds T good L m h p a b (st .started) (rw is) in
-        let first = worked-first T m p (m (depthAt p)) (m (frameAt p)) (m (worksAt p)) (m (worksAt p)) refl in
+        let first = worked-first m p (m (depthAt p)) (m (frameAt p)) (m (worksAt p)) (m (worksAt p)) refl in
         called-from m h a b (st .started) refl refl refl refl refl q (m (worksAt p)) ws F there kind (k .some-works) (k .works) owned calling
         (worked-begun T m p (st .started) chain (m (worksAt p)) first) strict (strict (m (worksAt p)) first)
         (λ i j l e. refl) (λ i j l o e. let z : _≡_ {A = ℕ} 0 1 = cc in absurd (omega arith))
@@ -100,9 +100,9 @@ module _ (T : Table) (good : Accepted T) (L : PlaceLaws T) (m page : Memory) (p 
       strict = passing-holds T good L m h p a b (st .started) (rw is)
 
       -- it works on none that nobody holds
-      unworked : worked T m p (m (depthAt p)) (m (frameAt p)) (m (worksAt p)) r ≡ false
+      unworked : worked m p (m (depthAt p)) (m (frameAt p)) (m (worksAt p)) r ≡ false
       unworked =
-          cases (worked T m p (m (depthAt p)) (m (frameAt p)) (m (worksAt p)) r)
+          cases (worked m p (m (depthAt p)) (m (frameAt p)) (m (worksAt p)) r)
           (λ e. let x = strict r e in let y = a in absurd (omega arith))
           (λ e. e)
 
@@ -115,7 +115,7 @@ module _ (T : Table) (good : Accepted T) (L : PlaceLaws T) (m page : Memory) (p 
       taken-ruled : Ruled T s
       taken-ruled = take-kept T good L m h r p r1 r2 b (λ q l z. absurd (omega arith))
 
-      s-worked : (x : ℕ) → worked T s p (s (depthAt p)) (s (frameAt p)) (s (worksAt p)) x ≡ worked T m p (m (depthAt p)) (m (frameAt p)) (m (worksAt p)) x
+      s-worked : (x : ℕ) → worked s p (s (depthAt p)) (s (frameAt p)) (s (worksAt p)) x ≡ worked m p (m (depthAt p)) (m (frameAt p)) (m (worksAt p)) x
       s-worked x = rw (word 7 (omega arith) (λ z. omega arith), word 3 (omega arith) (λ z. omega arith), word 5 (omega arith) (λ z. omega arith)) (holder-worked T good L m h r p p r1 a b (st .started) x)
 
       s-strict : Holds T s p

@@ -1,6 +1,6 @@
 -- THE RULE is kept where a process goes on or ends, and where the run fails. Assumes nothing.
 use Prim.Native.Nat.{ℕ, _≤_, _<_}
-use mathlib.Core.Path.{_≡_, refl, sym, _∙_}
+use mathlib.Core.Path.{_≡_, refl, sym, ap, _∙_}
 use mathlib.Core.Bool.{true, false}
 use native.Mathlib.Omega.{arith}
 use lib.Dec.{eqb}
@@ -13,6 +13,7 @@ use Rattle.machine.specs.Layout.{location, recordAt, statusAt, moduleAt, statem
 use Rattle.machine.specs.Context.{blockOf}
 use Rattle.machine.specs.Entries.{stmtAt}
 use Rattle.machine.specs.Rule.{liesIn, mayWait, worked, rule}
+use Rattle.machine.specs.Outcomes.{isFailure}
 use Rattle.machine.proofs.Memories.{update-at, update-other}
 use Rattle.verdict.specs.Accepted.{Accepted}
 use Rattle.sound.specs.Claims.{PlaceLaws, Started}
@@ -73,7 +74,7 @@ module _ (m : Memory) (r i v : ℕ) (a : 1 ≤ r) (l : i < 20) (no-module : i �
         process-same T ok L m (update m (recordAt r i) v) (set-carries begins) p x y (h .process p x y)
         (λ k g. set-other p k x (omega arith) d) (λ j g. set-area p j x (omega arith) g) o
 
-    pub set-ruled : Process T (update m (recordAt r i) v) r → ((p : ℕ) → 1 ≤ p → p ≤ m createdAt → (p ≡ r → ⊥) → Keeping p) → ((update m (recordAt r i) v failureAt ≡ 0 → ⊥) → (16 ≤ update m (recordAt r i) v failureAt) × (update m (recordAt r i) v failureAt ≤ 24)) → Ruled T (update m (recordAt r i) v)
+    pub set-ruled : Process T (update m (recordAt r i) v) r → ((p : ℕ) → 1 ≤ p → p ≤ m createdAt → (p ≡ r → ⊥) → Keeping p) → ((update m (recordAt r i) v failureAt ≡ 0 → ⊥) → isFailure (update m (recordAt r i) v failureAt) ≡ true) → Ruled T (update m (recordAt r i) v)
     set-ruled n o f =
         let e = set-unlike 1 8 (omega arith) (omega arith) (λ x. no-created (sym x)) in
         record {
@@ -91,7 +92,7 @@ module _ (m : Memory) (r i v : ℕ) (a : 1 ≤ r) (l : i < 20) (no-module : i �
     pub set-own : (1 ≤ update m (recordAt r i) v (statusAt r)) → (update m (recordAt r i) v (statusAt r) ≤ 3) → (r ≡ 1 → 2 ≤ update m (recordAt r i) v (statusAt r))
         → update m (recordAt r i) v (holderAt r) ≤ m createdAt
         → (update m (recordAt r i) v (statusAt r) ≡ 2 → Chained T m r (update m (recordAt r i) v (depthAt r)) (update m (recordAt r i) v (frameAt r)) (update m (recordAt r i) v (worksAt r)) (update m (recordAt r i) v (statementAt r)) (update m (recordAt r i) v (topAt r)))
-        → (update m (recordAt r i) v (statusAt r) ≡ 2 → (x : ℕ) → worked T m r (update m (recordAt r i) v (depthAt r)) (update m (recordAt r i) v (frameAt r)) (update m (recordAt r i) v (worksAt r)) x ≡ true → Held T (update m (recordAt r i) v) r x)
+        → (update m (recordAt r i) v (statusAt r) ≡ 2 → (x : ℕ) → worked m r (update m (recordAt r i) v (depthAt r)) (update m (recordAt r i) v (frameAt r)) (update m (recordAt r i) v (worksAt r)) x ≡ true → Held T (update m (recordAt r i) v) r x)
         → Process T (update m (recordAt r i) v) r
     set-own x y z w k o =
         let u = h .most in
@@ -105,7 +106,7 @@ module _ (m : Memory) (r i v : ℕ) (a : 1 ≤ r) (l : i < 20) (no-module : i �
         let A = alike-stays T ok L m (update m (recordAt r i) v) (set-carries begins) r a b (h .process r a b) (λ j c d. set-area r j a (omega arith) d) (k e) in
         o e t (rw (A .working t) at n))
 
-    pub set-failed : (i ≡ 9 → ⊥) → (update m (recordAt r i) v failureAt ≡ 0 → ⊥) → (16 ≤ update m (recordAt r i) v failureAt) × (update m (recordAt r i) v failureAt ≤ 24)
+    pub set-failed : (i ≡ 9 → ⊥) → (update m (recordAt r i) v failureAt ≡ 0 → ⊥) → isFailure (update m (recordAt r i) v failureAt) ≡ true
     set-failed d = rw (set-unlike 1 9 (omega arith) (omega arith) (λ x. d (sym x))) (h .failed)
 
 -- a chain at another statement of its block
@@ -175,8 +176,8 @@ module _ (T : Table) (ok : Accepted T) (L : PlaceLaws T) (m : Memory) (h : Ruled
       (set-failed m p 0 3 a (omega arith) (λ z. omega arith) (λ z. omega arith) T ok L h b (λ y z. omega arith) (λ z. omega arith))
 
   -- the run has failed
-  pub fail-kept : (n : ℕ) → 16 ≤ n → n ≤ 24 → Ruled T (update m failureAt n)
-  fail-kept n l g =
+  pub fail-kept : (n : ℕ) → isFailure n ≡ true → Ruled T (update m failureAt n)
+  fail-kept n g =
       let one : 1 ≤ 1 = omega arith in
       let b = h .some in
       let x = h .process 1 one b in
@@ -197,7 +198,7 @@ module _ (T : Table) (ok : Accepted T) (L : PlaceLaws T) (m : Memory) (h : Ruled
       (set-unlike m 1 9 n one (omega arith) (λ z. omega arith) (λ z. omega arith) y 6 (worked-created T m 1 one b (x .chain s) y t .least) (omega arith) (λ z. omega arith))
       (w 5 (λ z. omega arith)) (w 2 (λ z. omega arith)) (x .holding s y t)))
       (set-keeps m 1 9 n one (omega arith) (λ z. omega arith) (λ z. omega arith) T ok L h b (λ z. absurd (omega arith)) (λ z. omega arith))
-      (λ z. (omega arith, omega arith))
+      (λ z. ap isFailure e9 ∙ g)
 
   -- where p stands at no when or cycle, it holds what it works on
   pub passing-holds : (p : ℕ) → 1 ≤ p → p ≤ m createdAt → m (statusAt p) ≡ 2 → mayWait (stmtAt T (m (statementAt p))) ≡ false → Holds T m p
@@ -208,9 +209,9 @@ module _ (T : Table) (ok : Accepted T) (L : PlaceLaws T) (m : Memory) where
   pub goto-rule : (p c : ℕ) → Started T m p → mayWait (stmtAt T (m (statementAt p))) ≡ false → liesIn T (blockOf m p) c ≡ true → rule T (update m (statementAt p) c) ≡ true
   goto-rule p c s n e =
       let h = ruled T m (s .ruled) in
-      let a = created-low T m p (s .created) in
-      let b = created-high T m p (s .created) in
+      let a = created-low m p (s .created) in
+      let b = created-high m p (s .created) in
       rules T (update m (statementAt p) c) (goto-kept T ok L m h p c a b (s .started) (passing-holds T ok L m h p a b (s .started) n) e)
 
-  pub fail-rule : (n : ℕ) → rule T m ≡ true → 16 ≤ n → n ≤ 24 → rule T (update m failureAt n) ≡ true
-  fail-rule n r l g = rules T (update m failureAt n) (fail-kept T ok L m (ruled T m r) n l g)
+  pub fail-rule : (n : ℕ) → rule T m ≡ true → isFailure n ≡ true → rule T (update m failureAt n) ≡ true
+  fail-rule n r g = rules T (update m failureAt n) (fail-kept T ok L m (ruled T m r) n g)

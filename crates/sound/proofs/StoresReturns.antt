@@ -57,8 +57,8 @@ module _ (T : Table) (good : Accepted T) (L : PlaceLaws T) (m : Memory) (h : Rul
   popped-chain : {d f w c top : ℕ} → Chained T m p (suc d) f w c top → Chained T m p d (callerFrame m p f) (callerWorks m p f) (callStatement m p f + 1) f
   popped-chain {f = f} (called k r) = chain-next T good m p (h .process p a b) (call-kind T (calledBlock m p f) (callStatement m p f) (k .calling)) r
 
-  pub pop-kept : {d f w c top : ℕ} → Chained T m p (suc d) f w c top → ((x : ℕ) → worked T m p (suc d) f w x ≡ true → m (holderAt x) ≡ p) → Ruled T (standing m p (callStatement m p f + 1) (callerFrame m p f) f (callerWorks m p f) d)
-  pop-kept {d = d} {f = f} {w = w} k o = stand-kept m p (callStatement m p f + 1) (callerFrame m p f) f (callerWorks m p f) d a T good L h b (popped-chain k) (λ x e. o x (worked-outer T m p d f w x e))
+  pub pop-kept : {d f w c top : ℕ} → Chained T m p (suc d) f w c top → ((x : ℕ) → worked m p (suc d) f w x ≡ true → m (holderAt x) ≡ p) → Ruled T (standing m p (callStatement m p f + 1) (callerFrame m p f) f (callerWorks m p f) d)
+  pop-kept {d = d} {f = f} {w = w} k o = stand-kept m p (callStatement m p f + 1) (callerFrame m p f) f (callerWorks m p f) d a T good L h b (popped-chain k) (λ x e. o x (worked-outer m p d f w x e))
 
 -- a call's end comes to a state that meets the rule
 pub record Returned (T : Table) (o : Outcome Memory) : Type 0 where
@@ -71,10 +71,10 @@ module _ (T : Table) (good : Accepted T) (L : PlaceLaws T) (m page : Memory) (p 
   h = ruled T m (st .ruled)
 
   a : 1 ≤ p
-  a = created-low T m p (st .created)
+  a = created-low m p (st .created)
 
   b : p ≤ m createdAt
-  b = created-high T m p (st .created)
+  b = created-high m p (st .created)
 
   module _ (d : ℕ) (e : m (depthAt p) ≡ suc d) where
     chain-of : Chained T m p (suc d) (m (frameAt p)) (m (worksAt p)) (m (statementAt p)) (m (topAt p))
@@ -84,7 +84,7 @@ module _ (T : Table) (good : Accepted T) (L : PlaceLaws T) (m page : Memory) (p 
     unfolding popped contextOf
     popped-is s c = let q : m (depthAt p) - 1 ≡ d = omega arith in rw q
 
-    strict : (x : ℕ) → worked T m p (suc d) (m (frameAt p)) (m (worksAt p)) x ≡ true → m (holderAt x) ≡ p
+    strict : (x : ℕ) → worked m p (suc d) (m (frameAt p)) (m (worksAt p)) x ≡ true → m (holderAt x) ≡ p
     strict = rw e at (passing-holds T good L m h p a b (st .started) passing)
 
     abbrev left : Memory
@@ -97,7 +97,7 @@ module _ (T : Table) (good : Accepted T) (L : PlaceLaws T) (m page : Memory) (p 
     local-return = rw (popped-is m (callStatement m p (m (frameAt p)))) (rules T _ left-ruled)
 
     -- what p works on outside the call
-    left-worked : (x : ℕ) → Worked T left p x → worked T m p d (callerFrame m p (m (frameAt p))) (callerWorks m p (m (frameAt p))) x ≡ true
+    left-worked : (x : ℕ) → Worked T left p x → worked m p d (callerFrame m p (m (frameAt p))) (callerWorks m p (m (frameAt p))) x ≡ true
     left-worked x t =
         let c : ℕ = callStatement m p (m (frameAt p)) + 1 in
         let f : ℕ = callerFrame m p (m (frameAt p)) in
@@ -108,7 +108,7 @@ module _ (T : Table) (good : Accepted T) (L : PlaceLaws T) (m page : Memory) (p 
         let A = alike-stays T good L m left cs p a b (h .process p a b) (λ j l v. stand-area m p c f (m (frameAt p)) w d a p j a (omega arith) v) (popped-chain T good L m h p a b chain-of) in
         rw (stand-depth m p c f (m (frameAt p)) w d, stand-frame m p c f (m (frameAt p)) w d, stand-works m p c f (m (frameAt p)) w d, A .working x) at t
 
-    process-return : worked T m p d (callerFrame m p (m (frameAt p))) (callerWorks m p (m (frameAt p))) (m (worksAt p)) ≡ false → rule T (popped T m page (contextOf m p) (update m (holderAt (m (worksAt p))) 0) (callStatement m p (m (frameAt p)))) ≡ true
+    process-return : worked m p d (callerFrame m p (m (frameAt p))) (callerWorks m p (m (frameAt p))) (m (worksAt p)) ≡ false → rule T (popped T m page (contextOf m p) (update m (holderAt (m (worksAt p))) 0) (callStatement m p (m (frameAt p)))) ≡ true
     process-return n =
         let c : ℕ = callStatement m p (m (frameAt p)) + 1 in
         let f : ℕ = callerFrame m p (m (frameAt p)) in
@@ -117,7 +117,7 @@ module _ (T : Table) (good : Accepted T) (L : PlaceLaws T) (m page : Memory) (p 
         let r1 = k .some-works in
         let r2 = k .works in
         let g = stand-carries m p c f (m (frameAt p)) w d a .grows in
-        let own = stand-holder m p c f (m (frameAt p)) w d a (m (worksAt p)) r1 ∙ strict (m (worksAt p)) (worked-first T m p (suc d) (m (frameAt p)) (m (worksAt p)) (m (worksAt p)) refl) in
+        let own = stand-holder m p c f (m (frameAt p)) w d a (m (worksAt p)) r1 ∙ strict (m (worksAt p)) (worked-first m p (suc d) (m (frameAt p)) (m (worksAt p)) (m (worksAt p)) refl) in
         rw (popped-is (update m (holderAt (m (worksAt p))) 0) (callStatement m p (m (frameAt p))), stand-set m p c f (m (frameAt p)) w d a (m (worksAt p)) 0 r1)
         (rules T _
         (give-kept T good L left left-ruled (m (worksAt p)) p r1 (omega arith) a

@@ -105,10 +105,10 @@ module _ (T : Table) (ok : Accepted T) (L : PlaceLaws T) (m : Memory) (h : Ruled
   pub store-kept : (p τ a : ℕ) (ws : List ℕ) → 1 ≤ p → p ≤ m createdAt → m (statusAt p) ≡ 2 → lives T m p (m (depthAt p)) (m (frameAt p)) (m (worksAt p)) τ a ≡ true → IsValue T m τ ws → Ruled T (store m a ws)
   store-kept p τ a ws l g s e v =
       rw (location-of a) at
-      (either-case (both (isCreated T m (a / 256 + 1)) (partOfBlock T (m (moduleAt (a / 256 + 1))) τ (a % 256))) (both (eqb (a / 256 + 1) p) (owns T m p (m (depthAt p)) (m (frameAt p)) τ (a % 256))) (lives-there T m p l g (h .process p l g .chain s) τ a e)
-      (λ x. store-module (a / 256 + 1) τ (a % 256) ws (created-low T m (a / 256 + 1) (both-l _ _ x)) (created-high T m (a / 256 + 1) (both-l _ _ x)) (both-r _ _ x) v)
+      (either-case (both (isCreated m (a / 256 + 1)) (partOfBlock T (m (moduleAt (a / 256 + 1))) τ (a % 256))) (both (eqb (a / 256 + 1) p) (owns T m p (m (depthAt p)) (m (frameAt p)) τ (a % 256))) (lives-there T m p l g (h .process p l g .chain s) τ a e)
+      (λ x. store-module (a / 256 + 1) τ (a % 256) ws (created-low m (a / 256 + 1) (both-l _ _ x)) (created-high m (a / 256 + 1) (both-l _ _ x)) (both-r _ _ x) v)
       (λ x. rw (eqb-true (a / 256 + 1) p (both-l _ _ x)) (store-own p τ (a % 256) ws l g s (both-r _ _ x) v)))
 
 pub store-rule : (T : Table) → Accepted T → PlaceLaws T → (m : Memory) (p : ℕ) → Started T m p → (τ a : ℕ) (ws : List ℕ) → lives T m p (m (depthAt p)) (m (frameAt p)) (m (worksAt p)) τ a ≡ true → IsValue T m τ ws → rule T (store m a ws) ≡ true
 store-rule T ok L m p s τ a ws e v =
-    rules T (store m a ws) (store-kept T ok L m (ruled T m (s .ruled)) p τ a ws (created-low T m p (s .created)) (created-high T m p (s .created)) (s .started) e v)
+    rules T (store m a ws) (store-kept T ok L m (ruled T m (s .ruled)) p τ a ws (created-low m p (s .created)) (created-high m p (s .created)) (s .started) e v)

@@ -147,7 +147,7 @@ module _ (s : Memory) (p c f top w d : ℕ) where
         )
 
     module _ (T : Table) (ok : Accepted T) (L : PlaceLaws T) (h : Ruled T s) (b : p ≤ s createdAt) (k : Chained T s p d f w c top)
-        (o : (x : ℕ) → worked T s p d f w x ≡ true → s (holderAt x) ≡ p) where
+        (o : (x : ℕ) → worked s p d f w x ≡ true → s (holderAt x) ≡ p) where
       stand-process : Process T (standing s p c f top w d) p
       stand-process =
           let x = h .process p a b in
@@ -167,7 +167,7 @@ module _ (s : Memory) (p c f top w d : ℕ) where
           (chain-stays T ok L s (standing s p c f top w d) stand-carries p a b x (λ j l m. stand-area p j a (omega arith) m) k))
           (λ z. rw (stand-depth, stand-frame, stand-works) (λ y e.
           let A = alike-stays T ok L s (standing s p c f top w d) stand-carries p a b x (λ j l m. stand-area p j a (omega arith) m) k in
-          let t : worked T s p d f w y ≡ true = rw (A .working y) at e in
+          let t : worked s p d f w y ≡ true = rw (A .working y) at e in
           held (stand-holder y (worked-created T s p a b k y t .least) ∙ o y t)))
 
       -- THE PROCESS STANDS on the chain k, and holds what it works on

@@ -210,7 +210,7 @@ module _ (T : Table) (good : Accepted T) (L : PlaceLaws T) (m : Memory) (h : Rul
       (λ z. rw (stand-depth held r (firstStmt T μ) 0 (moduleWords T μ) r 0, stand-frame held r (firstStmt T μ) 0 (moduleWords T μ) r 0, stand-works held r (firstStmt T μ) 0 (moduleWords T μ) r 0, stand-statement held r (firstStmt T μ) 0 (moduleWords T μ) r 0, stand-top held r (firstStmt T μ) 0 (moduleWords T μ) r 0)
       begun-chain)
       (λ z. rw (stand-depth held r (firstStmt T μ) 0 (moduleWords T μ) r 0, stand-frame held r (firstStmt T μ) 0 (moduleWords T μ) r 0, stand-works held r (firstStmt T μ) 0 (moduleWords T μ) r 0)
-      (λ x t. let i = worked-bottom T begun r 0 r x t in rw (← i) (records.held e6)))
+      (λ x t. let i = worked-bottom begun r 0 r x t in rw (← i) (records.held e6)))
 
   started-carries : Carries m begun
   started-carries =
@@ -271,8 +271,8 @@ pub start-rule : (T : Table) → Accepted T → PlaceLaws T → (m : Memory) (p 
 unfolding refers
 start-rule T good L m p s y r μ c ws e n F l =
     let h = ruled T m (s .ruled) in
-    let a = created-low T m p (s .created) in
-    let b = created-high T m p (s .created) in
+    let a = created-low m p (s .created) in
+    let b = created-high m p (s .created) in
     rules T _
     (start-kept T good L m h p r μ ws (leb-true 2 r (both-l _ _ (both-l _ _ e))) (leb-true r (m createdAt) (both-r _ _ (both-l _ _ e))) (eqb-true (m (moduleAt r)) μ (both-r _ _ e)) n F
     a b (s .started) (passing-holds T good L m h p a b (s .started) y) c l)

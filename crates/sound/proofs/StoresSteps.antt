@@ -142,8 +142,8 @@ module _ (T : Table) (good : Accepted T) (L : PlaceLaws T) (m : Memory) (h : Rul
     inside : (i : ℕ) → lives T m p (m (depthAt p)) (m (frameAt p)) (m (worksAt p)) τ i ≡ true → Inside T m p i ws
     inside i e =
         rw (location-of i) at
-        (either-case (both (isCreated T m (i / 256 + 1)) (partOfBlock T (m (moduleAt (i / 256 + 1))) τ (i % 256))) (both (eqb (i / 256 + 1) p) (owns T m p (m (depthAt p)) (m (frameAt p)) τ (i % 256))) (lives-there T m p a b (h .process p a b .chain st) τ i e)
-        (λ x. in-module (i / 256 + 1) (i % 256) (created-low T m (i / 256 + 1) (both-l _ _ x)) (created-high T m (i / 256 + 1) (both-l _ _ x)) (both-r _ _ x))
+        (either-case (both (isCreated m (i / 256 + 1)) (partOfBlock T (m (moduleAt (i / 256 + 1))) τ (i % 256))) (both (eqb (i / 256 + 1) p) (owns T m p (m (depthAt p)) (m (frameAt p)) τ (i % 256))) (lives-there T m p a b (h .process p a b .chain st) τ i e)
+        (λ x. in-module (i / 256 + 1) (i % 256) (created-low m (i / 256 + 1) (both-l _ _ x)) (created-high m (i / 256 + 1) (both-l _ _ x)) (both-r _ _ x))
         (λ x. rw (eqb-true (i / 256 + 1) p (both-l _ _ x)) (in-own (i % 256) (both-r _ _ x))))
 
     module _ (i : ℕ) (e : lives T m p (m (depthAt p)) (m (frameAt p)) (m (worksAt p)) τ i ≡ true) where
@@ -214,10 +214,10 @@ module _ (T : Table) (good : Accepted T) (L : PlaceLaws T) (m : Memory) (p : ℕ
   h = ruled T m (s .ruled)
 
   some : 1 ≤ p
-  some = created-low T m p (s .created)
+  some = created-low m p (s .created)
 
   made : p ≤ m createdAt
-  made = created-high T m p (s .created)
+  made = created-high m p (s .created)
 
   pub assign-rule : (τ i c : ℕ) (ws : List ℕ) → mayWait (stmtAt T (m (statementAt p))) ≡ false → lives T m p (m (depthAt p)) (m (frameAt p)) (m (worksAt p)) τ i ≡ true → IsValue T m τ ws → liesIn T (blockOf m p) c ≡ true → rule T (update (store m i ws) (statementAt p) c) ≡ true
   assign-rule τ i c ws n e v l =

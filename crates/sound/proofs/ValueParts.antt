@@ -170,9 +170,6 @@ module _ (T : Table) (ok : Accepted T) where
   pub part-in : (τ σ k : ℕ) → σ < 3 + typeCount T → part T τ σ k ≡ true → (τ < 3 + typeCount T) × (k + wordsOf T τ ≤ wordsOf T σ)
   part-in τ σ k l h = Part-in T ok l (to-Part T τ σ k h)
 
-  pub part-trans : (τ σ ρ j k : ℕ) → ρ < 3 + typeCount T → part T τ σ j ≡ true → part T σ ρ k ≡ true → part T τ ρ (k + j) ≡ true
-  part-trans τ σ ρ j k l h g = to-part T ok l (Part-trans T (to-Part T τ σ j h) (to-Part T σ ρ k g))
-
   pub part-field : (σ ρ k first count i : ℕ) → ρ < 3 + typeCount T → part T σ ρ k ≡ true → typeAt T σ ≡ recordType first count → i < count
       → part T (fieldType T (first + i)) ρ (k + offsetIn T σ i) ≡ true
   part-field σ ρ k first count i l h e g =

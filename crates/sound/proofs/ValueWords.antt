@@ -6,9 +6,8 @@ use mathlib.Core.List.{List, [], _∷_}
 use native.Mathlib.Omega.{arith}
 use lib.ListN.{length}
 use lib.Dec.{eqb}
-use borrow.Author.Tests.{eq-eqb, leb-true, le-leb}
-use Rattle.basics.specs.Choice.{either}
-use Rattle.basics.proofs.Bools.{either-l, either-r}
+use borrow.Author.Tests.{leb-true, le-leb}
+use Rattle.basics.proofs.Bools.{either-r}
 use Rattle.table.specs.Table.{Table}
 use Rattle.sizes.specs.Sizes.{wordsOf}
 use Rattle.sizes.proofs.Counting.{words-standard}
@@ -65,10 +64,6 @@ module _ (T : Table) (m : Memory) where
       unfolding refersOrEmpty
       reference-value h = process-value (either-r (eqb w 0) (refers m μ w) h)
 
-      pub empty-value : w ≡ 0 → IsValue T m τ (w ∷ [])
-      unfolding refersOrEmpty
-      empty-value h = process-value (either-l (eqb w 0) (refers m μ w) (eq-eqb w 0 h))
-
 -- ---- what a value of one word is
 
 one-word : (ws : List ℕ) → length ws ≡ 1 → ws ≡ wordOf ws ∷ []
@@ -101,19 +96,3 @@ module _ (T : Table) (m : Memory) (ws : List ℕ) where
       let one = words-standard T 1 (omega arith) in
       let h = word-holds T m 1 ws v one in
       leb-true (wordOf ws) 1 (rw (boolean-is T (store m 0 ws) 0, word-there T m 1 ws v one) at h)
-
-  pub character-word : IsValue T m 2 ws → wordOf ws ≤ 127
-  character-word v =
-      let one = words-standard T 2 (omega arith) in
-      let h = word-holds T m 2 ws v one in
-      leb-true (wordOf ws) 127 (rw (character-is T (store m 0 ws) 0, word-there T m 2 ws v one) at h)
-
-  pub process-word : (τ μ : ℕ) → typeAt T τ ≡ processType μ → IsValue T m τ ws → refersOrEmpty m μ (wordOf ws) ≡ true
-  unfolding refersOrEmpty
-  process-word τ μ e v =
-      let one = words-process T τ (process-kind T τ μ e .0) in
-      let n = store m 0 ws in
-      let h = word-holds T m τ ws v one in
-      let l = v .long in
-      let x : either (eqb (wordOf ws) 0) (refers n μ (wordOf ws)) ≡ true = rw (process-is T n 0 τ μ e, word-there T m τ ws v one) at h in
-      rw (refers-same m n (λ j d. store-above m 0 ws j (omega arith)) μ (wordOf ws)) at x

@@ -5,7 +5,7 @@ use mathlib.Core.Bool.{Bool, true, false}
 use native.Mathlib.Omega.{arith}
 use native.Mathlib.Nat.{add-assoc, add-zero}
 use lib.Dec.{eqb, leb, ltb}
-use borrow.Author.Tests.{eqb-true, eq-eqb, le-leb, ltb-true, ltb-false}
+use borrow.Author.Tests.{eq-eqb, le-leb, ltb-true, ltb-false}
 use Rattle.basics.specs.Cases.{cases}
 use Rattle.basics.specs.Choice.{either, allBelow}
 use Rattle.basics.specs.Course.{upto, course}
@@ -101,10 +101,6 @@ keeps-refers m n μ w h e =
     either-case (eqb w 0) (refers m μ w) e
     (λ q. either-l (eqb w 0) (refers n μ w) q)
     (λ q. either-r (eqb w 0) (refers n μ w) (h .refs μ w q))
-
-pub refers-cases {ℓ} : {A : Type ℓ} (m : Memory) (μ w : ℕ) → refersOrEmpty m μ w ≡ true → (w ≡ 0 → A) → (refers m μ w ≡ true → A) → A
-unfolding refersOrEmpty
-refers-cases m μ w e f g = either-case (eqb w 0) (refers m μ w) e (λ q. f (eqb-true w 0 q)) g
 
 module _ (T : Table) (m n : Memory) (keeps : Keeps m n) where
   unfoldable Moves : ℕ → Type 0

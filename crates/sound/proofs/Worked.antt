@@ -18,57 +18,58 @@ use Rattle.machine.proofs.Tests.{range-i}
 use Rattle.sound.specs.InUse.{Created}
 use Rattle.sound.specs.Ruled.{Chained, bottom, called, Held, held, given, Carries}
 
-module _ (T : Table) (m : Memory) (p : ℕ) where
-  pub worked-first : (d f w r : ℕ) → w ≡ r → worked T m p d f w r ≡ true
+module _ (m : Memory) (p : ℕ) where
+  pub worked-first : (d f w r : ℕ) → w ≡ r → worked m p d f w r ≡ true
   unfolding worked
   worked-first zero f w r e = eq-eqb w r e
   worked-first (suc d) f w r e = either-l _ _ (eq-eqb w r e)
 
-  pub worked-outer : (d f w r : ℕ) → worked T m p d (callerFrame m p f) (callerWorks m p f) r ≡ true → worked T m p (suc d) f w r ≡ true
+  pub worked-outer : (d f w r : ℕ) → worked m p d (callerFrame m p f) (callerWorks m p f) r ≡ true → worked m p (suc d) f w r ≡ true
   unfolding worked
   worked-outer d f w r e = either-r (eqb w r) _ e
 
-  pub worked-bottom : (f w r : ℕ) → worked T m p 0 f w r ≡ true → w ≡ r
+  pub worked-bottom : (f w r : ℕ) → worked m p 0 f w r ≡ true → w ≡ r
   unfolding worked
   worked-bottom f w r e = eqb-true w r e
 
-  pub worked-case {ℓ} : {A : Type ℓ} (d f w r : ℕ) → worked T m p (suc d) f w r ≡ true → (w ≡ r → A) → (worked T m p d (callerFrame m p f) (callerWorks m p f) r ≡ true → A) → A
+  pub worked-case {ℓ} : {A : Type ℓ} (d f w r : ℕ) → worked m p (suc d) f w r ≡ true → (w ≡ r → A) → (worked m p d (callerFrame m p f) (callerWorks m p f) r ≡ true → A) → A
   unfolding worked
   worked-case d f w r e g h = either-case (eqb w r) _ e (λ i. g (eqb-true w r i)) h
 
+module _ (T : Table) (m : Memory) (p : ℕ) where
   module _ (some : 1 ≤ p) (made : p ≤ m createdAt) where
-    pub worked-created : {d f w c top : ℕ} → Chained T m p d f w c top → (r : ℕ) → worked T m p d f w r ≡ true → Created m r
+    pub worked-created : {d f w c top : ℕ} → Chained T m p d f w c top → (r : ℕ) → worked m p d f w r ≡ true → Created m r
     worked-created {f = f} {w = w} (bottom k) r e =
-        let i = worked-bottom f w r e in let j = k .own in record { least = omega arith; most = omega arith }
+        let i = worked-bottom m p f w r e in let j = k .own in record { least = omega arith; most = omega arith }
     worked-created {d = suc d} {f = f} {w = w} (called k c) r e =
-        worked-case d f w r e
+        worked-case m p d f w r e
         (λ i. let x = k .some-works in let y = k .works in record { least = omega arith; most = omega arith })
         (λ i. worked-created c r i)
 
     -- a live variable is a module variable of a created process, or one of its process's calls
     pub lives-there : {d f w c top : ℕ} → Chained T m p d f w c top → (τ a : ℕ) → lives T m p d f w τ a ≡ true
-        → either (both (isCreated T m (a / 256 + 1)) (partOfBlock T (m (moduleAt (a / 256 + 1))) τ (a % 256))) (both (eqb (a / 256 + 1) p) (owns T m p d f τ (a % 256))) ≡ true
+        → either (both (isCreated m (a / 256 + 1)) (partOfBlock T (m (moduleAt (a / 256 + 1))) τ (a % 256))) (both (eqb (a / 256 + 1) p) (owns T m p d f τ (a % 256))) ≡ true
     unfolding lives isCreated
     lives-there {d = d} {f = f} {w = w} k τ a e =
-        either-case (both (worked T m p d f w (a / 256 + 1)) (partOfBlock T (m (moduleAt (a / 256 + 1))) τ (a % 256))) _ e
+        either-case (both (worked m p d f w (a / 256 + 1)) (partOfBlock T (m (moduleAt (a / 256 + 1))) τ (a % 256))) _ e
         (λ h. let c = worked-created k (a / 256 + 1) (both-l _ _ h) in either-l _ _ (both-i _ _ (range-i 1 (m createdAt) (a / 256 + 1) (c .least) (c .most)) (both-r _ _ h)))
         (λ h. either-r _ _ h)
 
-  pub worked-begun : m (statusAt p) ≡ 2 → {d f w c top : ℕ} → Chained T m p d f w c top → (r : ℕ) → worked T m p d f w r ≡ true → m (statusAt r) ≡ 1 → ⊥
+  pub worked-begun : m (statusAt p) ≡ 2 → {d f w c top : ℕ} → Chained T m p d f w c top → (r : ℕ) → worked m p d f w r ≡ true → m (statusAt r) ≡ 1 → ⊥
   worked-begun s {f = f} {w = w} (bottom k) r e n =
-      let i = worked-bottom f w r e in
+      let i = worked-bottom m p f w r e in
       let j = k .own in
       let z : m (statusAt p) ≡ 1 = rw (sym j, i) n in
       omega arith
   worked-begun s {d = suc d} {f = f} {w = w} (called k c) r e n =
-      worked-case d f w r e
+      worked-case m p d f w r e
       (λ i. k .begun (rw i n))
       (λ i. worked-begun s c r i n)
 
 -- the d calls of process p, the innermost of which has its frame at f and works on w, own and work on the same in n as in m
 pub record Alike (T : Table) (m n : Memory) (p d f w : ℕ) : Type 0 where
   pub owning : (τ k : ℕ) → owns T m p d f τ k ≡ true → owns T n p d f τ k ≡ true
-  pub working : (r : ℕ) → worked T n p d f w r ≡ worked T m p d f w r
+  pub working : (r : ℕ) → worked n p d f w r ≡ worked m p d f w r
 
 module _ (T : Table) (m n : Memory) (p : ℕ) where
   pub alike-none : (f w : ℕ) → Alike T m n p 0 f w
@@ -91,7 +92,7 @@ module _ (T : Table) (m n : Memory) (p : ℕ) where
   pub lives-alike : Carries m n → 1 ≤ p → p ≤ m createdAt → {d f w c top : ℕ} → Chained T m p d f w c top → Alike T m n p d f w → (τ a : ℕ) → lives T m p d f w τ a ≡ true → lives T n p d f w τ a ≡ true
   unfolding lives
   lives-alike cs some made {d = d} {f = f} {w = w} k A τ a e =
-      either-case (both (worked T m p d f w (a / 256 + 1)) (partOfBlock T (m (moduleAt (a / 256 + 1))) τ (a % 256))) (both (eqb (a / 256 + 1) p) (owns T m p d f τ (a % 256))) e
+      either-case (both (worked m p d f w (a / 256 + 1)) (partOfBlock T (m (moduleAt (a / 256 + 1))) τ (a % 256))) (both (eqb (a / 256 + 1) p) (owns T m p d f τ (a % 256))) e
       (λ x. let c = worked-created T m p some made k (a / 256 + 1) (both-l _ _ x) in
       either-l _ _ (both-i _ _ (rw (A .working (a / 256 + 1)) (both-l _ _ x)) (rw (cs .modules (a / 256 + 1) (c .least) (c .most)) (both-r _ _ x))))
       (λ x. either-r _ _ (both-i _ _ (both-l _ _ x) (A .owning τ (a % 256) (both-r _ _ x))))
@@ -119,12 +120,12 @@ module _ (T : Table) (m n : Memory) (p : ℕ) where
   held-same r e6 e5 e2 (given h w) = given (rw e5 h) (rw e2 w)
 
 -- a process works on itself, in its own block
-pub worked-own : (T : Table) (m : Memory) (p : ℕ) {d f w c top : ℕ} → Chained T m p d f w c top → worked T m p d f w p ≡ true
-worked-own T m p {f = f} {w = w} (bottom k) = worked-first T m p 0 f w p (k .own)
-worked-own T m p {d = suc d} {f = f} {w = w} (called k c) = worked-outer T m p d f w p (worked-own T m p c)
+pub worked-own : (T : Table) (m : Memory) (p : ℕ) {d f w c top : ℕ} → Chained T m p d f w c top → worked m p d f w p ≡ true
+worked-own T m p {f = f} {w = w} (bottom k) = worked-first m p 0 f w p (k .own)
+worked-own T m p {d = suc d} {f = f} {w = w} (called k c) = worked-outer m p d f w p (worked-own T m p c)
 
 -- a call that works on what its process works on outside it is a local call
-pub works-outer : (T : Table) (m : Memory) (p d f w : ℕ) (s : Statement) → worksBy T m p d f w s ≡ true → worked T m p d (callerFrame m p f) (callerWorks m p f) w ≡ true → callerWorks m p f ≡ w
+pub works-outer : (T : Table) (m : Memory) (p d f w : ℕ) (s : Statement) → worksBy T m p d f w s ≡ true → worked m p d (callerFrame m p f) (callerWorks m p f) w ≡ true → callerWorks m p f ≡ w
 unfolding worksBy
 works-outer T m p d f w skip e h = no-true e
 works-outer T m p d f w (assign a b) e h = no-true e
@@ -142,7 +143,7 @@ works-outer T m p d f w noStatement e h = no-true e
 -- how a call comes to work on w
 pub works-by-i : (T : Table) (m : Memory) (p d f w q : ℕ) (s : Statement) → calls q s ≡ true
     → ((b c k : ℕ) → s ≡ localCall b c k → callerWorks m p f ≡ w)
-    → ((a b c k : ℕ) → s ≡ processCall a b c k → worked T m p d (callerFrame m p f) (callerWorks m p f) w ≡ false)
+    → ((a b c k : ℕ) → s ≡ processCall a b c k → worked m p d (callerFrame m p f) (callerWorks m p f) w ≡ false)
     → worksBy T m p d f w s ≡ true
 unfolding calls worksBy
 works-by-i T m p d f w q skip e g h = e

@@ -7,6 +7,7 @@ use Rattle.table.specs.Table.{Table}
 use Rattle.machine.specs.Memory.{Memory}
 use Rattle.machine.specs.Rule.{rule}
 use Rattle.machine.specs.Step.{Step, done}
+use Rattle.machine.specs.Outcomes.{isFailure}
 
 -- ---- steps
 
@@ -14,10 +15,10 @@ use Rattle.machine.specs.Step.{Step, done}
 pub record Small (m : Memory) : Type 0 where
   pub small : (i : ℕ) → m i < 65536
 
--- a number of the rows of 'Step answers' (01): 0 to 3, or that of a failure, 16 to 24
+-- a number of the rows of 'Step answers' (01): 0 to 3, or that of a failure
 pub data Listed (n : ℕ) : Type 0 where
   regular : n ≤ 3 → Listed n
-  failure : 16 ≤ n → n ≤ 24 → Listed n
+  failure : isFailure n ≡ true → Listed n
 
 -- a step that is carried out, and what it leaves
 pub record Sound (T : Table) (s : Step) : Type 0 where

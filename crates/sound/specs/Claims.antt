@@ -11,7 +11,7 @@ use Rattle.types.specs.Match.{elements, matches}
 use Rattle.sizes.specs.Sizes.{wordsOf, offsetIn}
 use Rattle.machine.specs.Memory.{Memory, wordsAt, store}
 use Rattle.machine.specs.Layout.{statusAt, frameAt, worksAt, depthAt}
-use Rattle.machine.specs.Outcomes.{Outcome, ok, fail, Operand, place, value}
+use Rattle.machine.specs.Outcomes.{Outcome, ok, fail, Operand, place, value, isFailure}
 use Rattle.machine.specs.Entries.{recordType, arrayType, typeAt}
 use Rattle.machine.specs.Processes.{refers}
 use Rattle.machine.specs.Values.{holds, part}
@@ -52,11 +52,11 @@ pub record PlaceLaws (T : Table) : Type 0 where
 -- process p is started, in a state that meets the rule
 pub record Started (T : Table) (m : Memory) (p : ℕ) : Type 0 where
   pub ruled : rule T m ≡ true
-  pub created : isCreated T m p ≡ true
+  pub created : isCreated m p ≡ true
   pub started : m (statusAt p) ≡ 2
 
 -- what an operand of type τ may come to: a live variable, a value, or a listed failure; never stuck
 pub data Good (T : Table) (m : Memory) (p τ : ℕ) : Outcome Operand → Type 0 where
   selects : (a : ℕ) → lives T m p (m (depthAt p)) (m (frameAt p)) (m (worksAt p)) τ a ≡ true → Good T m p τ (ok (place a τ))
   yields : (ws : List ℕ) → IsValue T m τ ws → Good T m p τ (ok (value τ ws))
-  fails : (n : ℕ) → 16 ≤ n → n ≤ 24 → Good T m p τ (fail n)
+  fails : (n : ℕ) → isFailure n ≡ true → Good T m p τ (fail n)

@@ -10,7 +10,7 @@ use Rattle.table.specs.Entries.{typeCount, blockCount, typeKind, typeP, varMode
 use Rattle.types.specs.Types.{typeOf}
 use Rattle.machine.specs.Memory.{Memory, update, store}
 use Rattle.machine.specs.Layout.{statusAt, statementAt, frameAt, worksAt, holderAt, depthAt, createdAt}
-use Rattle.machine.specs.Outcomes.{Outcome, ok, fail, Operand, place, value}
+use Rattle.machine.specs.Outcomes.{Outcome, ok, fail, Operand, place, value, isFailure}
 use Rattle.machine.specs.Variables.{frameWords, belongs, fits}
 use Rattle.machine.specs.Processes.{refers, created, started}
 use Rattle.machine.specs.Values.{holds}
@@ -40,12 +40,12 @@ pub record Live (T : Table) (m : Memory) (p τ a : ℕ) : Type 0 where
 -- a variable comes to a live place, or to a listed failure
 pub data GoodPlace (T : Table) (m : Memory) (p τ : ℕ) : Outcome Operand → Type 0 where
   at-place : (a : ℕ) → Live T m p τ a → GoodPlace T m p τ (ok (place a τ))
-  no-place : (n : ℕ) → 16 ≤ n → n ≤ 24 → GoodPlace T m p τ (fail n)
+  no-place : (n : ℕ) → isFailure n ≡ true → GoodPlace T m p τ (fail n)
 
 -- an expression comes to a value, or to a listed failure
 pub data GoodValue (T : Table) (m : Memory) (τ : ℕ) : Outcome Operand → Type 0 where
   a-value : (ws : List ℕ) → IsValue T m τ ws → SmallWords ws → GoodValue T m τ (ok (value τ ws))
-  no-value : (n : ℕ) → 16 ≤ n → n ≤ 24 → GoodValue T m τ (fail n)
+  no-value : (n : ℕ) → isFailure n ≡ true → GoodValue T m τ (fail n)
 
 -- what node n comes to, by its sort
 pub record GoodNode (T : Table) (m : Memory) (p n : ℕ) (o : Outcome Operand) : Type 0 where
@@ -69,7 +69,7 @@ pub data Bound (T : Table) (m : Memory) (p : ℕ) : ℕ → ℕ → List ℕ →
 -- what the arguments of a call come to
 pub data GoodArguments (T : Table) (m : Memory) (p k v : ℕ) : Outcome (List ℕ) → Type 0 where
   the-words : (ws : List ℕ) → Bound T m p k v ws → GoodArguments T m p k v (ok ws)
-  no-words : (n : ℕ) → 16 ≤ n → n ≤ 24 → GoodArguments T m p k v (fail n)
+  no-words : (n : ℕ) → isFailure n ≡ true → GoodArguments T m p k v (fail n)
 
 -- the statement of process p calls procedure q, and a frame of q with the argument words ws fits the area of p
 pub record Pushable (T : Table) (m page : Memory) (p q : ℕ) (ws : List ℕ) : Type 0 where
@@ -111,7 +111,7 @@ pub data Performed (T : Table) (m page : Memory) (p : ℕ) : Outcome Effect → 
   -- the end of its own block, and of a call
   ends : Passing T m p → m (depthAt p) ≡ 0 → Performed T m page p (ok (effect 2 (update (update m (statusAt p) 3) (holderAt p) 0) page))
   returns : (n : Memory) → Passing T m p → (m (depthAt p) ≡ 0 → ⊥) → return T m page (contextOf m p) ≡ ok n → Small n → Performed T m page p (ok (effect 0 n page))
-  fails : (n : ℕ) → 16 ≤ n → n ≤ 24 → Performed T m page p (fail n)
+  fails : (n : ℕ) → isFailure n ≡ true → Performed T m page p (fail n)
 
 -- what the statements of block b use is in scope, by their kinds
 pub record Scoped (T : Table) (b : ℕ) (scope : ℕ → Type 0) : Type 0 where

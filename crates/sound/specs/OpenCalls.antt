@@ -7,7 +7,7 @@ use mathlib.Core.Bool.{true}
 use mathlib.Core.List.{List, [], _∷_}
 use lib.ListN.{length}
 use lib.Dec.{eqb}
-use Rattle.basics.specs.Choice.{pick, both}
+use Rattle.basics.specs.Choice.{pick, both, between}
 use Rattle.table.specs.Table.{Table}
 use Rattle.table.specs.Entries.{argNode, varMode, varType, firstVar, params}
 use Rattle.types.specs.Match.{matches}
@@ -17,7 +17,6 @@ use Rattle.machine.specs.Layout.{location, statusAt, frameAt, topAt, depthAt, c
 use Rattle.machine.specs.Entries.{Statement, skip, assign, localCall, processCall, create, start, opener, arm, endArms, write, blockEnd, noStatement, stmtAt}
 use Rattle.machine.specs.Variables.{offsetOf}
 use Rattle.machine.specs.Context.{contextOf}
-use Rattle.machine.specs.Step.{inRange}
 use Rattle.sound.specs.InUse.{Of, Call}
 use Rattle.sound.specs.Conditions.{Selects, Yields}
 use Rattle.sound.specs.Rows.{next}
@@ -38,7 +37,7 @@ callsFrom m p (suc d) f = record { procedure = calledBlock m p f; frame = f } �
 -- the calls of process p, innermost first; a process that is not started or has ended has none
 unfoldable pub openCalls : Memory → ℕ → List OpenCall
 openCalls m p =
-    pick (both (inRange 1 (m createdAt) p) (eqb (m (statusAt p)) 2)) (callsFrom m p (m (depthAt p)) (m (frameAt p))) []
+    pick (both (between 1 (m createdAt) p) (eqb (m (statusAt p)) 2)) (callsFrom m p (m (depthAt p)) (m (frameAt p))) []
 
 -- call c is one of the calls cs, and d of them stand outside it
 pub data Among (c : OpenCall) : ℕ → List OpenCall → Type 0 where

@@ -46,7 +46,7 @@ module _ (T : Table) (m page : Memory) (p : ℕ) where
   pub record Absent : Type 0 where
     pub none : Created m p → ⊥
 
-  -- 16 to 24: the first failure met in evaluation order is this one
+  -- the number of a failure: the first one met in evaluation order is this one
   pub record Failing (n : ℕ) : Type 0 where
     pub ready : Ready
     pub fails : StatementFails T m page (contextOf m p) n next

@@ -15,7 +15,7 @@ use Rattle.machine.specs.Variables.{firstWords, frameWords, offsetOf}
 use Rattle.machine.specs.Context.{blockOf}
 use Rattle.machine.specs.Values.{holds}
 use Rattle.sound.specs.Claims.{Keeps}
-use Rattle.machine.specs.Outcomes.{Outcome, ok, fail}
+use Rattle.machine.specs.Outcomes.{Outcome, ok, fail, isFailure}
 use Rattle.machine.specs.Rule.{calls, mayWait, worked, worksBy, lives, rule}
 
 -- process p executes its own block: the bottom of its chain
@@ -59,7 +59,7 @@ pub data Held (T : Table) (m : Memory) (p r : ℕ) : Type 0 where
 
 -- r is one of the processes that process p works on, in its own block or in one of its calls
 abbrev pub Worked : Table → Memory → ℕ → ℕ → Type 0
-Worked T m p r = worked T m p (m (depthAt p)) (m (frameAt p)) (m (worksAt p)) r ≡ true
+Worked T m p r = worked m p (m (depthAt p)) (m (frameAt p)) (m (worksAt p)) r ≡ true
 
 -- created process p
 pub record Process (T : Table) (m : Memory) (p : ℕ) : Type 0 where
@@ -77,7 +77,7 @@ pub record Process (T : Table) (m : Memory) (p : ℕ) : Type 0 where
 pub record Ruled (T : Table) (m : Memory) : Type 0 where
   pub some : 1 ≤ m createdAt
   pub most : m createdAt ≤ 64
-  pub failed : (m failureAt ≡ 0 → ⊥) → (16 ≤ m failureAt) × (m failureAt ≤ 24)
+  pub failed : (m failureAt ≡ 0 → ⊥) → isFailure (m failureAt) ≡ true
   pub process : (p : ℕ) → 1 ≤ p → p ≤ m createdAt → Process T m p
 
 -- the context of a started process: its block exists, and is one of the module of the process that it works on

@@ -20,7 +20,7 @@ pub data Reachable (T : Table) : Memory → Type 0 where
   byStep : {m page s d : Memory} {a : ℕ} (p : ℕ) → Reachable T m → Small page → step T m page p ≡ done a s d → Reachable T s
 
 -- process p is started, and stands at no when or cycle
-pub record Going (T : Table) (m : Memory) (p : ℕ) : Type 0 where
+pub record NotWaiting (T : Table) (m : Memory) (p : ℕ) : Type 0 where
   pub created : Created m p
   pub started : m (statusAt p) ≡ 2
   pub passing : mayWait (stmtAt T (m (statementAt p))) ≡ false
@@ -33,6 +33,6 @@ pub record StateRule (T : Table) : Type 0 where
   -- in a state that meets it the variables in use hold values of their types, and a bound var parameter names a live variable of its type
   pub values : (m : Memory) → Small m → rule T m ≡ true → ValuesHold T m
   -- two started processes that stand at no when or cycle work on different variables
-  pub apart : (m : Memory) → rule T m ≡ true → (p q : ℕ) → Going T m p → Going T m q → m (worksAt p) ≡ m (worksAt q) → p ≡ q
+  pub apart : (m : Memory) → rule T m ≡ true → (p q : ℕ) → NotWaiting T m p → NotWaiting T m q → m (worksAt p) ≡ m (worksAt q) → p ≡ q
   -- a process that works on its own variables is in calls of its own module's procedures only
   pub own : (m : Memory) → rule T m ≡ true → (p : ℕ) → m (worksAt p) ≡ p → (d f : ℕ) → Call T m p d f → owner T (calledBlock m p f) ≡ m (moduleAt p)

@@ -7,7 +7,7 @@ use native.Mathlib.Omega.{arith}
 use lib.Dec.{eqb, leb, ltb}
 use lib.ListN.{length}
 use borrow.Author.Tests.{eq-eqb, ne-eqb, eqb-true, eqb-false, le-leb, lt-leb, leb-true, lt-ltb, le-ltb, ltb-true, ltb-false}
-use Rattle.basics.specs.Choice.{pick, both}
+use Rattle.basics.specs.Choice.{pick, both, between}
 use Rattle.basics.specs.Cases.{cases}
 use Rattle.basics.proofs.Bools.{no-true, both-l, both-r, all-at}
 use Rattle.table.specs.Table.{Table, tableOf}
@@ -24,7 +24,6 @@ use Rattle.verdict.specs.Accepted.{Accepted}
 use Rattle.machine.specs.Memory.{Memory, within, memoryOf}
 use Rattle.machine.specs.Layout.{location, statusAt, moduleAt, createdAt, stateSize}
 use Rattle.machine.specs.Variables.{varWords, firstWords, offsetOf, belongs, isModule}
-use Rattle.machine.specs.Step.{inRange}
 use Rattle.machine.specs.Rule.{moduleOk, processOk, rule}
 use Rattle.machine.specs.Public.{refusal, visible, look, lookRefusal, lookCall}
 use Rattle.states.specs.Parts.{shown, lookJudged}
@@ -33,7 +32,7 @@ use Rattle.states.specs.Parts.{shown, lookJudged}
 
 module _ (T : Table) (m : Memory) (h : rule T m ≡ true) where
   pub created-most : m createdAt ≤ 64
-  unfolding rule inRange
+  unfolding rule between
   created-most = leb-true (m createdAt) 64 (both-r _ _ (both-l _ _ h))
 
   process-row : (p : ℕ) → 1 ≤ p → p ≤ m createdAt → processOk T m p ≡ true
@@ -174,7 +173,7 @@ chosen true true true false e f = refl
 chosen true true true true e f = refl
 
 visible-is : (T : Table) (m : Memory) (p v k : ℕ) → visible T m p v k ≡ pick (shown m p) (pick (belongs T (m (moduleAt p)) v) (ltb k (wordsOf T (varType T v))) false) false
-unfolding visible inRange shown
+unfolding visible between shown
 visible-is T m p v k = chosen _ _ _ _ _ _
 
 first : (a b : Bool) → pick a b false ≡ true → a ≡ true
@@ -216,11 +215,11 @@ module _ (T : Table) (m : Memory) (p v k : ℕ) (c : Bool) (ec : c ≡ shown m p
 
 module _ (T : Table) (ok : Accepted T) (m : Memory) (p v k : ℕ) (h : rule T m ≡ true) (e : visible T m p v k ≡ true) where
   seen-from : 1 ≤ p
-  unfolding visible inRange
+  unfolding visible between
   seen-from = leb-true 1 p (both-l _ _ (both-l _ _ e))
 
   seen-to : p ≤ m createdAt
-  unfolding visible inRange
+  unfolding visible between
   seen-to = leb-true p (m createdAt) (both-r _ _ (both-l _ _ e))
 
   seen-variable : belongs T (m (moduleAt p)) v ≡ true

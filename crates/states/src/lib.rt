@@ -1,4 +1,6 @@
 // The state of a run: how it begins, and a look at a word of it (01, The four calls).
+use words::numbers::narrow;
+use words::numbers::wide;
 ghost use mathlib.Core.Path.{_≡_};
 ghost use mathlib.Core.Bool.{true};
 ghost use Prim.Native.Nat.{_≤_, _<_, _+_};
@@ -17,19 +19,6 @@ ghost use Rattle.machine.specs.Run as runs;
 ghost use Rattle.machine.specs.Rule.{rule};
 ghost use Rattle.machine.specs.Public.{visible, look, begun, beginCall};
 ghost use Rattle.states.specs.Parts.{firstMade, shown, lookJudged};
-
-fn wide(x: u16) -> usize
-    ensures { λ r. ⌜ r ≡ x ⌝ }
-{
-    x as usize
-}
-
-fn narrow(x: usize) -> u16
-    requires { ⌜ x < 65536 ⌝ }
-    ensures { λ r. ⌜ r ≡ x ⌝ }
-{
-    x as u16
-}
 
 // Makes every word 0.
 fn clear_all(state: &mut [u8])

@@ -59,7 +59,7 @@ fn assign_at(c: &code::Slots, state: &mut [u8], page: &[u8], x: Context, i: usiz
     match v {
         Value::Fail(f) => effects::fail(state, f),
         Value::Word(w) => {
-            machine::set_word(state, machine::STATE_WORDS, i, w);
+            machine::set_word(state, i, w);
             effects::go_on(state, x);
             0
         }

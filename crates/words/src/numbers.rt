@@ -1,5 +1,6 @@
 // The integer that a word stands for (5.1.1). Signed numbers are for this crate's own use: above it words are u16.
 ghost use mathlib.Core.Path.{_≡_};
+ghost use Prim.Native.Nat.{_<_};
 ghost use Rattle.words.specs.Numbers.{intOf, between};
 
 pub fn integer(w: u16) -> i32
@@ -10,6 +11,20 @@ pub fn integer(w: u16) -> i32
     } else {
         w as i32 - 65536
     }
+}
+
+// A word as a number, and a number as a word.
+pub fn wide(w: u16) -> usize
+    ensures { λ r. ⌜ r ≡ w ⌝ }
+{
+    w as usize
+}
+
+pub fn narrow(n: usize) -> u16
+    requires { ⌜ n < 65536 ⌝ }
+    ensures { λ r. ⌜ r ≡ n ⌝ }
+{
+    n as u16
 }
 
 // Ranges include both bounds (7).

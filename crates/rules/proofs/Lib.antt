@@ -1,7 +1,0 @@
-pub mod Reading
-pub mod Values
-pub mod Heading
-pub mod Parts
-pub mod Jumping
-pub mod Frames
-pub mod Chains

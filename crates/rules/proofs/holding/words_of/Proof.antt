@@ -1,9 +1,0 @@
-use borrow.Author.Needs.{needs}
-use Rattle.rules.proofs.Reading.{exact}
-use Rattle.rules.proofs.holding.words_of.Statement.{statement}
-use Rattle.rules.proofs.holding.words_of.Tie as tie
-
-pub words-of-spec : {M : Type 1} → statement M
-words-of-spec = tie.close (tie.spec
-    (λ c κs. search needs)
-    (λ c. search exact))

@@ -1,0 +1,197 @@
+-- Variables of areas and frames: the laws of each return. Assumes nothing.
+use Prim.Native.Nat.{ℕ, suc, _+_, _-_, _/_, _%_, _≤_, _<_}
+use mathlib.Core.Path.{_≡_, refl, sym, _∙_}
+use mathlib.Core.Bool.{Bool, true, false}
+use mathlib.Core.List.{List}
+use lib.Dec.{eqb}
+use native.Mathlib.Omega.{arith}
+use native.Mathlib.Nat.{add-zero}
+use borrow.Author.Tests.{eq-eqb, ne-eqb, le-leb, lt-leb}
+use Rattle.basics.specs.Choice.{both, either, allBelow}
+use Rattle.basics.proofs.Passes.{passed-none, passed-more, passed-fail, passed-all}
+use Rattle.table.specs.Table.{Table}
+use Rattle.table.specs.Entries.{varMode, varType, firstVar, vars}
+use Rattle.sizes.proofs.Judging.{any-small}
+use Rattle.machine.specs.Memory.{Memory}
+use Rattle.machine.specs.Layout.{location, linkAt, moduleAt}
+use Rattle.machine.specs.Variables.{varWords, firstWords}
+use Rattle.machine.specs.Values.{holds, partOfBlock}
+use Rattle.machine.specs.Rule.{owns, worked, lives, moduleHolds, modulesHold, frameHolds, framesHold}
+use Rattle.values.specs.Walks.{Ready, Near, Words, Walked}
+use Rattle.values.specs.Heads.{Head}
+use Rattle.state_rule.specs.Frames.{variableHolds, moduleRow, livesInModule, ownedIn, frameVariable, frameRow}
+use Rattle.values.proofs.Values.{all-same}
+use Rattle.values.proofs.Heading.{v-free}
+use Rattle.values.proofs.Parts.{first-none, first-more, offset-first}
+
+pub near-any : (T : Table) (l : List ℕ) (x a : ℕ) → Ready T l → a ≤ 15000000 → Near T x a
+near-any T l x a h g = let u = any-small T l (h .sizes) (h .sized) x in record { near = omega arith }
+
+pub variable-is : (T : Table) (m : Memory) (p v a x l : ℕ) (r : Bool) → x ≡ varType T v → l ≡ location p a → r ≡ holds T m x l → r ≡ variableHolds T m p v a
+unfolding variableHolds
+variable-is T m p v a x l r e g h = rw (← e, ← g) h
+
+pub variable-free : (T : Table) (m : Memory) (p v a x h : ℕ) → x ≡ varType T v → Head T x h → h ≡ 0 → true ≡ variableHolds T m p v a
+unfolding variableHolds
+variable-free T m p v a x h e d z = rw (← e) (v-free T m x h (location p a) d z)
+
+-- ---- passes over the variables of a block
+
+module _ (T : Table) (b : ℕ) (test : ℕ → Bool) where
+  pub walked-none : Walked (firstWords T b) test 0 0
+  walked-none = record { is = sym (first-none T b); small = omega arith; passed = passed-none test }
+
+  pub walked-small : (i k n : ℕ) → Walked (firstWords T b) test i k → i < n → n < 65536 → k ≤ 13900000
+  walked-small i k n h l g = let u = h .small in omega arith
+
+  module _ (i k first : ℕ) (h : Walked (firstWords T b) test i k) (hp : first ≡ firstVar T b) where
+    pub walked-more : (r : Bool) (w : ℕ) → r ≡ test i → r ≡ true → Words (varWords T (first + i)) w → Walked (firstWords T b) test (i + 1) (k + w)
+    walked-more r w e g x =
+        let u = h .is in
+        let v = h .small in
+        let y = x .is in
+        let s = x .small in
+        let z : firstWords T b (i + 1) ≡ firstWords T b i + w = first-more T b i ∙ rw (← hp, ← x .is) in
+        record { is = omega arith; small = omega arith; passed = passed-more test i r e (h .passed) g }
+
+-- the variables of a module
+module _ (T : Table) (m : Memory) (p b : ℕ) where
+  modules-is : allBelow (vars T b) (moduleRow T m p b) ≡ modulesHold T m p b
+  unfolding modulesHold moduleHolds moduleRow variableHolds
+  modules-is = all-same (vars T b) _ _ (λ i. rw (offset-first T b i))
+
+  pub modules-none : Walked (firstWords T b) (moduleRow T m p b) 0 0
+  modules-none = walked-none T b (moduleRow T m p b)
+
+  pub modules-small : (i k n : ℕ) → Walked (firstWords T b) (moduleRow T m p b) i k → i < n → n < 65536 → k ≤ 14000000
+  modules-small i k n h l g = let u = walked-small T b (moduleRow T m p b) i k n h l g in omega arith
+
+  module _ (i k first : ℕ) (h : Walked (firstWords T b) (moduleRow T m p b) i k) (hp : first ≡ firstVar T b) (r : Bool) (e : r ≡ variableHolds T m p (first + i) k) where
+    row-is : r ≡ moduleRow T m p b i
+    unfolding moduleRow
+    row-is = rw (← hp, ← h .is) e
+
+    pub modules-more : (w : ℕ) → r ≡ true → Words (varWords T (first + i)) w → Walked (firstWords T b) (moduleRow T m p b) (i + 1) (k + w)
+    modules-more w g x = walked-more T b (moduleRow T m p b) i k first h hp r w row-is g x
+
+    pub modules-fail : (n : ℕ) → n ≡ vars T b → i < n → r ≡ false → false ≡ modulesHold T m p b
+    modules-fail n q l g = rw (← modules-is) (passed-fail (moduleRow T m p b) i r row-is (vars T b) (rw q at l) g)
+
+  pub modules-all : (i k n : ℕ) → Walked (firstWords T b) (moduleRow T m p b) i k → n ≡ vars T b → i ≤ n → n ≤ i → true ≡ modulesHold T m p b
+  modules-all i k n h q l g = rw (← modules-is) (passed-all (moduleRow T m p b) i (vars T b) (h .passed) (rw q at l) (rw q at g))
+
+pub ruleset modulewalks = (modules-none, modules-more, modules-fail, modules-all)
+
+-- the variables of a frame
+module _ (T : Table) (m : Memory) (p d f q : ℕ) where
+  frames-is : allBelow (vars T q) (frameRow T m p d f q) ≡ framesHold T m p d f q
+  unfolding framesHold frameHolds frameRow frameVariable variableHolds
+  frames-is = all-same (vars T q) _ _ (λ i. rw (offset-first T q i))
+
+  pub frames-none : Walked (firstWords T q) (frameRow T m p d f q) 0 0
+  frames-none = walked-none T q (frameRow T m p d f q)
+
+  pub frames-small : (i k n : ℕ) → Walked (firstWords T q) (frameRow T m p d f q) i k → i < n → n < 65536 → k ≤ 13900000
+  frames-small i k n h l g = walked-small T q (frameRow T m p d f q) i k n h l g
+
+  module _ (i k first : ℕ) (h : Walked (firstWords T q) (frameRow T m p d f q) i k) (hp : first ≡ firstVar T q) (r : Bool) (e : r ≡ frameVariable T m p d f (first + i) k) where
+    frame-row : r ≡ frameRow T m p d f q i
+    unfolding frameRow
+    frame-row = rw (← hp, ← h .is) e
+
+    pub frames-more : (w : ℕ) → r ≡ true → Words (varWords T (first + i)) w → Walked (firstWords T q) (frameRow T m p d f q) (i + 1) (k + w)
+    frames-more w g x = walked-more T q (frameRow T m p d f q) i k first h hp r w frame-row g x
+
+    pub frames-fail : (n : ℕ) → n ≡ vars T q → i < n → r ≡ false → false ≡ framesHold T m p d f q
+    frames-fail n y l g = rw (← frames-is) (passed-fail (frameRow T m p d f q) i r frame-row (vars T q) (rw y at l) g)
+
+  pub frames-all : (i k n : ℕ) → Walked (firstWords T q) (frameRow T m p d f q) i k → n ≡ vars T q → i ≤ n → n ≤ i → true ≡ framesHold T m p d f q
+  frames-all i k n h y l g = rw (← frames-is) (passed-all (frameRow T m p d f q) i (vars T q) (h .passed) (rw y at l) (rw y at g))
+
+pub ruleset framewalks = (frames-none, frames-more, frames-fail, frames-all)
+
+-- ---- live variables
+
+-- the search for what a process worked on goes from frame to frame
+module _ (m : Memory) (p r d f w n g v : ℕ) (h : worked m p n g v r ≡ worked m p d f w r) where
+  module _ (l : 0 < n) where
+    fewer : n ≡ suc (n - 1)
+    fewer = omega arith
+
+    pub worked-found : v ≡ r → true ≡ worked m p d f w r
+    unfolding worked either
+    worked-found x = (rw (fewer, eq-eqb v r x) at h)
+
+    pub worked-next : (g' v' : ℕ) → (v ≡ r → ⊥) → v' ≡ m (location p (g + 2)) → g' ≡ m (location p g) → worked m p (n - 1) g' v' r ≡ worked m p d f w r
+    unfolding worked either linkAt
+    worked-next g' v' x hv hg = rw (hv, hg) (rw (fewer, ne-eqb v r x, add-zero g) at h)
+
+  pub worked-last : n ≤ 0 → eqb v r ≡ worked m p d f w r
+  unfolding worked
+  worked-last l = let e : n ≡ 0 = omega arith in (rw e at h)
+
+module _ (T : Table) (m : Memory) (p d f w τ a : ℕ) where
+  module _ (c : Bool) (h : c ≡ worked m p d f w (a / 256 + 1)) where
+    pub in-none : c ≡ false → false ≡ livesInModule T m p d f w τ a
+    unfolding livesInModule both
+    in-none e = rw (← h, e)
+
+    pub in-some : (b : ℕ) (r : Bool) → c ≡ true → b ≡ m (moduleAt (a / 256 + 1)) → r ≡ partOfBlock T b τ (a % 256) → r ≡ livesInModule T m p d f w τ a
+    unfolding livesInModule both
+    in-some b r e g z = rw (← h, e, ← g) z
+
+  module _ (c : Bool) (h : c ≡ livesInModule T m p d f w τ a) where
+    pub lives-module : c ≡ true → true ≡ lives T m p d f w τ a
+    unfolding lives either livesInModule
+    lives-module e = rw (← h, e)
+
+    pub lives-frame : (r : Bool) → c ≡ false → a / 256 + 1 ≡ p → r ≡ owns T m p d f τ (a % 256) → r ≡ lives T m p d f w τ a
+    unfolding lives either livesInModule both
+    lives-frame r e g z = rw (← h, e, eq-eqb (a / 256 + 1) p g) z
+
+    pub lives-none : c ≡ false → (a / 256 + 1 ≡ p → ⊥) → false ≡ lives T m p d f w τ a
+    unfolding lives either livesInModule both
+    lives-none e g = rw (← h, e, ne-eqb (a / 256 + 1) p g)
+
+pub ruleset living = (in-none, in-some, lives-module, lives-frame, lives-none)
+
+module _ (T : Table) (m : Memory) (p τ k : ℕ) where
+  pub owned-none : (f : ℕ) → k < f + 4 → false ≡ ownedIn T m p f τ k
+  unfolding ownedIn both
+  owned-none f h = rw (lt-leb (f + 4) k h)
+
+  pub owned-some : (f b : ℕ) (r : Bool) → f + 4 ≤ k → b ≡ m (location p (f + 3)) → r ≡ partOfBlock T b τ (k - (f + 4)) → r ≡ ownedIn T m p f τ k
+  unfolding ownedIn both linkAt
+  owned-some f b r h e z = rw (le-leb (f + 4) k h, ← e) z
+
+  -- the search goes from frame to frame
+  pub owns-begin : (d f : ℕ) → owns T m p d f τ k ≡ owns T m p d f τ k
+  owns-begin d f = refl
+
+  module _ (d f n g : ℕ) (h : owns T m p n g τ k ≡ owns T m p d f τ k) where
+    module _ (c : Bool) (e : c ≡ ownedIn T m p g τ k) (l : 0 < n) where
+      less : n ≡ suc (n - 1)
+      less = omega arith
+
+      pub owns-found : c ≡ true → true ≡ owns T m p d f τ k
+      unfolding owns either ownedIn
+      owns-found x = (rw (less, ← e, x) at h)
+
+      pub owns-next : (g' : ℕ) → c ≡ false → g' ≡ m (location p g) → owns T m p (n - 1) g' τ k ≡ owns T m p d f τ k
+      unfolding owns either ownedIn linkAt
+      owns-next g' x y = rw y (rw (less, ← e, x, add-zero g) at h)
+
+    pub owns-none : n ≤ 0 → false ≡ owns T m p d f τ k
+    unfolding owns
+    owns-none l = let e : n ≡ 0 = omega arith in (rw e at h)
+
+pub ruleset owning = (owns-begin, owns-found, owns-next, owns-none)
+
+module _ (T : Table) (m : Memory) (p d f v a mode : ℕ) (hm : mode ≡ varMode T v) (r : Bool) where
+  pub frame-bound : (x y g w : ℕ) → mode ≡ 2 → x ≡ varType T v → y ≡ m (location p (f + 4 + a)) → g ≡ m (location p f) → w ≡ m (location p (f + 2)) → r ≡ lives T m p d g w x y → r ≡ frameVariable T m p d f v a
+  unfolding frameVariable linkAt
+  frame-bound x y g w e hx hy hg hw h = rw (← hm, eq-eqb mode 2 e, ← hx, ← hy, add-zero f, ← hg, ← hw) h
+
+  pub frame-value : (mode ≡ 2 → ⊥) → r ≡ variableHolds T m p v (f + 4 + a) → r ≡ frameVariable T m p d f v a
+  unfolding frameVariable
+  frame-value e h = rw (← hm, ne-eqb mode 2 e) h

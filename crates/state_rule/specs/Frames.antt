@@ -1,0 +1,38 @@
+-- Inner: for code and proofs only; no public promise is said with these definitions.
+-- Rows of the passes over the variables of areas and frames. Assumes nothing.
+use Prim.Native.Nat.{ℕ, _+_, _-_, _/_, _%_}
+use mathlib.Core.Bool.{Bool}
+use lib.Dec.{eqb, leb}
+use Rattle.basics.specs.Choice.{pick, both}
+use Rattle.table.specs.Table.{Table}
+use Rattle.table.specs.Entries.{varMode, varType, firstVar}
+use Rattle.machine.specs.Memory.{Memory}
+use Rattle.machine.specs.Layout.{location, moduleAt, callerFrame, callerWorks, calledBlock}
+use Rattle.machine.specs.Variables.{firstWords}
+use Rattle.machine.specs.Values.{holds, partOfBlock}
+use Rattle.machine.specs.Rule.{worked, lives}
+
+module _ (T : Table) (m : Memory) where
+  -- variable v has a value of its type at word a of the area of process p
+  unfoldable pub variableHolds : ℕ → ℕ → ℕ → Bool
+  variableHolds p v a = holds T m (varType T v) (location p a)
+
+  unfoldable pub moduleRow : ℕ → ℕ → ℕ → Bool
+  moduleRow p b i = variableHolds p (firstVar T b + i) (firstWords T b i)
+
+  -- the two ways in which a variable of type τ is live
+  unfoldable pub livesInModule : ℕ → ℕ → ℕ → ℕ → ℕ → ℕ → Bool
+  livesInModule p d f w τ a = both (worked m p d f w (a / 256 + 1)) (partOfBlock T (m (moduleAt (a / 256 + 1))) τ (a % 256))
+
+  unfoldable pub ownedIn : ℕ → ℕ → ℕ → ℕ → Bool
+  ownedIn p f τ k = both (leb (f + 4) k) (partOfBlock T (calledBlock m p f) τ (k - (f + 4)))
+
+  -- variable v at word a of the variables of the frame at f
+  unfoldable pub frameVariable : ℕ → ℕ → ℕ → ℕ → ℕ → Bool
+  frameVariable p d f v a =
+      pick (eqb (varMode T v) 2)
+      (lives T m p d (callerFrame m p f) (callerWorks m p f) (varType T v) (m (location p (f + 4 + a))))
+      (variableHolds p v (f + 4 + a))
+
+  unfoldable pub frameRow : ℕ → ℕ → ℕ → ℕ → ℕ → Bool
+  frameRow p d f q i = frameVariable p d f (firstVar T q + i) (firstWords T q i)

@@ -1,0 +1,5 @@
+pub mod Reading
+pub mod Values
+pub mod Heading
+pub mod Parts
+pub mod Jumping
