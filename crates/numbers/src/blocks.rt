@@ -1,4 +1,5 @@
 // Blocks, and the modes of their variables.
+use code::kinds;
 ghost use mathlib.Core.Path.{_≡_};
 ghost use Prim.Native.Nat.{_+_, _<_};
 ghost use Rattle.basics.specs.Choice.{allBelow};
@@ -12,21 +13,21 @@ fn program_placed(c: &code::Slots, b: usize) -> bool
 {
     let k = code::block_kind(c, b);
     if b == 0 {
-        if k == 0 {
+        if k == kinds::PROGRAM {
             return code::block_params(c, b) == 0;
         }
         return false;
     }
-    1 <= k
+    kinds::MODULE <= k
 }
 
 fn owner_ranged(c: &code::Slots, b: usize) -> bool
     ensures { λ r. ⌜ r ≡ ownerRanged (decoded (now (c .entry))) b ⌝ }
 {
     let o = code::block_owner(c, b);
-    if code::block_kind(c, b) == 2 {
+    if code::block_kind(c, b) == kinds::PROCEDURE {
         if o < code::blocks(c) {
-            return code::block_kind(c, o) <= 1;
+            return code::block_kind(c, o) <= kinds::MODULE;
         }
         return false;
     }
@@ -37,7 +38,7 @@ fn space_ranged(c: &code::Slots, b: usize) -> bool
     ensures { λ r. ⌜ r ≡ spaceRanged (decoded (now (c .entry))) b ⌝ }
 {
     let x = code::block_space(c, b);
-    if code::block_kind(c, b) == 2 {
+    if code::block_kind(c, b) == kinds::PROCEDURE {
         return x == 0;
     }
     if x <= 510 {
@@ -53,9 +54,9 @@ fn mode_placed(c: &code::Slots, b: usize, j: usize) -> bool
 {
     let m = code::var_mode(c, code::first_var(c, b) + j);
     if j < code::block_params(c, b) {
-        return basics::between(1, 2, m);
+        return basics::between(kinds::VALUE_PARAMETER, kinds::VAR_PARAMETER, m);
     }
-    m == 0
+    m == kinds::LOCAL
 }
 
 fn modes_placed(c: &code::Slots, b: usize, n: usize) -> bool

@@ -1,4 +1,5 @@
 // Types, with the fields of records, and variables.
+use code::kinds;
 ghost use mathlib.Core.Path.{_≡_};
 ghost use Prim.Native.Nat.{_+_, _<_};
 ghost use Rattle.basics.specs.Choice.{allBelow};
@@ -58,14 +59,14 @@ fn type_ranged(c: &code::Slots, i: usize) -> bool
     ensures { λ r. ⌜ r ≡ typeRanged (decoded (now (c .entry))) i ⌝ }
 {
     let k = code::type_kind(c, 3 + i);
-    if k == 1 {
+    if k == kinds::RECORD {
         return record_ranged(c, 3 + i);
     }
-    if k == 2 {
+    if k == kinds::ARRAY {
         return array_ranged(c, 3 + i);
     }
-    if k == 3 {
-        return sorts::block_of(c, 1, code::type_p(c, 3 + i));
+    if k == kinds::PROCESS {
+        return sorts::block_of(c, kinds::MODULE, code::type_p(c, 3 + i));
     }
     true
 }
@@ -111,7 +112,7 @@ fn mark_module(c: &code::Slots, i: usize, marks: &mut [u8])
     requires { ⌜ i < 65536 ⌝ }
     ensures { λ _. ⌜ now (marks .exit) ≡ moduleMarked (decoded (now (c .entry))) i (now (marks .entry)) ⌝ }
 {
-    if code::type_kind(c, 3 + i) == 3 {
+    if code::type_kind(c, 3 + i) == kinds::PROCESS {
         basics::mark(marks, code::type_p(c, 3 + i));
     }
 }

@@ -1,4 +1,5 @@
 // Arguments, nodes and statements: what their fields name.
+use code::kinds;
 ghost use mathlib.Core.Path.{_≡_};
 ghost use Prim.Native.Nat.{_+_, _<_};
 ghost use Rattle.basics.specs.Choice.{allBelow};
@@ -37,16 +38,16 @@ fn p_ranged(c: &code::Slots, n: usize) -> bool
 {
     let k = code::node_kind(c, n);
     let p = code::node_p(c, n);
-    if k == 0 {
+    if k == kinds::CONSTANT {
         return p <= 2;
     }
-    if k == 1 {
+    if k == kinds::WHOLE {
         return p < code::variables(c);
     }
-    if k <= 4 {
+    if k <= kinds::VALUE {
         return sorts::variable_below(c, n, p);
     }
-    if k <= 7 {
+    if k <= kinds::TRANSFER {
         return sorts::expression_below(c, n, p);
     }
     true
@@ -56,7 +57,7 @@ fn p_ranged(c: &code::Slots, n: usize) -> bool
 fn place_ranged(c: &code::Slots, x: usize, q: usize) -> bool
     ensures { λ r. ⌜ r ≡ placeRanged (decoded (now (c .entry))) x q ⌝ }
 {
-    if code::type_kind(c, x) == 1 {
+    if code::type_kind(c, x) == kinds::RECORD {
         return q < code::type_q(c, x);
     }
     true
@@ -69,16 +70,16 @@ fn q_ranged(c: &code::Slots, types: &[u16], n: usize) -> bool
 {
     let k = code::node_kind(c, n);
     let q = code::node_q(c, n);
-    if k == 2 {
+    if k == kinds::FIELD {
         return place_ranged(c, types::type_of(c, types, code::node_p(c, n)), q);
     }
-    if k == 3 {
+    if k == kinds::ELEMENT {
         return sorts::expression_below(c, n, q);
     }
-    if k == 6 {
+    if k == kinds::BINARY {
         return sorts::expression_below(c, n, q);
     }
-    if k == 7 {
+    if k == kinds::TRANSFER {
         return q <= 2;
     }
     true
@@ -113,28 +114,28 @@ pub fn all_nodes(c: &code::Slots, types: &[u16]) -> bool
 fn a_variable(k: usize) -> bool
     ensures { λ r. ⌜ r ≡ aVariable k ⌝ }
 {
-    if k == 1 {
+    if k == kinds::ASSIGN {
         return true;
     }
-    basics::between(3, 5, k)
+    basics::between(kinds::PROCESS_CALL, kinds::START, k)
 }
 
 fn a_expression(k: usize) -> bool
     ensures { λ r. ⌜ r ≡ aExpression k ⌝ }
 {
-    if k == 10 {
+    if k == kinds::ARM {
         return true;
     }
-    k == 12
+    k == kinds::WRITE
 }
 
 fn b_expression(k: usize) -> bool
     ensures { λ r. ⌜ r ≡ bExpression k ⌝ }
 {
-    if k == 1 {
+    if k == kinds::ASSIGN {
         return true;
     }
-    k == 12
+    k == kinds::WRITE
 }
 
 fn a_block(c: &code::Slots, i: usize) -> bool
@@ -142,10 +143,10 @@ fn a_block(c: &code::Slots, i: usize) -> bool
 {
     let k = code::stmt_kind(c, i);
     let a = code::stmt_a(c, i);
-    if k == 2 {
-        return sorts::block_of(c, 2, a);
+    if k == kinds::LOCAL_CALL {
+        return sorts::block_of(c, kinds::PROCEDURE, a);
     }
-    if k == 13 {
+    if k == kinds::BLOCK_END {
         return a < code::blocks(c);
     }
     true
@@ -175,8 +176,8 @@ fn b_ranged(c: &code::Slots, i: usize) -> bool
     if b_expression(k) {
         return sorts::expression_below(c, code::nodes(c), b);
     }
-    if k == 3 {
-        return sorts::block_of(c, 2, b);
+    if k == kinds::PROCESS_CALL {
+        return sorts::block_of(c, kinds::PROCEDURE, b);
     }
     true
 }
@@ -184,7 +185,7 @@ fn b_ranged(c: &code::Slots, i: usize) -> bool
 fn link_ranged(c: &code::Slots, i: usize) -> bool
     ensures { λ r. ⌜ r ≡ linkRanged (decoded (now (c .entry))) i ⌝ }
 {
-    if basics::between(10, 11, code::stmt_kind(c, i)) {
+    if basics::between(kinds::ARM, kinds::END, code::stmt_kind(c, i)) {
         return code::stmt_link(c, i) < code::statements(c);
     }
     true

@@ -1,4 +1,5 @@
 // Rows that take the numbers of another section in order: records fields, blocks variables, calls arguments.
+use code::kinds;
 ghost use mathlib.Core.Path.{_≡_};
 ghost use mathlib.Core.Bool.{true};
 ghost use Prim.Native.Nat.{_+_, _<_};
@@ -36,7 +37,7 @@ fn is_record(c: &code::Slots, i: usize) -> bool
     requires { ⌜ i < 65536 ⌝ }
     ensures { λ r. ⌜ r ≡ isRecord (decoded (now (c .entry))) i ⌝ }
 {
-    code::type_kind(c, 3 + i) == 1
+    code::type_kind(c, 3 + i) == kinds::RECORD
 }
 
 fn record_first(c: &code::Slots, i: usize) -> usize
@@ -57,10 +58,10 @@ fn is_call(c: &code::Slots, i: usize) -> bool
     ensures { λ r. ⌜ r ≡ isCall (decoded (now (c .entry))) i ⌝ }
 {
     let k = code::stmt_kind(c, i);
-    if basics::between(2, 3, k) {
+    if basics::between(kinds::LOCAL_CALL, kinds::PROCESS_CALL, k) {
         return true;
     }
-    k == 5
+    k == kinds::START
 }
 
 fn call_first(c: &code::Slots, i: usize) -> usize

@@ -1,4 +1,5 @@
 // Nodes and blocks of the sort that a place asks.
+use code::kinds;
 ghost use mathlib.Core.Path.{_≡_};
 ghost use Rattle.code.specs.Code.{decoded};
 ghost use Rattle.table.specs.Kinds.{variableKind, expressionKind};
@@ -7,16 +8,16 @@ ghost use Rattle.numbers.specs.Tested.{variableBelow, expressionBelow, b
 fn variable_kind(k: usize) -> bool
     ensures { λ r. ⌜ r ≡ variableKind k ⌝ }
 {
-    basics::between(1, 3, k)
+    basics::between(kinds::WHOLE, kinds::ELEMENT, k)
 }
 
 fn expression_kind(k: usize) -> bool
     ensures { λ r. ⌜ r ≡ expressionKind k ⌝ }
 {
-    if k == 0 {
+    if k == kinds::CONSTANT {
         return true;
     }
-    basics::between(4, 7, k)
+    basics::between(kinds::VALUE, kinds::TRANSFER, k)
 }
 
 // Node v is below m and a variable.

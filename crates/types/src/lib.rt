@@ -1,4 +1,5 @@
 // The types of nodes, found once for all nodes into a lent array; types that match.
+use code::kinds;
 ghost use mathlib.Core.Path.{_≡_};
 ghost use Prim.Native.Nat.{_+_, _-_, _≤_, _<_};
 ghost use Rattle.basics.specs.Course.{upto};
@@ -26,7 +27,7 @@ fn narrow(x: usize) -> u16
 fn field_of(c: &code::Slots, x: usize, i: usize) -> usize
     ensures { λ r. ⌜ Field (fieldOf (decoded (now (c .entry))) x i) r ⌝ }
 {
-    if code::type_kind(c, x) == 1 {
+    if code::type_kind(c, x) == kinds::RECORD {
         if i < code::type_q(c, x) {
             return code::field_type(c, code::type_p(c, x) + i);
         }
@@ -39,7 +40,7 @@ fn field_of(c: &code::Slots, x: usize, i: usize) -> usize
 fn element_of(c: &code::Slots, x: usize) -> usize
     ensures { λ r. ⌜ Field (elementOf (decoded (now (c .entry))) x) r ⌝ }
 {
-    if code::type_kind(c, x) == 2 {
+    if code::type_kind(c, x) == kinds::ARRAY {
         return code::type_q(c, x);
     }
     65535
@@ -74,19 +75,19 @@ fn operand_type(c: &code::Slots, n: usize, x: usize) -> usize
     ensures { λ r. ⌜ Field (operandType (decoded (now (c .entry))) n x) r ⌝ }
 {
     let k = code::node_kind(c, n);
-    if k == 2 {
+    if k == kinds::FIELD {
         return field_of(c, x, code::node_q(c, n));
     }
-    if k == 3 {
+    if k == kinds::ELEMENT {
         return element_of(c, x);
     }
-    if k == 4 {
+    if k == kinds::VALUE {
         return x;
     }
-    if k == 5 {
+    if k == kinds::UNARY {
         return unary_type(code::node_q(c, n), x);
     }
-    if k == 6 {
+    if k == kinds::BINARY {
         return binary_type(code::node_v(c, n), x);
     }
     65535
@@ -113,13 +114,13 @@ fn node_type(c: &code::Slots, types: &[u16], n: usize) -> usize
     }
     let k = code::node_kind(c, n);
     let p = code::node_p(c, n);
-    if k == 0 {
+    if k == kinds::CONSTANT {
         return p;
     }
-    if k == 1 {
+    if k == kinds::WHOLE {
         return code::var_type(c, p);
     }
-    if k == 7 {
+    if k == kinds::TRANSFER {
         return code::node_q(c, n);
     }
     operand_type(c, n, before(c, types, n, p))
@@ -182,7 +183,7 @@ pub fn elements_of(c: &code::Slots, x: usize) -> usize
 pub fn is_string(c: &code::Slots, x: usize) -> bool
     ensures { λ r. ⌜ r ≡ isString (decoded (now (c .entry))) x ⌝ }
 {
-    if code::type_kind(c, x) == 2 {
+    if code::type_kind(c, x) == kinds::ARRAY {
         return code::type_q(c, x) == 2;
     }
     false

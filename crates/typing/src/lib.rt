@@ -1,4 +1,5 @@
 // Refusal 9: the types of operands, guards, indexes, arguments and parameters.
+use code::kinds;
 ghost use mathlib.Core.Path.{_≡_};
 ghost use Prim.Native.Nat.{_+_, _≤_, _<_};
 ghost use Rattle.basics.specs.Choice.{allBelow};
@@ -16,8 +17,8 @@ fn is_variable(c: &code::Slots, n: usize) -> bool
     ensures { λ r. ⌜ r ≡ variableKind (nodeKind (decoded (now (c .entry))) n) ⌝ }
 {
     let k = code::node_kind(c, n);
-    if 1 <= k {
-        return k <= 3;
+    if kinds::WHOLE <= k {
+        return k <= kinds::ELEMENT;
     }
     false
 }
@@ -26,11 +27,11 @@ fn is_expression(c: &code::Slots, n: usize) -> bool
     ensures { λ r. ⌜ r ≡ expressionKind (nodeKind (decoded (now (c .entry))) n) ⌝ }
 {
     let k = code::node_kind(c, n);
-    if k == 0 {
+    if k == kinds::CONSTANT {
         return true;
     }
-    if 4 <= k {
-        return k <= 7;
+    if kinds::VALUE <= k {
+        return k <= kinds::TRANSFER;
     }
     false
 }
@@ -51,7 +52,7 @@ fn constant_typed(x: usize, v: usize) -> bool
 fn element_typed(c: &code::Slots, x: usize, y: usize) -> bool
     ensures { λ r. ⌜ r ≡ elementTyped (decoded (now (c .entry))) x y ⌝ }
 {
-    if code::type_kind(c, x) == 2 {
+    if code::type_kind(c, x) == kinds::ARRAY {
         return y == code::type_p(c, x);
     }
     false
@@ -110,23 +111,23 @@ fn node_typed(c: &code::Slots, types: &[u16], n: usize) -> bool
     ensures { λ r. ⌜ r ≡ nodeTyped (decoded (now (c .entry))) n ⌝ }
 {
     let k = code::node_kind(c, n);
-    if k == 0 {
+    if k == kinds::CONSTANT {
         return constant_typed(code::node_p(c, n), code::node_v(c, n));
     }
-    if k == 2 {
-        return code::type_kind(c, type_p(c, types, n)) == 1;
+    if k == kinds::FIELD {
+        return code::type_kind(c, type_p(c, types, n)) == kinds::RECORD;
     }
-    if k == 3 {
+    if k == kinds::ELEMENT {
         return element_typed(c, type_p(c, types, n), type_q(c, types, n));
     }
-    if k == 5 {
+    if k == kinds::UNARY {
         return unary_typed(code::node_q(c, n), type_p(c, types, n));
     }
-    if k == 6 {
+    if k == kinds::BINARY {
         let o = code::node_v(c, n);
         return binary_typed(c, o, type_p(c, types, n), type_q(c, types, n));
     }
-    if k == 7 {
+    if k == kinds::TRANSFER {
         return type_p(c, types, n) <= 2;
     }
     true
@@ -138,7 +139,7 @@ fn argument_typed(c: &code::Slots, types: &[u16], x: usize, n: usize) -> bool
 {
     let a = types::type_of(c, types, n);
     let p = code::var_type(c, x);
-    if code::var_mode(c, x) == 2 {
+    if code::var_mode(c, x) == kinds::VAR_PARAMETER {
         if is_variable(c, n) {
             return a == p;
         }
@@ -202,7 +203,7 @@ fn process_call_typed(
     requires { ⌜ Types (decoded (now c)) (now types) ⌝ }
     ensures { λ r. ⌜ r ≡ processCallTyped (decoded (now (c .entry))) x b first count ⌝ }
 {
-    if code::type_kind(c, x) == 3 {
+    if code::type_kind(c, x) == kinds::PROCESS {
         if code::block_owner(c, b) == code::type_p(c, x) {
             return arguments_typed(t, s, c, types, b, first, count);
         }
@@ -224,7 +225,7 @@ fn start_typed(
     requires { ⌜ Types (decoded (now c)) (now types) ⌝ }
     ensures { λ r. ⌜ r ≡ startTyped (decoded (now (c .entry))) x first count ⌝ }
 {
-    if code::type_kind(c, x) == 3 {
+    if code::type_kind(c, x) == kinds::PROCESS {
         return arguments_typed(t, s, c, types, code::type_p(c, x), first, count);
     }
     false
@@ -253,17 +254,17 @@ fn call_typed(t: &[u8], s: table::Sections, c: &code::Slots, types: &[u16], i: u
     let k = code::stmt_kind(c, i);
     let first = code::stmt_c(c, i);
     let count = code::stmt_d(c, i);
-    if k == 2 {
+    if k == kinds::LOCAL_CALL {
         return arguments_typed(t, s, c, types, code::stmt_a(c, i), first, count);
     }
-    if k == 3 {
+    if k == kinds::PROCESS_CALL {
         let x = type_a(c, types, i);
         return process_call_typed(t, s, c, types, x, code::stmt_b(c, i), first, count);
     }
-    if k == 4 {
-        return code::type_kind(c, type_a(c, types, i)) == 3;
+    if k == kinds::CREATE {
+        return code::type_kind(c, type_a(c, types, i)) == kinds::PROCESS;
     }
-    if k == 5 {
+    if k == kinds::START {
         return start_typed(t, s, c, types, type_a(c, types, i), first, count);
     }
     true
@@ -284,13 +285,13 @@ fn stmt_typed(t: &[u8], s: table::Sections, c: &code::Slots, types: &[u16], i: u
     ensures { λ r. ⌜ r ≡ stmtTyped (decoded (now (c .entry))) i ⌝ }
 {
     let k = code::stmt_kind(c, i);
-    if k == 1 {
+    if k == kinds::ASSIGN {
         return types::matching(c, type_a(c, types, i), type_b(c, types, i));
     }
-    if k == 10 {
+    if k == kinds::ARM {
         return type_a(c, types, i) == 1;
     }
-    if k == 12 {
+    if k == kinds::WRITE {
         return write_typed(type_a(c, types, i), type_b(c, types, i));
     }
     call_typed(t, s, c, types, i)
@@ -302,14 +303,14 @@ fn is_simple(c: &code::Slots, x: usize) -> bool
     if x <= 2 {
         return true;
     }
-    code::type_kind(c, x) == 3
+    code::type_kind(c, x) == kinds::PROCESS
 }
 
 fn param_simple(c: &code::Slots, x: usize, k: usize) -> bool
     requires { ⌜ (x < 65536) × (k < 65536) ⌝ }
     ensures { λ r. ⌜ r ≡ paramSimple (decoded (now (c .entry))) x k ⌝ }
 {
-    if code::var_mode(c, x + k) == 1 {
+    if code::var_mode(c, x + k) == kinds::VALUE_PARAMETER {
         return is_simple(c, code::var_type(c, x + k));
     }
     false
@@ -333,7 +334,7 @@ fn each_simple(c: &code::Slots, x: usize, count: usize) -> bool
 fn params_simple(c: &code::Slots, b: usize) -> bool
     ensures { λ r. ⌜ r ≡ paramsSimple (decoded (now (c .entry))) b ⌝ }
 {
-    if code::block_kind(c, b) == 1 {
+    if code::block_kind(c, b) == kinds::MODULE {
         return each_simple(c, code::first_var(c, b), code::block_params(c, b));
     }
     true
