@@ -1,5 +1,5 @@
-/* scan.h: where a text has no symbol, and why. A scanner of its own in plain C, of which nothing is proved; the command symbols and the tests hold it
- * to the library. */
+/* scan.h: where in a text no symbol begins, and why. A scanner of its own in plain C, of which nothing is proved; the command symbols and the tests
+ * hold it to the library. */
 #ifndef SCAN_H
 #define SCAN_H
 
