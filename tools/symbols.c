@@ -81,7 +81,7 @@ static int split(const char *name, struct bytes text, uint8_t *out, size_t room)
     uint32_t own = scanned(text, out, room, &gap), result = joyce_symbols(text.at, text.length, out, room);
     printf("%s: %s%zu bytes, ", name, text.length > JOYCE_TEXT_MAX ? "at least " : "", text.length);
     if (result >= JOYCE_SYMBOLS)
-        printf("%u symbols\n", (unsigned)(result - JOYCE_SYMBOLS));
+        printf("%u symbol%s\n", (unsigned)(result - JOYCE_SYMBOLS), result == JOYCE_SYMBOLS + 1 ? "" : "s");
     else
         printf("refused with %u: %s\n", (unsigned)result, result == JOYCE_LENGTH ? "a text has at most 65535 bytes" : result_words(result));
     if (own != result) {
