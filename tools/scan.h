@@ -9,7 +9,7 @@
 
 struct gap {
     size_t place;    /* where neither a symbol nor a comment begins */
-    size_t wrong;    /* what is wrong stands here: the same place, or one further on, in a constant or a comment; the text's length at its end */
+    size_t wrong;    /* what is wrong stands here: the same place, or one further on in what begins there; the text's length at its end */
     const char *why; /* in words */
 };
 
