@@ -59,7 +59,8 @@
  *     nodes       kind, p, q, v
  *     statements  kind, a, b, c, d, link
  *
- * Zero bytes are a table too, an empty cartridge slot: they are read as the program that skips and ends, to every call, from any pointer.
+ * Zero bytes are a table too, an empty cartridge slot: every call that takes a table reads them, from any pointer, as the program that skips and
+ * ends.
  *
  * Entries are numbered from 0 in each section, types from JOYCE_DECLARED. What the fields hold stands at the enums below, kind by kind; a field
  * that is not named there is 0.
@@ -234,7 +235,7 @@ enum joyce_result {
     JOYCE_NO_SYMBOL = 25,
     /* joyce_look found the word: this number plus the word, 0..65,535 */
     JOYCE_WORD = 65536,
-    /* joyce_symbols split the text: this number plus the number of its symbols, 0..65,535 */
+    /* joyce_symbols split the text: this number (that of JOYCE_WORD, of another call) plus the number of its symbols, 0..65,535 */
     JOYCE_SYMBOLS = 65536
 };
 
@@ -347,9 +348,9 @@ uint32_t joyce_look(const uint8_t *table, size_t table_len, const uint8_t *state
  * the kind, one of enum joyce_symbol; then three words, low byte first: the line, from 1; the place of the first byte in the text, from 0; the
  * length in bytes. The bytes after them are as they were. On a refusal all of out is as it was.
  *
- * Room is asked for by the length of the text, not by the number of symbols. An empty text has no symbol, and needs no room: both pointers may be
- * null then. The text may be any bytes, and need not end with a 0 or a new line; a byte 0 is no character, so that a text with one is refused with
- * JOYCE_NO_SYMBOL. Places rise, and symbols do not overlap. The time grows with the length.
+ * Room is asked for by the length of the text, not by the number of symbols. An empty text has no symbol, and needs no room: with both lengths 0
+ * both pointers may be null. The text may be any bytes, and need not end with a 0 or a new line; a byte 0 is no character, so that a text with one
+ * is refused with JOYCE_NO_SYMBOL. Places rise, and symbols do not overlap. The time grows with the length of the text, up to JOYCE_TEXT_MAX.
  */
 uint32_t joyce_symbols(const uint8_t *text, size_t text_len, uint8_t *out, size_t out_len);
 
@@ -361,7 +362,7 @@ struct joyce_piece {
     unsigned length; /* in bytes */
 };
 
-/* The symbol with that number, from 0, of those that joyce_symbols wrote. */
+/* The symbol with that number, from 0, of those that joyce_symbols wrote to out. The number is below theirs. */
 static inline struct joyce_piece joyce_symbol_at(const uint8_t *out, size_t number)
 {
     const uint8_t *at = out + JOYCE_SYMBOL_SIZE * number;

@@ -5,7 +5,7 @@
     answers = run.run([1, 1, 2])            # one step each
     run.look(1, 0)                          # process 1, variable 0, place 0
     run.put(-8192, 5); run.get(-2)          # device words
-    joyce.split(b"x := 1")                  # the symbols of a text; joyce.Refused where it has none
+    joyce.split(b"x := 1")                  # the symbols of a text; joyce.Refused where the call refuses
 
 The calls themselves are check, begin, run, look and symbols below; they return the numbers of joyce.h. pack makes a table of lists of entries, and
 unpack lists of a table. The enums have the names and numbers of joyce.h.

@@ -67,7 +67,7 @@ static size_t constant_end(struct scan *s, size_t at)
     while (i < s->length && s->text[i] != '\'') {
         size_t end = s->text[i] == '@' ? numeral_end(s, i + 1) : i + 1;
         if (s->text[i] == '\n')
-            return blame(s, at, i, "the constant is not closed in its line");
+            return blame(s, at, i, "the constant is not closed in its line; an apostrophe in one is written @39");
         if (!is_graphic(s->text[i]))
             return blame(s, at, i, "the constant has a byte that is no character");
         if (s->text[i] == '@' && end == i + 1)
@@ -75,8 +75,20 @@ static size_t constant_end(struct scan *s, size_t at)
         i = end;
     }
     if (i == s->length)
-        return blame(s, at, i, "the constant is not closed");
+        return blame(s, at, i, "the constant is not closed; an apostrophe in one is written @39");
     return i > at + 1 ? i + 1 : blame(s, at, at, "the constant has no character; an apostrophe in one is written @39");
+}
+
+/* Why no symbol begins with a byte. */
+static const char *why_none(int b)
+{
+    switch (b) {
+    case '@': return "@ stands in constants only";
+    case '_': return "no symbol begins with it: a name has letters and digits only";
+    case '{':
+    case '}': return "no symbol begins with it: a comment stands between two quotes";
+    default: return is_graphic(b) ? "no symbol begins with it" : "it is no character: those are the bytes 32..126 and the new line, 10";
+    }
 }
 
 static size_t special_end(struct scan *s, size_t at)
@@ -86,11 +98,7 @@ static size_t special_end(struct scan *s, size_t at)
         if (s->length - at > 1 && memcmp(s->text + at, pairs[i], 2) == 0)
             return at + 2;
     int b = s->text[at];
-    if (b && strchr("+-*/=<>:()[].,;", b))
-        return at + 1;
-    if (!is_graphic(b))
-        return blame(s, at, at, "it is no character: those are the bytes 32..126 and the new line, 10");
-    return blame(s, at, at, b == '@' ? "@ stands in constants only" : "no symbol begins with it");
+    return b && strchr("+-*/=<>:()[].,;", b) ? at + 1 : blame(s, at, at, why_none(b));
 }
 
 static size_t symbol_end(struct scan *s, size_t at)

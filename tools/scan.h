@@ -1,5 +1,5 @@
-/* scan.h: where a text has no symbol, and why. A scanner of its own in plain C, of which nothing is proved; the command symbols and the tests hold it
- * to the library. */
+/* scan.h: where in a text no symbol begins, and why. A scanner of its own in plain C, of which nothing is proved; the command symbols and the tests
+ * hold it to the library. */
 #ifndef SCAN_H
 #define SCAN_H
 
@@ -9,7 +9,7 @@
 
 struct gap {
     size_t place;    /* where neither a symbol nor a comment begins */
-    size_t wrong;    /* what is wrong stands here: the same place, or one further on, in a constant or a comment; the text's length at its end */
+    size_t wrong;    /* what is wrong stands here: the same place, or one further on in what begins there; the text's length at its end */
     const char *why; /* in words */
 };
 

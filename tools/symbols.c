@@ -1,4 +1,4 @@
-/* The command symbols: the symbols of a text, or where it has none. */
+/* The command symbols: the symbols of a text, or where none begins. */
 #include "joyce.h"
 #include "names.h"
 #include "scan.h"
@@ -35,6 +35,12 @@ static void print_symbols(struct bytes text, const uint8_t *out, size_t count)
     }
 }
 
+/* Of a byte that is no character: what it may be, and what to write. */
+static const char *byte_words(int b)
+{
+    return b == '\t' ? ", a tab; write spaces" : b == '\r' ? ", a return; lines end with byte 10 alone" : b > 127 ? ", beyond ASCII" : "";
+}
+
 /* A place, and what stands there. */
 static void print_place(struct bytes text, size_t place)
 {
@@ -47,7 +53,7 @@ static void print_place(struct bytes text, size_t place)
     else if (text.at[place] >= ' ' && text.at[place] <= '~')
         printf("%c stands there\n", text.at[place]);
     else
-        printf("byte %u stands there%s\n", text.at[place], text.at[place] == '\t' ? ", a tab" : text.at[place] == '\r' ? ", a return" : "");
+        printf("byte %u stands there%s\n", text.at[place], byte_words(text.at[place]));
 }
 
 static void print_gap(struct bytes text, const struct gap *gap)
@@ -75,7 +81,7 @@ static int split(const char *name, struct bytes text, uint8_t *out, size_t room)
     uint32_t own = scanned(text, out, room, &gap), result = joyce_symbols(text.at, text.length, out, room);
     printf("%s: %s%zu bytes, ", name, text.length > JOYCE_TEXT_MAX ? "at least " : "", text.length);
     if (result >= JOYCE_SYMBOLS)
-        printf("%u symbols\n", (unsigned)(result - JOYCE_SYMBOLS));
+        printf("%u symbol%s\n", (unsigned)(result - JOYCE_SYMBOLS), result == JOYCE_SYMBOLS + 1 ? "" : "s");
     else
         printf("refused with %u: %s\n", (unsigned)result, result == JOYCE_LENGTH ? "a text has at most 65535 bytes" : result_words(result));
     if (own != result) {

@@ -1,10 +1,15 @@
-/* A library that refuses everything with 4: the tool must notice that its own explanation, of a table or a text, is another. */
+/* A library that refuses everything with the number REFUSAL, 4 if none is given: the tool must notice that its own explanation, of a table or a text,
+ * is another. */
 #include "joyce.h"
+
+#ifndef REFUSAL
+#define REFUSAL JOYCE_NUMBERS
+#endif
 
 uint32_t joyce_check(const uint8_t *table, size_t table_len)
 {
     (void)table, (void)table_len;
-    return JOYCE_NUMBERS;
+    return REFUSAL;
 }
 
 uint32_t joyce_begin(const uint8_t *table, size_t table_len, uint8_t *state, size_t state_len)

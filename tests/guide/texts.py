@@ -40,6 +40,13 @@ def split_lines(body):
     return wrong
 
 
+def vocabulary(name):
+    """The symbols that a list of the definitions has in its numbers, each with the comment beside it."""
+    definitions = pathlib.Path("crates/symbols/specs/Vocabulary.antt").read_text(encoding="utf-8")
+    body = re.search(rf"^{name} =\n(.*?)^    \[\]$", definitions, re.M | re.S)[1]
+    return [("".join(map(chr, map(int, re.findall(r"\d+", codes)))), said) for codes, said in re.findall(r"^(.*?)  -- (.*)$", body, re.M)]
+
+
 page = pathlib.Path(sys.argv[1]).read_text(encoding="utf-8")
 texts, kinds, split_blocks = {}, set(), 0
 for sort, name, body in re.findall(r"^```(text|symbols|splits)(?: (\w+))?\n(.*?)^```$", page, re.M | re.S):
@@ -55,6 +62,10 @@ for sort, name, body in re.findall(r"^```(text|symbols|splits)(?: (\w+))?\n(.*?)
         split_blocks += 1
         wrong = split_lines(body)
         report(f"splits_{split_blocks}", "; ".join(wrong) or None)
+for kind, name in [("special", "specialSymbols"), ("word", "wordSymbols")]:
+    listed, pairs = re.search(rf"^\| \d \| {kind} \| `(.*?)` \|$", page, re.M)[1].split(), vocabulary(name)
+    wrong = [pair for pair in pairs if pair[0] != pair[1]] or set(listed) ^ {symbol for symbol, _ in pairs} or len(listed) - len(pairs)
+    report(f"each_{kind}", f"the definition's numbers, its comments and the guide differ: {wrong}" if wrong else None)
 report("each_text_has_symbols", f"none: {', '.join(texts)}" if texts else None)
 report("each_symbol_has_an_example", None if kinds == set(joyce.Symbol) and split_blocks > 3 else f"only {kinds}")
 sys.exit(failures > 0)

@@ -138,10 +138,15 @@ static bool load(const char *name)
 
 /* ---- one call */
 
-/* How much of a text is printed where a test fails. */
-static int shown(size_t length)
+/* How a text begins, for where a test fails. */
+static const char *shown(const uint8_t *text, size_t length)
 {
-    return length < 40 ? (int)length : 40;
+    static char line[41];
+    size_t count = length < 40 ? length : 40;
+    for (size_t i = 0; i < count; i++)
+        line[i] = (char)(text[i] >= ' ' && text[i] <= '~' ? text[i] : '?');
+    line[count] = 0;
+    return line;
 }
 
 static size_t written(uint32_t result)
@@ -164,9 +169,9 @@ static bool call_is(const uint8_t *text, size_t length, uint8_t *out, size_t roo
     memset(out, FILL, room);
     uint32_t r = joyce_symbols(text, length, out, room);
     if (r != result)
-        return bad("%zu bytes, %.*s: the result is %u, not %u", length, shown(length), length ? (const char *)text : "", (unsigned)r, (unsigned)result);
+        return bad("%zu bytes, %s: the result is %u, not %u", length, shown(text, length), (unsigned)r, (unsigned)result);
     if (count > 0 && memcmp(out, bytes, count))
-        return bad("%zu bytes, %.*s: other symbols", length, shown(length), (const char *)text);
+        return bad("%zu bytes, %s: other symbols", length, shown(text, length));
     return is_filled(out + count, room - count) || bad("%zu bytes: a byte after the %zu of symbols was written", length, count);
 }
 
@@ -208,9 +213,9 @@ static bool tool_says(const uint8_t *text, size_t length, uint32_t result)
     if (length > JOYCE_TEXT_MAX || result == JOYCE_LENGTH)
         return true;
     if (scan_text(text, length, &count, &gap))
-        return result == JOYCE_SYMBOLS + count || bad("%zu bytes, %.*s: %zu symbols by the tool", length, shown(length), (const char *)text, count);
+        return result == JOYCE_SYMBOLS + count || bad("%zu bytes, %s: %zu symbols by the tool", length, shown(text, length), count);
     if (result != JOYCE_NO_SYMBOL)
-        return bad("%zu bytes, %.*s: a gap by the tool", length, shown(length), (const char *)text);
+        return bad("%zu bytes, %s: a gap by the tool", length, shown(text, length));
     if (!gap.why || gap.wrong < gap.place || gap.wrong > length)
         return bad("%zu bytes: no reason for the gap at %zu", length, gap.place);
     return is_gap(text, length, gap.place);
@@ -328,12 +333,19 @@ static bool limits(void)
            longest_is('"', ' ', 0, none);
 }
 
+/* Lengths that no memory has are among them: seven times such a one may be a small number. A longer slice is no fault, however long. */
 static bool too_long(void)
 {
+    static const size_t lengths[] = {JOYCE_TEXT_MAX + 1, SIZE_MAX / JOYCE_SYMBOL_SIZE, SIZE_MAX / JOYCE_SYMBOL_SIZE + 1, SIZE_MAX};
     memset(longest, ' ', sizeof longest);
     memset(longest_out, FILL, sizeof longest_out);
-    uint32_t r = joyce_symbols(longest, JOYCE_TEXT_MAX + 1, longest_out, sizeof longest_out);
-    return (r == JOYCE_LENGTH && is_filled(longest_out, sizeof longest_out)) || bad("the result is %u", (unsigned)r);
+    for (size_t i = 0; i < sizeof lengths / sizeof *lengths; i++) {
+        uint32_t r = joyce_symbols(longest, lengths[i], longest_out, sizeof longest_out);
+        if (r != JOYCE_LENGTH || !is_filled(longest_out, sizeof longest_out))
+            return bad("%zu bytes: the result is %u, or out was written", lengths[i], (unsigned)r);
+    }
+    uint32_t r = joyce_symbols(longest, JOYCE_TEXT_MAX, longest_out, SIZE_MAX);
+    return r == JOYCE_SYMBOLS || bad("the longest slice: the result is %u", (unsigned)r);
 }
 
 static bool null_pointers(void)

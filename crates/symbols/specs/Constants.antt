@@ -8,7 +8,7 @@ use Rattle.basics.specs.Choice.{pick}
 use Rattle.symbols.specs.Characters.{digit, octalDigit, standing}
 use Rattle.symbols.specs.Runs.{run}
 
--- a sign and the n bytes that it asks for
+-- the bytes of a sign with the n that follow it; 0 where none does, for a sign alone is nothing
 unfoldable pub signed : ℕ → ℕ
 signed zero = 0
 signed (suc n) = suc (suc n)

@@ -25,7 +25,7 @@ pub data Numeral : List ℕ → Type 0 where
   decimal : (x : ℕ) (s : List ℕ) → all digit (x ∷ s) ≡ true → Numeral (x ∷ s)
   octal : (x : ℕ) (s : List ℕ) → all octalDigit (x ∷ s) ≡ true → Numeral (35 ∷ x ∷ s)
 
--- 6.2, 02: a character symbol, and the bytes that follow it: its numeral is as long as possible
+-- 6.2, 02: a character symbol, and the bytes that follow it in its constant: its numeral is as long as possible
 pub data Character : List ℕ → List ℕ → Type 0 where
   plain : (x : ℕ) (t : List ℕ) → standing x ≡ true → Character (x ∷ []) t
   coded : (s t : List ℕ) → Numeral s → ((u w : List ℕ) → t ≡ u ++ w → Numeral (s ++ u) → u ≡ []) → Character (64 ∷ s) t

@@ -19,7 +19,7 @@ orElse a b = pick (eqb a 0) b a
 unfoldable pub symbolLength : List ℕ → ℕ
 symbolLength l = orElse (nameLength l) (orElse (numeralLength l) (orElse (constantLength l) (specialLength l)))
 
--- 02: 1 special, 2 word, 3 name, 4 numeral, 5 character, 6 string
+-- a name that is a word symbol, or another
 unfoldable pub nameKind : List ℕ → ℕ
 nameKind l = pick (isWord (take (nameLength l) l)) 2 3
 
@@ -27,6 +27,7 @@ nameKind l = pick (isWord (take (nameLength l) l)) 2 3
 unfoldable pub constantKind : List ℕ → ℕ
 constantKind l = pick (eqb (charactersLength 0 l) (characterLength l)) 5 6
 
+-- 02: 1 special, 2 word, 3 name, 4 numeral, 5 character, 6 string. Of the symbol that begins at the front; without a meaning where none begins
 unfoldable pub symbolKind : List ℕ → ℕ
 symbolKind [] = 0
 symbolKind (x ∷ l) =
