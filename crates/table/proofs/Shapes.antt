@@ -94,3 +94,21 @@ width-short w k f n hn h = sym (short-width w k f n hn h)
 
 pub width-word : (w k f n : ℕ) → n ≡ shorts k → n ≤ f → 2 ≡ fieldWidth w k f
 width-word w k f n hn h = sym (word-width w k f n hn h)
+
+-- by cases of the section
+pub shorts-at : (n r k : ℕ) → k ≡ n → r ≡ shorts n → (r ≡ shorts k) × (r ≤ 6)
+shorts-at n r k e h = rw (e, h) (refl, shorts-small n)
+
+pub words-at : (n r k : ℕ) → k ≡ n → r ≡ words n → (r ≡ words k) × (r ≤ 2)
+words-at n r k e h = rw (e, h) (refl, words-small n)
+
+pub words-none : (k : ℕ) → (k ≡ 0 → ⊥) → (k ≡ 3 → ⊥) → (k ≡ 5 → ⊥) → (0 ≡ words k) × (0 ≤ 2)
+unfolding words
+words-none zero a b c = absurd (a refl)
+words-none (suc zero) a b c = (refl, omega arith)
+words-none (suc (suc zero)) a b c = (refl, omega arith)
+words-none (suc (suc (suc zero))) a b c = absurd (b refl)
+words-none (suc (suc (suc (suc zero)))) a b c = (refl, omega arith)
+words-none (suc (suc (suc (suc (suc zero))))) a b c = absurd (c refl)
+words-none (suc (suc (suc (suc (suc (suc zero)))))) a b c = (refl, omega arith)
+words-none (suc (suc (suc (suc (suc (suc (suc k))))))) a b c = (refl, omega arith)

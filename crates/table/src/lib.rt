@@ -25,11 +25,6 @@ pub struct Read {
     pub sections: Sections,
 }
 
-// Fields of the edition's width in a row of each section, and words after them.
-const SHORTS: [usize; 7] = [3, 1, 2, 6, 1, 3, 6];
-
-const WORDS: [usize; 7] = [2, 0, 0, 1, 0, 1, 0];
-
 fn wide(b: u8) -> usize
     ensures { λ r. ⌜ (r ≡ b) × (r < 256) ⌝ }
 {
@@ -48,18 +43,33 @@ pub fn number(t: &[u8], p: usize, k: usize) -> usize
     }
 }
 
+// Fields of the edition's width in a row of section k. (By cases: an array of constants would be made anew each time that it is read.)
 fn shorts_of(k: usize) -> usize
     requires { ⌜ k < 7 ⌝ }
     ensures { λ r. ⌜ (r ≡ shorts k) × (r ≤ 6) ⌝ }
 {
-    SHORTS[k]
+    match k {
+        0 => 3,
+        1 => 1,
+        2 => 2,
+        3 => 6,
+        4 => 1,
+        5 => 3,
+        _ => 6,
+    }
 }
 
+// Words after them.
 fn words_of(k: usize) -> usize
     requires { ⌜ k < 7 ⌝ }
     ensures { λ r. ⌜ (r ≡ words k) × (r ≤ 2) ⌝ }
 {
-    WORDS[k]
+    match k {
+        0 => 2,
+        3 => 1,
+        5 => 1,
+        _ => 0,
+    }
 }
 
 // The bytes of a row of section k.
