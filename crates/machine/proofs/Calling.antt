@@ -47,9 +47,10 @@ refused-none lengths v state e =
 
 module _ (verdict : ℕ → List ℕ → ℕ) (w : ℕ) (table state : List ℕ) where
   pub begin-refused :
-      (beginRefusal verdict w table state ≡ 0 → ⊥) → beginCall verdict w table state ≡ begun (beginRefusal verdict w table state) state
+      (number : ℕ) → (beginRefusal verdict w table state number ≡ 0 → ⊥)
+      → beginCall verdict w table state number ≡ begun (beginRefusal verdict w table state number) state
   unfolding beginCall
-  begin-refused h = rw (ne-eqb (beginRefusal verdict w table state) 0 h)
+  begin-refused number h = rw (ne-eqb (beginRefusal verdict w table state number) 0 h)
 
   module _ (page schedule answers : List ℕ) where
     pub run-refused :

@@ -95,7 +95,7 @@ module _ {A : Type 0} (P : A → Type 0) where
 
   ends-onReference : (m : Memory) (a μ : ℕ) (f : ℕ → Outcome A) → ((r : ℕ) → Ends P (f r)) → Ends P (onReference m a μ f)
   unfolding onReference
-  ends-onReference m a μ f h = ends-failWhere P _ 19 _ (ends-need P _ _ (h (m a)))
+  ends-onReference m a μ f h = ends-failWhere P _ 31 _ (ends-failWhere P _ 19 _ (ends-need P _ _ (h (m a))))
 
 module _ (T : Table) (m page : Memory) (x : Context) where
   low-goTo : (s : Memory) (c : ℕ) → Ends Low (goTo T m page x s c)

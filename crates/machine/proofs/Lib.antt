@@ -4,9 +4,13 @@ pub mod Examples
 pub mod Edges
 pub mod Stuck
 pub mod Frames
+pub mod Unset
 pub mod Damaged
 pub mod Tests
 pub mod Memories
+pub mod MarkBits
+pub mod MarkLaws
+pub mod Marking
 pub mod Entries
 pub mod Outcomes
 pub mod Ends

@@ -33,6 +33,39 @@ module _ (m : Memory) (i v : ℕ) where
   unfolding update
   update-other j h = rw (ne-eqb j i h)
 
+-- the word that stands there
+pub update-own : (m : Memory) (i : ℕ) → update m i (m i) ≡ m
+update-own m i = fun-ext λ j. cases (eqb j i)
+    (λ e. let q : j ≡ i = eqb-true j i e in rw q (update-same m i (m i)))
+    (λ e. update-other m i (m i) j (eqb-false j i e))
+
+-- the later one stays
+pub update-twice : (m : Memory) (i v w : ℕ) → update (update m i v) i w ≡ update m i w
+update-twice m i v w = fun-ext λ j. cases (eqb j i)
+    (λ e. let q : j ≡ i = eqb-true j i e in rw q (update-same (update m i v) i w ∙ sym (update-same m i w)))
+    (λ e.
+    let d = eqb-false j i e in
+    update-other (update m i v) i w j d ∙ update-other m i v j d ∙ sym (update-other m i w j d))
+
+pub update-swap : (m : Memory) (i v k w : ℕ) → (i ≡ k → ⊥) → update (update m i v) k w ≡ update (update m k w) i v
+update-swap m i v k w d = fun-ext λ j. cases (eqb j i)
+    (λ e.
+    let q : j ≡ i = eqb-true j i e in
+    rw q (update-other (update m i v) k w i d ∙ update-same m i v ∙ sym (update-same (update m k w) i v)))
+    (λ e.
+    let f = eqb-false j i e in
+    cases (eqb j k)
+    (λ g.
+    let q : j ≡ k = eqb-true j k g in
+    rw q
+    (update-same (update m i v) k w
+    ∙ sym (update-other (update m k w) i v k (λ h. d (sym h)) ∙ update-same m k w)))
+    (λ g.
+    let h = eqb-false j k g in
+    update-other (update m i v) k w j h
+    ∙ update-other m i v j f
+    ∙ sym (update-other (update m k w) i v j f ∙ update-other m k w j h)))
+
 -- ---- several words
 
 module _ (a n j : ℕ) where

@@ -1,12 +1,12 @@
 -- Laws of the tests `someBelow`, `between` and `isFailure`. Assumes nothing.
 use Prim.Native.Nat.{ℕ, zero, suc, _≤_, _<_}
-use mathlib.Core.Path.{_≡_, sym, ap, _∙_}
+use mathlib.Core.Path.{_≡_, refl, sym, ap, _∙_}
 use mathlib.Core.Bool.{Bool, true}
 use native.Mathlib.Omega.{arith}
 use native.Mathlib.Nat.{not-suc-le-zero}
 use lib.Dec.{eqb}
-use borrow.Author.Tests.{eqb-true, eqb-false, le-leb}
-use Rattle.basics.specs.Choice.{between}
+use borrow.Author.Tests.{eqb-true, eqb-false, eq-eqb, ne-eqb, le-leb}
+use Rattle.basics.specs.Choice.{either, between}
 use Rattle.basics.specs.Cases.{cases}
 use Rattle.basics.proofs.Bools.{no-true, between-true, both-i, either-l, either-r, either-case}
 use Rattle.machine.specs.Values.{someBelow}
@@ -46,13 +46,28 @@ range-i l h n a b = both-i _ _ (le-leb l n a) (le-leb n h b)
 
 pub failure-i : (n : ℕ) → 16 ≤ n → n ≤ 24 → isFailure n ≡ true
 unfolding isFailure
-failure-i n a b = range-i 16 24 n a b
+failure-i n a b = either-l _ _ (range-i 16 24 n a b)
+
+pub failure-unset : isFailure 31 ≡ true
+unfolding isFailure
+failure-unset = either-r _ _ (eq-eqb 31 31 refl)
+
+pub failure-at : (n : ℕ) → n ≡ 31 → true ≡ isFailure n
+unfolding isFailure
+failure-at n e = sym (either-r _ _ (eq-eqb n 31 e))
+
+pub failure-else : (n : ℕ) (r : Bool) → (n ≡ 31 → ⊥) → r ≡ between 16 24 n → r ≡ isFailure n
+unfolding isFailure either
+failure-else n r d e = cases (between 16 24 n) (λ h. rw (e, h)) (λ h. rw (e, h, ne-eqb n 31 d))
 
 -- it is no other answer, and a byte
 pub failure-low : (n : ℕ) → isFailure n ≡ true → 16 ≤ n
 unfolding isFailure
-failure-low n e = range-low _ _ n e
+failure-low n e = either-case (between 16 24 n) (eqb n 31) e (λ h. range-low _ _ n h) (λ h. let q = eqb-true n 31 h in omega arith)
 
 pub failure-byte : (n : ℕ) → isFailure n ≡ true → n < 256
 unfolding isFailure
-failure-byte n e = let h = range-high _ _ n e in omega arith
+failure-byte n e =
+    either-case (between 16 24 n) (eqb n 31) e
+    (λ h. let q = range-high _ _ n h in omega arith)
+    (λ h. let q = eqb-true n 31 h in omega arith)

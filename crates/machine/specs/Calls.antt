@@ -10,6 +10,7 @@ use Rattle.table.specs.Entries.{argCount, varCount, argNode, varMode, varType, 
 use Rattle.types.specs.Match.{matches}
 use Rattle.machine.specs.Memory.{Memory, update, store}
 use Rattle.machine.specs.Layout.{location, statementAt, frameAt, topAt, worksAt, holderAt, depthAt, callerFrame, callStatement, callerWorks}
+use Rattle.machine.specs.Marks.{mark, fresh}
 use Rattle.machine.specs.Outcomes.{Outcome, ok, stuck, andThen, need, failWhere, Operand, onPlace, onValue}
 use Rattle.machine.specs.Entries.{Statement, skip, assign, localCall, processCall, create, start, opener, arm, endArms, write, blockEnd, noStatement, stmtAt}
 use Rattle.machine.specs.Variables.{frameWords}
@@ -68,13 +69,19 @@ module _ (T : Table) (m page : Memory) (x : Context) where
       standing (store s (location (x .process) (m (topAt (x .process)))) (frame q ws)) (x .process)
       (firstStmt T q) (m (topAt (x .process))) (topAfter q) r (m (depthAt (x .process)) + 1)
 
+  -- the marks of its frame (02, g): the links and the parameters have been given their words, the other variables are made
+  unfoldable pub frameMarked : Memory → ℕ → List ℕ → Memory
+  frameMarked s q ws =
+      fresh (mark s (location (x .process) (m (topAt (x .process)))) (4 + length ws))
+      (location (x .process) (m (topAt (x .process)) + 4 + length ws)) (frameWords T q - length ws)
+
   -- a call of procedure q on process r, from state s: 22 where the frame does not fit the area (01, A step)
   unfoldable pub call : Memory → ℕ → ℕ → List ℕ → Outcome Memory
   call s q r ws =
       need (leb (length ws) (frameWords T q))
       (failWhere (ltb 256 (topAfter q)) 22
       (need (ltb (m (depthAt (x .process))) 64)
-      (ok (pushed s q r ws))))
+      (ok (frameMarked (pushed s q r ws) q ws))))
 
   -- the end of a call (12.2, 13): the process stands after the call statement c, where it stood before
   unfoldable pub popped : Memory → ℕ → Memory

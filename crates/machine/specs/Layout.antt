@@ -1,18 +1,24 @@
 -- Trusted: public promises are said with these definitions.
 -- The layout of a state (01, The four calls: an area and a control record for each of 64 processes). First the areas, 256 words each,
--- then the control records, 20 words each. Assumes nothing.
+-- then the control records, 20 words each, then a mark for each word of the areas (Marks). Assumes nothing.
 use Prim.Native.Nat.{ℕ, _+_, _-_, _*_}
 use Rattle.machine.specs.Memory.{Memory}
 
--- the words of areas, which are the locations; the words of a state, and its size in bytes
+-- the words of areas, which are the locations; those of areas and control records, and of marks; all of a state, and its size in bytes
 abbrev pub locations : ℕ
 locations = 16384
 
+abbrev pub plainWords : ℕ
+plainWords = 17664
+
+abbrev pub markWords : ℕ
+markWords = 1024
+
 abbrev pub stateWords : ℕ
-stateWords = 17664
+stateWords = 18688
 
 abbrev pub stateSize : ℕ
-stateSize = 35328
+stateSize = 37376
 
 -- the words of a device page, and its size in bytes
 abbrev pub pageWords : ℕ
@@ -68,6 +74,11 @@ createdAt = recordAt 1 8
 -- in the record of process 1: 0, or the number by which the run failed
 abbrev pub failureAt : ℕ
 failureAt = recordAt 1 9
+
+-- in the record of process 1: the number that the run was begun with (02, g). 0: a variable has no value before it is given one; 1: it
+-- begins as 0
+abbrev pub numberAt : ℕ
+numberAt = recordAt 1 10
 
 -- a frame is four words, then the variables of its procedure. Word k of the frame that begins at f in the area of process p:
 -- 0 the caller's frame, 1 the call statement, 2 the process that the caller worked on, 3 the procedure

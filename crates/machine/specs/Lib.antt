@@ -1,5 +1,7 @@
 pub mod Memory
 pub mod Layout
+pub mod Marks
+pub mod MarkRuns
 pub mod Outcomes
 pub mod Entries
 pub mod Variables

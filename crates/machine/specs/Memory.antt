@@ -1,5 +1,5 @@
 -- Trusted: public promises are said with these definitions.
--- Memories: words by their index. A state is a memory of 17,664 words, a device page one of 4,096. Assumes nothing.
+-- Memories: words by their index. A state is a memory of 18,688 words, a device page one of 4,096. Assumes nothing.
 use Prim.Native.Nat.{ℕ, zero, suc, _+_, _-_, _*_, _/_, _%_}
 use mathlib.Core.Bool.{Bool}
 use mathlib.Core.List.{List, [], _∷_}
@@ -25,6 +25,10 @@ store m a ws j = pick (within a (length ws) j) (getD ws (j - a) 0) (m j)
 -- the n words from a on become 0
 unfoldable pub clear : Memory → ℕ → ℕ → Memory
 clear m a n j = pick (within a n j) 0 (m j)
+
+-- the n words from a on become w
+unfoldable pub fill : Memory → ℕ → ℕ → ℕ → Memory
+fill m a n w j = pick (within a n j) w (m j)
 
 -- the n words from a on
 unfoldable pub wordsAt : Memory → ℕ → ℕ → List ℕ

@@ -6,11 +6,11 @@ use mathlib.Core.Bool.{Bool, true, false}
 use mathlib.Core.List.{List}
 use lib.ListN.{getD}
 use lib.Dec.{eqb}
-use Rattle.basics.specs.Choice.{between}
+use Rattle.basics.specs.Choice.{either, between}
 
--- n is the number of a failure (01, Step answers)
+-- n is the number of a failure (01, Step answers; 02, g)
 unfoldable pub isFailure : ℕ → Bool
-isFailure n = between 16 24 n
+isFailure n = either (between 16 24 n) (eqb n 31)
 
 -- a result; a failure with its number; stuck: a number lies outside its section or area, or an operand is of another type than
 -- its place asks

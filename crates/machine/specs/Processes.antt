@@ -1,7 +1,7 @@
 -- Trusted: public promises are said with these definitions.
 -- Process variables (5.2), and the creation and starting of processes (11.4, 11.5, 13). Assumes nothing.
 use Prim.Native.Nat.{ℕ}
-use mathlib.Core.Bool.{Bool}
+use mathlib.Core.Bool.{Bool, not}
 use mathlib.Core.List.{List}
 use lib.Dec.{eqb, leb}
 use Rattle.basics.specs.Choice.{both}
@@ -9,6 +9,7 @@ use Rattle.table.specs.Table.{Table}
 use Rattle.table.specs.Entries.{firstStmt}
 use Rattle.machine.specs.Memory.{Memory, update, store, clear}
 use Rattle.machine.specs.Layout.{location, recordAt, statusAt, moduleAt, holderAt, createdAt}
+use Rattle.machine.specs.Marks.{marked}
 use Rattle.machine.specs.Outcomes.{Outcome, stuck, need, failWhere, Operand, onPlace}
 use Rattle.machine.specs.Entries.{TypeEntry, integer, boolean, character, recordType, arrayType, processType, noType, typeAt}
 use Rattle.sizes.specs.Sizes.{moduleWords}
@@ -31,9 +32,9 @@ onProcess T o f = onPlace o λ a τ. onModule (typeAt T τ) λ μ. f a μ
 unfoldable pub refers : Memory → ℕ → ℕ → Bool
 refers m μ r = both (both (leb 2 r) (leb r (m createdAt))) (eqb (m (moduleAt r)) μ)
 
--- the process that the variable at a refers to; 19 where its value is empty (11.3, 11.5)
+-- the process that the variable at a refers to; 31 where it is unmarked (02, g), 19 where its value is empty (11.3, 11.5)
 unfoldable pub onReference : {A : Type 0} → Memory → ℕ → ℕ → (ℕ → Outcome A) → Outcome A
-onReference m a μ f = failWhere (eqb (m a) 0) 19 (need (refers m μ (m a)) (f (m a)))
+onReference m a μ f = failWhere (not (marked m a)) 31 (failWhere (eqb (m a) 0) 19 (need (refers m μ (m a)) (f (m a))))
 
 -- process n is created, of module μ: its variables are 0 and its record says no more
 unfoldable pub created : Memory → ℕ → ℕ → Memory

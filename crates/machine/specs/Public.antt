@@ -10,6 +10,7 @@ use Rattle.table.specs.Table.{Table, tableOf}
 use Rattle.table.specs.Entries.{varType}
 use Rattle.machine.specs.Memory.{Memory, memoryOf, bytesOf}
 use Rattle.machine.specs.Layout.{location, statusAt, moduleAt, createdAt, stateWords, stateSize, pageWords, pageSize}
+use Rattle.machine.specs.Marks.{marked}
 use Rattle.sizes.specs.Sizes.{wordsOf}
 use Rattle.machine.specs.Variables.{offsetOf, belongs}
 use Rattle.machine.specs.Run.{Run, ran, begin, run}
@@ -29,9 +30,13 @@ visible T m p v k =
     (both (belongs T (m (moduleAt p)) v)
     (ltb k (wordsOf T (varType T v)))))
 
+-- the word at location a; 32 where it is unmarked (02, g)
+unfoldable pub wordThere : Memory → ℕ → ℕ
+wordThere m a = pick (marked m a) (65536 + m a) 32
+
 -- that word; 11 where they name none
 unfoldable pub look : Table → Memory → ℕ → ℕ → ℕ → ℕ
-look T m p v k = pick (visible T m p v k) (65536 + m (location p (offsetOf T (m (moduleAt p)) v + k))) 11
+look T m p v k = pick (visible T m p v k) (wordThere m (location p (offsetOf T (m (moduleAt p)) v + k))) 11
 
 -- ---- what the calls return, and the lent slices as they leave them
 
@@ -54,14 +59,15 @@ runLengths state page schedule answers = both (eqb state stateSize) (both (eqb p
 
 -- the verdict on a table in each edition, and the edition: the width w of its fields
 module _ (verdict : ℕ → List ℕ → ℕ) (w : ℕ) where
-  unfoldable pub beginRefusal : List ℕ → List ℕ → ℕ
-  beginRefusal table state = pick (eqb (length state) stateSize) (verdict w table) 1
+  -- the number is 0 or 1, the state has its length (02, g)
+  unfoldable pub beginRefusal : List ℕ → List ℕ → ℕ → ℕ
+  beginRefusal table state number = pick (both (eqb (length state) stateSize) (leb number 1)) (verdict w table) 1
 
-  unfoldable pub beginCall : List ℕ → List ℕ → Begun
-  beginCall table state =
-      pick (eqb (beginRefusal table state) 0)
-      (begun 0 (bytesOf stateWords (begin (tableOf w table))))
-      (begun (beginRefusal table state) state)
+  unfoldable pub beginCall : List ℕ → List ℕ → ℕ → Begun
+  beginCall table state number =
+      pick (eqb (beginRefusal table state number) 0)
+      (begun 0 (bytesOf stateWords (begin (tableOf w table) number)))
+      (begun (beginRefusal table state number) state)
 
   unfoldable pub runRefusal : List ℕ → List ℕ → List ℕ → List ℕ → List ℕ → ℕ
   runRefusal table state page schedule answers =

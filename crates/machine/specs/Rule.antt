@@ -7,7 +7,7 @@ use Rattle.basics.specs.Choice.{pick, both, either, allBelow, between}
 use Rattle.table.specs.Table.{Table}
 use Rattle.table.specs.Entries.{varMode, varType, owner, firstVar, vars, firstStmt, stmtLimit}
 use Rattle.machine.specs.Memory.{Memory}
-use Rattle.machine.specs.Layout.{location, statusAt, moduleAt, statementAt, frameAt, topAt, worksAt, holderAt, depthAt, createdAt, failureAt, callerFrame, callStatement, callerWorks, calledBlock}
+use Rattle.machine.specs.Layout.{location, statusAt, moduleAt, statementAt, frameAt, topAt, worksAt, holderAt, depthAt, createdAt, failureAt, numberAt, callerFrame, callStatement, callerWorks, calledBlock}
 use Rattle.machine.specs.Entries.{waits, Statement, skip, assign, localCall, processCall, create, start, opener, arm, endArms, write, blockEnd, noStatement, stmtAt}
 use Rattle.sizes.specs.Sizes.{moduleWords}
 use Rattle.machine.specs.Variables.{frameWords, offsetOf, isModule, isProcedure}
@@ -58,9 +58,12 @@ unfoldable pub worked : Memory → ℕ → ℕ → ℕ → ℕ → ℕ → Bool
 worked m p zero f w r = eqb w r
 worked m p (suc d) f w r = either (eqb w r) (worked m p d (callerFrame m p f) (callerWorks m p f) r)
 
--- the run has not failed, or by a number that there is
+-- the run has not failed, or by a number that there is; it was begun with 0 or 1 (02, g)
 unfoldable pub failureOk : Memory → Bool
 failureOk m = either (eqb (m failureAt) 0) (isFailure (m failureAt))
+
+unfoldable pub runOk : Memory → Bool
+runOk m = both (failureOk m) (leb (m numberAt) 1)
 
 module _ (T : Table) (m : Memory) where
   -- word k of the area of process p lies in a value parameter or local of one of its d calls, the innermost of which has its frame at f,
@@ -164,5 +167,5 @@ module _ (T : Table) (m : Memory) where
   unfoldable pub rule : Bool
   rule =
       both (between 1 64 (m createdAt))
-      (both (failureOk m)
+      (both (runOk m)
       (allBelow (m createdAt) (λ i. processOk (i + 1))))

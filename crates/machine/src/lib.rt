@@ -1,4 +1,6 @@
 // Access to a lent state by word: areas, control records and frames (01, The four calls; docs/STATE.md).
+pub mod marks;
+
 ghost use mathlib.Core.Path.{_≡_};
 ghost use Prim.Native.Nat.{_*_, _≤_, _<_};
 ghost use Rattle.machine.specs.Memory.{memoryOf, update};
@@ -6,8 +8,8 @@ ghost use Rattle.machine.specs.Outcomes.{isFailure};
 ghost use Rattle.machine.specs.Layout.{location, recordAt, stateWords, locations};
 ghost use Rattle.machine.specs.Lent.{State, Becomes};
 
-// The words of a state: 64 areas of 256 words, then 64 control records of 20.
-pub const STATE_WORDS: usize = 17664;
+// The words of a state: 64 areas of 256 words, 64 control records of 20, a mark for each word of the areas (02, g).
+pub const STATE_WORDS: usize = 18688;
 
 // The words of a control record, as Layout has them.
 pub const STATUS: usize = 0;
@@ -29,11 +31,16 @@ pub const DEPTH: usize = 7;
 pub const CREATED: usize = 8;
 
 pub const FAILURE: usize = 9;
+// And the number that the run was begun with.
+pub const NUMBER: usize = 10;
 
 // n is the number of a failure (01, Step answers).
 pub fn is_failure(n: usize) -> bool
     ensures { λ r. ⌜ r ≡ isFailure n ⌝ }
 {
+    if n == 31 {
+        return true;
+    }
     basics::between(16, 24, n)
 }
 

@@ -2,7 +2,7 @@
 -- The enums of the code as outcomes. Assumes nothing.
 use Prim.Native.Nat.{ℕ}
 use Rattle.words.specs.declared.values.Failure.{Failure}
-use Rattle.words.specs.declared.values.Failure.the-variants.{ResultRange, DivisorZero, IndexRange, EmptyReference, StartedTwice, DeviceAddress, AreaFull, NoValue, ProcessLimit}
+use Rattle.words.specs.declared.values.Failure.the-variants.{ResultRange, DivisorZero, IndexRange, EmptyReference, StartedTwice, DeviceAddress, AreaFull, NoValue, ProcessLimit, Unset}
 use Rattle.words.specs.declared.values.Value.{Value}
 use Rattle.words.specs.declared.values.Value.the-variants.{Word, Fail}
 use Rattle.words.specs.Outcomes.{Outcome, fail, word}
@@ -17,6 +17,7 @@ failureNumber DeviceAddress = 21
 failureNumber AreaFull = 22
 failureNumber NoValue = 23
 failureNumber ProcessLimit = 24
+failureNumber Unset = 31
 
 abbrev pub outcomeOf : Value → Outcome
 outcomeOf (Word w) = word w

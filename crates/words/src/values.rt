@@ -12,6 +12,7 @@ pub enum Failure {
     AreaFull,
     NoValue,
     ProcessLimit,
+    Unset,
 }
 
 pub enum Value {
@@ -33,5 +34,6 @@ pub fn number(f: Failure) -> u8
         Failure::AreaFull => 22,
         Failure::NoValue => 23,
         Failure::ProcessLimit => 24,
+        Failure::Unset => 31,
     }
 }
