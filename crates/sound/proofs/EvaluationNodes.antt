@@ -1,7 +1,7 @@
 -- Evaluation: each node in scope comes to a live place of its type or a value of it, by its sort, or to a listed failure. Assumes nothing.
 use Prim.Native.Nat.{ℕ, zero, suc, _+_, _-_, _*_, _≤_, _<_}
 use mathlib.Core.Path.{_≡_}
-use mathlib.Core.Bool.{false}
+use mathlib.Core.Bool.{false, not}
 use native.Mathlib.Omega.{arith}
 use native.Mathlib.Nat.{not-suc-le-zero}
 use lib.Dec.{eqb, ltb}
@@ -23,12 +23,13 @@ use Rattle.sizes.specs.Sizes.{wordsOf, offsetIn}
 use Rattle.sizes.proofs.Counting.{index-in}
 use Rattle.machine.specs.Memory.{Memory, wordsAt}
 use Rattle.machine.specs.Layout.{statusAt, createdAt}
+use Rattle.machine.specs.Marks.{allMarked}
 use Rattle.machine.specs.Outcomes.{Outcome, stuck, Operand, value, wordOf}
 use Rattle.machine.specs.Entries.{whole, nodeOf, nodeAt}
 use Rattle.machine.specs.Context.{contextOf, blockOf}
-use Rattle.machine.specs.Operands.{onRecord, onArray, outside, placeAt, fieldPlace, elementPlace, nodeOperand, operandAt, operand}
+use Rattle.machine.specs.Operands.{onRecord, onArray, outside, placeAt, fieldPlace, elementPlace, retrieved, nodeOperand, operandAt, operand}
 use Rattle.machine.proofs.Entries.{at-record, at-array}
-use Rattle.machine.proofs.Tests.{failure-i}
+use Rattle.machine.proofs.Tests.{failure-i, failure-unset}
 use Rattle.verdict.specs.Accepted.{Accepted}
 use Rattle.sound.specs.Claims.{PlaceLaws}
 use Rattle.sound.specs.Answers.{Small}
@@ -68,6 +69,13 @@ module _ (T : Table) (acc : Accepted T) (L : PlaceLaws T) (W : WordTable T) (m :
           (live-part T acc L σ (typeQ T σ) (j * wordsOf T (typeQ T σ)) (v .type)
           (further-element T L σ (typeP T σ) (typeQ T σ) (typeLow T σ) (typeHigh T σ) j (at-array T σ k) (index-in T σ i low high))
           m R p some made s a v)
+
+  -- the value of a live place, or 31
+  retrieved-good : (a σ : ℕ) → Live T m p σ a → GoodValue T m σ (retrieved T m page (contextOf m p) a σ)
+  unfolding retrieved
+  retrieved-good a σ v =
+      on-fail (GoodValue T m σ) no-value (not (allMarked m a (wordsOf T σ))) 31 _ failure-unset
+      (λ e. a-value (wordsAt m a (wordsOf T σ)) (L .retrieved m σ a (v .type) (v .value)) (words-small m (ms .small) a (wordsOf T σ)))
 
   module _ (scope : ℕ → Type 0) (S : Scoping T (blockOf m p) scope) where
     -- one node, where r gives the outcomes of those before it
@@ -119,11 +127,10 @@ module _ (T : Table) (acc : Accepted T) (L : PlaceLaws T) (W : WordTable T) (m :
       unfolding nodeOf nodeOperand
       value-node e =
           let v = ranged.value-variable T (acc .numbers) n l e in
-          let σ : ℕ = typeOf T (nodeP T n) in
           rw (value-type T n l (v .below) e, node-is T n 4 l e)
           (on-place (GoodValue T m (typeOf T (nodeP T n))) no-value T m p (typeOf T (nodeP T n)) (r (nodeP T n)) _
           (variable-before (omega arith) v)
-          (λ a w. a-value (wordsAt m a (wordsOf T σ)) (L .retrieved m σ a (w .type) (w .value)) (words-small m (ms .small) a (wordsOf T σ))))
+          (λ a w. retrieved-good a (typeOf T (nodeP T n)) w))
 
       unary-node : nodeKind T n ≡ 5 → GoodValue T m (typeOf T n) (nodeOperand T m page (contextOf m p) r (nodeAt T n))
       unfolding nodeOf nodeOperand

@@ -22,6 +22,7 @@ use Rattle.typing.proofs.Promise.{Arguments}
 use Rattle.typing.proofs.Promise as typing
 use Rattle.machine.specs.Memory.{Memory, update}
 use Rattle.machine.specs.Layout.{statusAt, statementAt, worksAt, holderAt, depthAt, createdAt}
+use Rattle.machine.specs.Marks.{marked}
 use Rattle.machine.specs.Outcomes.{Outcome, ok, fail, andThen, need, failWhere, wordOf, isFailure}
 use Rattle.machine.specs.Entries.{localCall, processCall, statementOf, stmtAt}
 use Rattle.machine.specs.Variables.{frameWords, isProcedure}
@@ -29,11 +30,11 @@ use Rattle.machine.specs.Processes.{onModule, onProcess, refers, onReference}
 use Rattle.machine.specs.Values.{typeHolds, holdsAt, holds}
 use Rattle.machine.specs.Context.{Context, contextOf, blockOf}
 use Rattle.machine.specs.Operands.{operand}
-use Rattle.machine.specs.Calls.{arguments, topAfter, pushed, call}
+use Rattle.machine.specs.Calls.{arguments, topAfter, pushed, frameMarked, call}
 use Rattle.machine.specs.Statements.{Effect, effect, goTo, goOn, wait, moved, doAssign, doLocalCall, free, doProcessCall, doCreate, doStart, doWrite, perform}
 use Rattle.machine.specs.Rule as state
 use Rattle.machine.proofs.Entries.{at-process}
-use Rattle.machine.proofs.Tests.{failure-i}
+use Rattle.machine.proofs.Tests.{failure-i, failure-unset}
 use Rattle.words.specs.Numbers.{intOf}
 use Rattle.words.specs.Devices.{isDevice}
 use Rattle.verdict.specs.Accepted.{Accepted}
@@ -137,10 +138,11 @@ module _ (T : Table) (acc : Accepted T) (L : PlaceLaws T) (W : WordTable T) (m :
   on-reference : (τ a : ℕ) (f : ℕ → Outcome Effect) → Live T m p τ a → typeKind T τ ≡ 3 → (refers m (typeP T τ) (m a) ≡ true → Performed T m page p (f (m a))) → Performed T m page p (onReference m a (typeP T τ) f)
   unfolding onReference
   on-reference τ a f v k h =
-      on-fail (Performed T m page p) on-failed (eqb (m a) 0) 19 _ (failure-i 19 (omega arith) (omega arith))
+      on-fail (Performed T m page p) on-failed (not (marked m a)) 31 _ failure-unset
+      (λ u. on-fail (Performed T m page p) on-failed (eqb (m a) 0) 19 _ (failure-i 19 (omega arith) (omega arith))
       (λ e.
       let g = reference T m p τ a v k (eqb-false (m a) 0 e) in
-      on-need (Performed T m page p) on-failed (refers m (typeP T τ) (m a)) _ g (h g))
+      on-need (Performed T m page p) on-failed (refers m (typeP T τ) (m a)) _ g (h g)))
 
   -- calls
   shallow : (q : ℕ) → topAfter T m page (contextOf m p) q ≤ 256 → m (depthAt p) < 64
@@ -150,7 +152,7 @@ module _ (T : Table) (acc : Accepted T) (L : PlaceLaws T) (W : WordTable T) (m :
       omega arith
 
   pushes : (u : Memory) (q r : ℕ) (ws : List ℕ) → length ws ≤ frameWords T q
-      → (topAfter T m page (contextOf m p) q ≤ 256 → m (depthAt p) < 64 → Performed T m page p (ok (effect 0 (pushed T m page (contextOf m p) u q r ws) page)))
+      → (topAfter T m page (contextOf m p) q ≤ 256 → m (depthAt p) < 64 → Performed T m page p (ok (effect 0 (frameMarked T m page (contextOf m p) (pushed T m page (contextOf m p) u q r ws) q ws) page)))
       → Performed T m page p (moved T m page (contextOf m p) (call T m page (contextOf m p) u q r ws))
   unfolding moved call andThen need failWhere contextOf
   pushes u q r ws a h =

@@ -16,20 +16,22 @@ use Rattle.numbers.proofs.TypePromise.{process-module}
 use Rattle.scopes.specs.Scopes.{scoped}
 use Rattle.sizes.specs.Sizes.{moduleWords}
 use Rattle.sizes.proofs.Promise.{module-most}
-use Rattle.machine.specs.Memory.{Memory, update}
+use Rattle.machine.specs.Memory.{Memory, update, store}
 use Rattle.machine.specs.Layout.{location, statusAt, moduleAt, statementAt, frameAt, topAt, worksAt, holderAt, depthAt, createdAt, failureAt}
+use Rattle.machine.specs.Marks.{mark, fresh}
 use Rattle.machine.specs.Outcomes.{Outcome, ok, fail, need, failWhere, isFailure}
 use Rattle.machine.specs.Entries.{localCall, processCall, stmtAt}
 use Rattle.machine.specs.Variables.{frameWords}
 use Rattle.machine.specs.Processes.{refers, created, started}
 use Rattle.machine.specs.Context.{contextOf, blockOf}
-use Rattle.machine.specs.Calls.{frame, topAfter, pushed, call, return}
+use Rattle.machine.specs.Calls.{frame, topAfter, pushed, frameMarked, call, return}
 use Rattle.machine.specs.Statements.{Effect, effect, perform}
 use Rattle.machine.specs.Step.{settled, answers, proceeds, exists, turn, step}
 use Rattle.machine.specs.Step as steps
 use Rattle.machine.specs.Rule.{liesIn, rule}
 use Rattle.machine.proofs.Tests.{range-low, range-high, range-i, failure-byte}
 use Rattle.machine.proofs.Entries.{at-process}
+use Rattle.machine.proofs.MarkLaws.{SameWords, same-words, same-marks, same-update}
 use Rattle.verdict.specs.Accepted.{Accepted}
 use Rattle.sound.specs.Claims.{PlaceLaws, Started}
 use Rattle.sound.specs.Answers.{Small, Listed, regular, failure, Sound}
@@ -39,6 +41,7 @@ use Rattle.sound.specs.Reached.{WordTable}
 use Rattle.sound.specs.Evaluated.{SmallWords, Live, Pushable, Passing, Performed, goes, holds-on, gives-up, assigns, calls, serves, waits, creates, starts, writes, ends, returns, fails}
 use Rattle.sound.proofs.Ruled.{ruled, stands, contexts}
 use Rattle.sound.proofs.StoresMemory.{update-small, store-small}
+use Rattle.sound.proofs.StoresMarks.{marks-small, frame-marks-small, marks-rule}
 use Rattle.sound.proofs.StoresStanding.{stand-small}
 use Rattle.sound.proofs.StoresChains.{created-low, created-high, created-i}
 use Rattle.sound.proofs.StoresRecords.{goto-rule, fail-rule}
@@ -87,7 +90,7 @@ module _ (T : Table) (acc : Accepted T) (inner : scoped T ≡ true) (L : PlaceLa
 
   -- a pushed frame
   module _ (q : ℕ) (ws : List ℕ) (P : Pushable T m page p q ws) where
-    call-is : (s : Memory) (r : ℕ) → call T m page (contextOf m p) s q r ws ≡ ok (pushed T m page (contextOf m p) s q r ws)
+    call-is : (s : Memory) (r : ℕ) → call T m page (contextOf m p) s q r ws ≡ ok (frameMarked T m page (contextOf m p) (pushed T m page (contextOf m p) s q r ws) q ws)
     unfolding call need failWhere contextOf
     call-is s r = rw (le-leb (length ws) (frameWords T q) (P .long), le-ltb 256 (topAfter T m page (contextOf m p) q) (P .room), lt-ltb (m (depthAt p)) 64 (P .deep))
 
@@ -102,14 +105,15 @@ module _ (T : Table) (acc : Accepted T) (inner : scoped T ≡ true) (L : PlaceLa
         (small-cons q _ (omega arith)
         (small-append ws _ (bound-small T m p (params T q) (firstVar T q) ws (P .bound)) (zeros-small (frameWords T q - length ws))))))
 
-    pushed-small : (s : Memory) (r : ℕ) → Small s → r < 65536 → Small (pushed T m page (contextOf m p) s q r ws)
+    pushed-small : (s : Memory) (r : ℕ) → Small s → r < 65536 → Small (frameMarked T m page (contextOf m p) (pushed T m page (contextOf m p) s q r ws) q ws)
     unfolding pushed contextOf
     pushed-small s r v l =
         let t = P .room in
         let d = P .deep in
-        stand-small _ p (firstStmt T q) (m (topAt p)) (topAfter T m page (contextOf m p) q) r (m (depthAt p) + 1)
+        frame-marks-small T m page (contextOf m p) (pushed T m page (contextOf m p) s q r ws) q ws
+        (stand-small _ p (firstStmt T q) (m (topAt p)) (topAfter T m page (contextOf m p) q) r (m (depthAt p) + 1)
         (store-small s (location p (m (topAt p))) (frame T m page (contextOf m p) q ws) v (λ k g. frame-small .words k))
-        (W .cells 3 q 5) (ms .small (topAt p)) (omega arith) l (omega arith)
+        (W .cells 3 q 5) (ms .small (topAt p)) (omega arith) l (omega arith))
 
   -- a process that is referred to
   module _ (μ r : ℕ) (e : refers m μ r ≡ true) where
@@ -129,30 +133,39 @@ module _ (T : Table) (acc : Accepted T) (inner : scoped T ≡ true) (L : PlaceLa
     refers-small = let x = R .most in let y = refers-made in omega arith
 
   -- calls
-  call-kept : (q : ℕ) (ws : List ℕ) (c n : ℕ) → stmtAt T (m (statementAt p)) ≡ localCall q c n → owner T q ≡ owner T (blockOf m p) → (P : Pushable T m page p q ws) → Kept T (ok (effect 0 (pushed T m page (contextOf m p) m q (m (worksAt p)) ws) page))
+  call-kept : (q : ℕ) (ws : List ℕ) (c n : ℕ) → stmtAt T (m (statementAt p)) ≡ localCall q c n → owner T q ≡ owner T (blockOf m p) → (P : Pushable T m page p q ws) → Kept T (ok (effect 0 (frameMarked T m page (contextOf m p) (pushed T m page (contextOf m p) m q (m (worksAt p)) ws) q ws) page))
   call-kept q ws c n is own P =
       let k = stands T acc m p some made (R .process p some made) (S .started) in
       kept 0 _ page (regular (omega arith))
       (entered T _ _ (local-call-rule T acc L m page p S q ws (fills T m p q ws (P .bound)) (P .there) (P .procedure) (P .calling) c n is (own ∙ sym (k .owned))) (call-is q ws P m (m (worksAt p))))
       (pushed-small q ws P m (m (worksAt p)) ms (ms .small (worksAt p))) ps
 
-  serve-kept : (r q : ℕ) (ws : List ℕ) (i c n : ℕ) → stmtAt T (m (statementAt p)) ≡ processCall i q c n → (m (statusAt r) ≡ 1 → ⊥) → m (holderAt r) ≡ 0 → refers m (owner T q) r ≡ true → (P : Pushable T m page p q ws) → Kept T (ok (effect 0 (pushed T m page (contextOf m p) (update m (holderAt r) p) q r ws) page))
+  serve-kept : (r q : ℕ) (ws : List ℕ) (i c n : ℕ) → stmtAt T (m (statementAt p)) ≡ processCall i q c n → (m (statusAt r) ≡ 1 → ⊥) → m (holderAt r) ≡ 0 → refers m (owner T q) r ≡ true → (P : Pushable T m page p q ws) → Kept T (ok (effect 0 (frameMarked T m page (contextOf m p) (pushed T m page (contextOf m p) (update m (holderAt r) p) q r ws) q ws) page))
   serve-kept r q ws i c n is begun idle e P =
       let two = refers-two (owner T q) r e in
       kept 0 _ page (regular (omega arith))
       (entered T _ _ (process-call-rule T acc L m page p S q ws (fills T m p q ws (P .bound)) (P .there) (P .procedure) (P .calling) i c n is r (omega arith) (refers-made (owner T q) r e) idle begun (sym (refers-module (owner T q) r e))) (call-is q ws P (update m (holderAt r) p) r))
       (pushed-small q ws P (update m (holderAt r) p) r (update-small m (holderAt r) p ms process-small) (refers-small (owner T q) r e)) ps
 
+  -- the next statement, from a state with other marks
+  goes-on-rule : (s u : Memory) → SameWords s u → rule T (update s (statementAt p) (m (statementAt p) + 1)) ≡ true → rule T (update u (statementAt p) (m (statementAt p) + 1)) ≡ true
+  goes-on-rule s u h e = marks-rule T acc L _ _ (same-update s u (statementAt p) (m (statementAt p) + 1) h) e
+
+  goes-on-small : (u : Memory) → liesIn T (blockOf m p) (m (statementAt p) + 1) ≡ true → Small u → Small (update u (statementAt p) (m (statementAt p) + 1))
+  goes-on-small u on h = update-small u (statementAt p) (m (statementAt p) + 1) h (lies-small T W (blockOf m p) (m (statementAt p) + 1) on)
+
   -- creation and start
   create-kept : (τ a : ℕ) → Passing T m p → liesIn T (blockOf m p) (m (statementAt p) + 1) ≡ true → Live T m p τ a → typeKind T τ ≡ 3 → m createdAt < 64
-      → Kept T (ok (effect 0 (update (update (created m (m createdAt + 1) (typeP T τ)) a (m createdAt + 1)) (statementAt p) (m (statementAt p) + 1)) page))
+      → Kept T (ok (effect 0 (update (mark (fresh (update (created m (m createdAt + 1) (typeP T τ)) a (m createdAt + 1)) (location (m createdAt + 1) 0) 256) a 1) (statementAt p) (m (statementAt p) + 1)) page))
   create-kept τ a y on l k room =
       let μ = process-module T (acc .numbers) τ (l .type) k in
       let n : ℕ = m createdAt + 1 in
       let o = R .some in
+      let s : Memory = update (created m n (typeP T τ)) a n in
       kept 0 _ page (regular (omega arith))
-      (create-rule T acc L m p S y (typeP T τ) τ a (m (statementAt p) + 1) room (μ .0) (μ .1) (l .alive) (reference-value T (created m n (typeP T τ)) n τ (typeP T τ) (at-process T τ k) (created-refers m n (typeP T τ) (omega arith) (omega arith))) on)
-      (update-small _ (statementAt p) (m (statementAt p) + 1) (update-small _ a n (created-small m n (typeP T τ) (omega arith) (omega arith) ms (declared-small T W τ 1)) (omega arith)) (lies-small T W (blockOf m p) (m (statementAt p) + 1) on)) ps
+      (goes-on-rule s _ (same-marks s _ a 1 true (same-marks s s (location n 0) 256 _ (same-words s)))
+      (create-rule T acc L m p S y (typeP T τ) τ a (m (statementAt p) + 1) room (μ .0) (μ .1) (l .alive) (reference-value T (created m n (typeP T τ)) n τ (typeP T τ) (at-process T τ k) (created-refers m n (typeP T τ) (omega arith) (omega arith))) on))
+      (goes-on-small _ on (marks-small _ _ _ _ (marks-small _ _ _ _ (update-small _ a n (created-small m n (typeP T τ) (omega arith) (omega arith) ms (declared-small T W τ 1)) (omega arith))))) ps
 
   started-small : (r μ : ℕ) (ws : List ℕ) → refers m μ r ≡ true → μ < blockCount T → blockKind T μ ≡ 1 → SmallWords ws → Small (started T m r μ ws)
   unfolding started
@@ -179,18 +192,20 @@ module _ (T : Table) (acc : Accepted T) (inner : scoped T ≡ true) (L : PlaceLa
       (update-small _ (statementAt p) c (update-small m (holderAt (m (worksAt p))) p ms process-small) (lies-small T W (blockOf m p) c l)) ps
   performed-kept alone _ (gives-up y) = kept 1 _ page (regular (omega arith)) (wait-rule T acc L m p S alone y) (update-small m (holderAt (m (worksAt p))) 0 ms (omega arith)) ps
   performed-kept alone _ (assigns τ a ws y on l v w) =
-      kept 0 _ page (regular (omega arith)) (assign-rule T acc L m p S τ a (m (statementAt p) + 1) ws y (l .alive) v on)
-      (update-small _ (statementAt p) (m (statementAt p) + 1) (store-small m a ws ms (λ k g. w .words k)) (lies-small T W (blockOf m p) (m (statementAt p) + 1) on)) ps
+      kept 0 _ page (regular (omega arith))
+      (goes-on-rule (store m a ws) _ (same-marks _ _ a (length ws) true (same-words _)) (assign-rule T acc L m p S τ a (m (statementAt p) + 1) ws y (l .alive) v on))
+      (goes-on-small _ on (marks-small _ _ _ _ (store-small m a ws ms (λ k g. w .words k)))) ps
   performed-kept alone _ (calls q ws {c} {n} is own P) = call-kept q ws c n is own P
   performed-kept alone _ (serves r q ws {i} {c} {n} is e t h P) = serve-kept r q ws i c n is t h e P
   performed-kept alone _ waits = kept 1 m page (regular (omega arith)) (S .ruled) ms ps
   performed-kept alone _ (creates τ a y on l k room) = create-kept τ a y on l k room
   performed-kept alone _ (starts r μ ws y on e t there kind b len) =
-      kept 0 _ page (regular (omega arith)) (start-rule T acc L m p S y r μ (m (statementAt p) + 1) ws e t (fills T m p μ ws b) on)
-      (update-small _ (statementAt p) (m (statementAt p) + 1) (started-small r μ ws e there kind (bound-small T m p (params T μ) (firstVar T μ) ws b)) (lies-small T W (blockOf m p) (m (statementAt p) + 1) on)) ps
+      kept 0 _ page (regular (omega arith))
+      (goes-on-rule (started T m r μ ws) _ (same-marks _ _ (location r 0) (length ws) true (same-words _)) (start-rule T acc L m p S y r μ (m (statementAt p) + 1) ws e t (fills T m p μ ws b) on))
+      (goes-on-small _ on (marks-small _ _ _ _ (started-small r μ ws e there kind (bound-small T m p (params T μ) (firstVar T μ) ws b)))) ps
   performed-kept alone _ (writes a v n on x y d) =
       kept 0 _ _ (regular (omega arith)) (goto-rule T acc L m p (m (statementAt p) + 1) S n on)
-      (update-small m (statementAt p) (m (statementAt p) + 1) ms (lies-small T W (blockOf m p) (m (statementAt p) + 1) on)) (update-small page _ v ps y)
+      (goes-on-small m on ms) (update-small page _ v ps y)
   performed-kept alone _ (ends y d) =
       kept 2 _ page (regular (omega arith)) (end-rule T acc L m p S y)
       (update-small _ (holderAt p) 0 (update-small m (statusAt p) 3 ms (omega arith)) (omega arith)) ps

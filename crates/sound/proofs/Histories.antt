@@ -419,12 +419,13 @@ module _ (verdict : ℕ → List ℕ → ℕ) (w : ℕ) where
             ∙ feed-take (tableOf w t) s n (asked (history verdict w s zs))
 
     -- begin
-    pub begun-at : (slice : List ℕ) → BeginLaw (tableOf w t) → begunResult (beginCall verdict w t slice) ≡ 0 → begunWith verdict w t slice ≡ stateBytes (begin (tableOf w t))
+    pub begun-at : (slice : List ℕ) (number : ℕ) → begunResult (beginCall verdict w t slice number) ≡ 0 → begunWith verdict w t slice number ≡ stateBytes (begin (tableOf w t) number)
     unfolding begunWith begunState beginCall begunResult stateBytes
-    begun-at slice l e =
-        cases (eqb (beginRefusal verdict w t slice) 0)
+    begun-at slice number e =
+        cases (eqb (beginRefusal verdict w t slice number) 0)
         (λ z. rw z)
         (λ z. absurd (eqb-false _ 0 z (rw z at e)))
 
-    pub at-begin : (slice : List ℕ) → BeginLaw (tableOf w t) → begunResult (beginCall verdict w t slice) ≡ 0 → At (tableOf w t) (begunWith verdict w t slice)
-    at-begin slice l e = record { memory = begin (tableOf w t); is = begun-at slice l e; reached = l .reached }
+    pub at-begin : (slice : List ℕ) (number : ℕ) → number ≤ 1 → BeginLaw (tableOf w t) → begunResult (beginCall verdict w t slice number) ≡ 0
+        → At (tableOf w t) (begunWith verdict w t slice number)
+    at-begin slice number h l e = record { memory = begin (tableOf w t) number; is = begun-at slice number e; reached = l .reached number h }

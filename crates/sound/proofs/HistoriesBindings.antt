@@ -1,7 +1,7 @@
 -- Live places and the links and var parameters of frames are apart. Assumes nothing.
 use Prim.Native.Nat.{ℕ, suc, _+_, _-_, _*_, _/_, _%_, _≤_, _<_}
 use mathlib.Core.Path.{_≡_, refl, sym, _∙_, subst}
-use mathlib.Core.Bool.{true}
+use mathlib.Core.Bool.{Bool, true}
 use mathlib.Core.Logic.{_⊎_, inl, inr}
 use mathlib.Core.List.{List, _++_}
 use native.Mathlib.Omega.{arith}
@@ -17,10 +17,11 @@ use Rattle.sizes.specs.Sizes.{wordsOf, moduleWords}
 use Rattle.machine.specs.Memory.{Memory, update, within, store, clear}
 use Rattle.machine.specs.Layout.{location, recordAt, statusAt, moduleAt, frameAt, topAt, worksAt, holderAt, depthAt, createdAt, failureAt, callerFrame, calledBlock, locations}
 use Rattle.machine.specs.Variables.{frameWords}
+use Rattle.machine.specs.Marks.{setMarks}
 use Rattle.machine.specs.Outcomes.{Outcome, ok, fail, stuck}
 use Rattle.machine.specs.Entries.{Statement, skip, assign, localCall, processCall, create, start, opener, arm, endArms, write, blockEnd, noStatement, stmtAt}
 use Rattle.machine.specs.Context.{contextOf}
-use Rattle.machine.specs.Calls.{standing, frame, topAfter, pushed, popped, returns, return}
+use Rattle.machine.specs.Calls.{standing, frame, topAfter, pushed, frameMarked, popped, returns, return}
 use Rattle.machine.specs.Processes.{refers, created, started}
 use Rattle.machine.specs.Statements.{Effect, effect, perform}
 use Rattle.machine.specs.Step.{done, settled, answers, performs, proceeds, exists, turn, step}
@@ -28,6 +29,7 @@ use Rattle.sizes.proofs.Counting.{words-simple}
 use Rattle.sound.specs.Evaluated.{Live, Pushable, Performed}
 use Rattle.machine.specs.Values.{partOfBlock}
 use Rattle.machine.specs.Rule.{isCreated, owns, lives}
+use Rattle.machine.proofs.MarkLaws.{SameWords, same-words, same-marks, location-plain}
 use Rattle.machine.proofs.Outcomes.{g-test, g-need, g-pick}
 use Rattle.verdict.specs.Accepted.{Accepted}
 use Rattle.sound.specs.Claims.{PlaceLaws}
@@ -35,6 +37,7 @@ use Rattle.sound.specs.Ruled.{Framed, Chained, called, Ruled}
 use Rattle.sound.specs.InUse.{Created, Call, innermost, caller}
 use Rattle.sound.specs.Bindings.{FrameWord, link, bound, BindingsKept}
 use Rattle.sound.proofs.Ruled.{block-there, block-kind}
+use Rattle.sound.proofs.StoresMarks.{frame-marks}
 use Rattle.sound.proofs.StoresBlocks.{module-variables, module-fits}
 use Rattle.sound.proofs.StoresChains.{chain-over, created-low, created-high}
 use Rattle.sound.proofs.StoresProcesses.{chain-fits}
@@ -232,6 +235,20 @@ module _ (T : Table) (ok : Accepted T) (L : PlaceLaws T) (m : Memory) (h : Ruled
       let u = h .most in
       rw (ne-eqb ((p - 1) * 256 + j) (locations + (q - 1) * 20 + k) (λ z. omega arith)) (g p d f j c x)
 
+  -- frames lie in areas
+  k-same : (s u : Memory) → SameWords s u → K s → K u
+  unfolding K
+  k-same s u w g p d f j c x =
+      let o = spot p d f j c x in
+      let a = o .made in
+      let b = o .below in
+      let e = o .fits in
+      let y = h .most in
+      w .plain (location p j) (location-plain p j (o .some) (omega arith) (omega arith)) ∙ g p d f j c x
+
+  k-marks : (s : Memory) (a n : ℕ) (v : Bool) → K s → K (setMarks s a n v)
+  k-marks s a n v g = k-same s _ (same-marks s s a n v (same-words s)) g
+
   k-standing : (s : Memory) (q c f t w d : ℕ) → K s → K (standing s q c f t w d)
   unfolding standing
   k-standing s q c f t w d g = k-record _ q 7 d (k-record _ q 5 w (k-record _ q 4 t (k-record _ q 3 f (k-record s q 2 c g))))
@@ -284,6 +301,9 @@ module _ (T : Table) (ok : Accepted T) (L : PlaceLaws T) (m : Memory) (h : Ruled
         let e : length (ws ++ replicate (frameWords T q - length ws) 0) ≡ frameWords T q = length-append ws (replicate (frameWords T q - length ws) 0) ∙ rw (length-replicate {A = ℕ} (frameWords T q - length ws) 0) (omega arith) in
         k-standing _ p _ _ _ _ _ (k-push s p _ some (omega (arith, a, b, e)) g)
 
+    k-called : (s : Memory) (q r : ℕ) (ws : List ℕ) → Pushable T m page p q ws → K s → K (frameMarked T m page (contextOf m p) (pushed T m page (contextOf m p) s q r ws) q ws)
+    k-called s q r ws P g = k-same _ _ (frame-marks T m page (contextOf m p) _ q ws) (k-pushed s q r ws P g)
+
     k-created : (s : Memory) (n μ : ℕ) → m createdAt < n → K s → K (created s n μ)
     unfolding created
     k-created s n μ l g =
@@ -335,15 +355,16 @@ module _ (T : Table) (ok : Accepted T) (L : PlaceLaws T) (m : Memory) (h : Ruled
     performed-keeping _ (Performed.goes c y l) = keeps (k-record m p 2 c k-none)
     performed-keeping _ (Performed.holds-on c l) = keeps (k-record _ p 2 c (k-record m _ 6 p k-none))
     performed-keeping _ (Performed.gives-up y) = keeps (k-record m _ 6 0 k-none)
-    performed-keeping _ (Performed.assigns τ a ws y l live v w) = keeps (k-record _ p 2 _ (k-live m τ a ws live (v .long) k-none))
-    performed-keeping _ (Performed.calls q ws i e P) = keeps (k-pushed m q _ ws P k-none)
-    performed-keeping _ (Performed.serves r q ws i e s u P) = keeps (k-pushed _ q r ws P (k-record m r 6 p k-none))
+    performed-keeping _ (Performed.assigns τ a ws y l live v w) = keeps (k-record _ p 2 _ (k-marks _ _ _ _ (k-live m τ a ws live (v .long) k-none)))
+    performed-keeping _ (Performed.calls q ws i e P) = keeps (k-called m q _ ws P k-none)
+    performed-keeping _ (Performed.serves r q ws i e s u P) = keeps (k-called _ q r ws P (k-record m r 6 p k-none))
     performed-keeping _ Performed.waits = keeps k-none
     performed-keeping _ (Performed.creates τ a y l live k c) =
         let w : wordsOf T τ ≡ 1 = words-simple T τ (λ z. omega arith) (λ z. omega arith) in
-        keeps (k-record _ p 2 _ (k-update _ a _ (λ p' d f j u x. rw w at (live-apart p τ a some made started-p (live .alive) p' d f j u x)) (k-created m (m createdAt + 1) _ (omega arith) k-none)))
+        keeps (k-record _ p 2 _ (k-marks _ a 1 _ (k-marks _ (location (m createdAt + 1) 0) 256 _
+        (k-update _ a _ (λ p' d f j u x. rw w at (live-apart p τ a some made started-p (live .alive) p' d f j u x)) (k-created m (m createdAt + 1) _ (omega arith) k-none)))))
     performed-keeping _ (Performed.starts r μ ws y l e s t k b w) =
-        keeps (k-record _ p 2 _ (k-started r μ ws (refers-some μ r e) s w))
+        keeps (k-record _ p 2 _ (k-marks _ _ _ _ (k-started r μ ws (refers-some μ r e) s w)))
       where
         refers-some : (μ r : ℕ) → refers m μ r ≡ true → 1 ≤ r
         refers-some μ r e = let u = leb-true 2 r (both-l _ _ (both-l _ _ e)) in omega arith

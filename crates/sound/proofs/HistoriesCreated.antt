@@ -1,7 +1,7 @@
 -- A step creates a process exactly if it carries out a create, and keeps those created before (11.4). Assumes nothing.
 use Prim.Native.Nat.{ℕ, _+_, _-_, _≤_, _<_}
 use mathlib.Core.Path.{_≡_, refl, ap, _∙_}
-use mathlib.Core.Bool.{true, false}
+use mathlib.Core.Bool.{Bool, true, false}
 use mathlib.Core.List.{List, [], _∷_, _++_}
 use native.Mathlib.Omega.{arith}
 use lib.Dec.{eqb}
@@ -13,6 +13,7 @@ use Rattle.basics.proofs.Bools.{both-i, both-false-l, both-false-r}
 use Rattle.table.specs.Table.{Table}
 use Rattle.machine.specs.Memory.{Memory, memoryOf, update}
 use Rattle.machine.specs.Layout.{location, statusAt, statementAt, topAt, worksAt, holderAt, createdAt, failureAt}
+use Rattle.machine.specs.Marks.{setMarks}
 use Rattle.machine.specs.Outcomes.{Outcome, ok, fail, stuck, andThen, place, isFailure}
 use Rattle.machine.specs.Entries.{processType, typeAt, waits, Statement, create}
 use Rattle.machine.specs.Context.{Context, contextOf}
@@ -22,6 +23,7 @@ use Rattle.machine.specs.Calls.{arguments, frame, topAfter, pushed, call, poppe
 use Rattle.machine.specs.Processes.{onProcess, onReference, started}
 use Rattle.machine.specs.Statements.{Effect, effect, goTo, goOn, wait, moved, doLocalCall, free, doProcessCall, doStart, perform}
 use Rattle.machine.specs.Step.{done, settled, answers, performs, proceeds, exists, turn, step}
+use Rattle.machine.proofs.MarkLaws.{same-words, same-marks}
 use Rattle.machine.proofs.Tests.{range-low, range-high, failure-low}
 use Rattle.machine.proofs.Outcomes.{g-then, g-test, g-need, g-where, g-pick, g-place, g-module}
 use Rattle.sound.specs.Conditions.{ownBlock}
@@ -29,11 +31,12 @@ use Rattle.sound.specs.Carried.{Inside, nextArm, lastEnd, Carries, skips
 use Rattle.sound.specs.Rows.{next}
 use Rattle.sound.specs.Histories.{Seen, finally, Threaded, Every}
 use Rattle.sound.specs.Created.{isCreate, createsOne, creations, NewProcess, ProcessesKept, Creating, same, creates, CreatedKept}
+use Rattle.sound.proofs.StoresMarks.{frame-marks}
 use Rattle.sound.proofs.RowsListed.{statement-listed}
 use Rattle.sound.proofs.RowsStatements.{Leaves, gives, Reports, went, waited, ended, failed, strays, reports}
 use Rattle.sound.proofs.HistoriesOperands.{place-fits, place-area, value-long}
 use Rattle.sound.proofs.HistoriesSized.{room}
-use Rattle.sound.proofs.HistoriesRecords.{location-end, Still, still, still-record, still-status, still-store, still-standing, new-process, others-kept, mark-kept, fail-count, fail-kept, refers-most}
+use Rattle.sound.proofs.HistoriesRecords.{location-end, Still, still, still-record, still-status, still-store, still-standing, still-same, new-same, kept-same, mark-same, made-marks, new-process, others-kept, mark-kept, fail-count, fail-kept, refers-most}
 
 -- ---- statements
 
@@ -50,6 +53,9 @@ module _ (T : Table) (m page : Memory) (x : Context) where
 
   holder-still : (q v : ℕ) → Still m (update m (holderAt q) v)
   holder-still q v = still-record m m (still m) q 6 v (omega arith)
+
+  marks-still : (s : Memory) (a n : ℕ) (v : Bool) → Still m s → Still m (setMarks s a n v)
+  marks-still s a n v h = still-same m s h _ (same-marks s s a n v (same-words s))
 
   goes-still : (s : Memory) (c : ℕ) → Still m s → Still m (update s (statementAt (x .process)) c)
   goes-still s c h = still-record m s h (x .process) 2 c (omega arith)
@@ -90,7 +96,7 @@ module _ (T : Table) (m page : Memory) (x : Context) where
     unfolding call
     within-call s q r ws h =
         g-test Within none _ _ (λ l. g-where Within none _ 22 _ (λ e. fails)
-        (λ e. g-need Within none _ _ (is-still (pushed-still s q r ws h (leb-true _ _ l) (ltb-false 256 _ e)))))
+        (λ e. g-need Within none _ _ (is-still (still-same m _ (pushed-still s q r ws h (leb-true _ _ l) (ltb-false 256 _ e)) _ (frame-marks T m page x _ q ws)))))
 
     local-keeps : (q c d : ℕ) → Keeping (doLocalCall T m page x q c d)
     unfolding doLocalCall
@@ -103,11 +109,11 @@ module _ (T : Table) (m page : Memory) (x : Context) where
     process-keeps a q c d =
         g-place Keeping none (operand T m page x a) _ (λ f e. fails)
         (λ i τ e. g-module Keeping none (typeAt T τ) _ (λ μ t. g-need Keeping none _ _
-        (g-where Keeping none _ 19 _ (λ z. fails) (λ z. g-need Keeping none _ _
+        (g-where Keeping none _ 31 _ (λ z. fails) (λ z. g-where Keeping none _ 19 _ (λ z. fails) (λ z. g-need Keeping none _ _
         (cases (free m (m i))
         (λ k. rw k (g-then Keeping none (arguments T m page x q c d) _ (λ f u. fails)
         (λ ws u. moved-keeps _ (within-call _ q (m i) ws (holder-still (m i) _)))))
-        (λ k. rw k (keeps (still m))))))))
+        (λ k. rw k (keeps (still m)))))))))
 
     started-still : (r μ : ℕ) (ws : List ℕ) → r ≤ 64 → m (statusAt r) ≡ 1 → length ws ≤ 256 → Still m (started T m r μ ws)
     unfolding started
@@ -120,10 +126,10 @@ module _ (T : Table) (m page : Memory) (x : Context) where
     start-keeps a c d =
         g-place Keeping none (operand T m page x a) _ (λ f e. fails)
         (λ i τ e. g-module Keeping none (typeAt T τ) _ (λ μ t.
-        g-where Keeping none _ 19 _ (λ z. fails) (λ z. g-test Keeping none _ _ (λ r.
+        g-where Keeping none _ 31 _ (λ z. fails) (λ z. g-where Keeping none _ 19 _ (λ z. fails) (λ z. g-test Keeping none _ _ (λ r.
         g-where Keeping none _ 20 _ (λ u. fails) (λ u. g-then Keeping none (arguments T m page x μ c d) _ (λ f k. fails)
         (λ ws k. g-test Keeping none _ _ (λ w.
-        keeps (goes-still _ _ (started-still (m i) μ ws (refers-most m lc μ (m i) r) (eqb-true _ 1 (not-false _ u)) (leb-true _ _ w))))))))))
+        keeps (goes-still _ _ (marks-still _ _ _ _ (started-still (m i) μ ws (refers-most m lc μ (m i) r) (eqb-true _ 1 (not-false _ u)) (leb-true _ _ w))))))))))))
 
     inside-keeps : (S : Statement) → Inside S → isCreate S ≡ false
     unfolding isCreate
@@ -134,15 +140,17 @@ module _ (T : Table) (m page : Memory) (x : Context) where
     unfolding perform isCreate
     carries-comes _ _ _ e skips = keeps refl (goes-still m _ (still m))
     carries-comes _ _ _ e (assigns {a = a} {b = b} {i = i} {τ = τ} {σ = σ} {ws = ws} y w h) =
-        keeps refl (goes-still _ _ (still-store m m (still m) i ws (room T i τ σ ws (place-fits T m page x a i τ y) (value-long T m page x b σ ws w) h)))
+        keeps refl (goes-still _ _ (marks-still _ _ _ _ (still-store m m (still m) i ws (room T i τ σ ws (place-fits T m page x a i τ y) (value-long T m page x b σ ws w) h))))
     carries-comes _ _ _ e (callsLocal {q = q} {c = c} {d = d} p n) = keeps refl (keeping-still _ (local-keeps q c d) _ _ e)
     carries-comes _ _ _ e (callsProcess {a = a} {q = q} {c = c} {d = d} y t z u p n) = keeps refl (keeping-still _ (process-keeps a q c d) _ _ e)
     carries-comes _ _ _ e (Carries.creates {a = a} {i = i} {τ = τ} {μ = μ} y t n) =
         let u = place-area T m page x a i τ y in
+        let same = made-marks m (m createdAt + 1) μ i (x .statement + 1) (x .process) in
         makes a i τ μ refl y t
-        (new-process m (m createdAt + 1) μ i (x .statement + 1) (x .process) (omega arith) (omega arith) u)
-        (others-kept m (m createdAt + 1) μ i (x .statement + 1) (x .process) (omega arith) (omega arith) u)
-        (mark-kept m (m createdAt + 1) μ i (x .statement + 1) (x .process) (omega arith) (omega arith) u some)
+        (new-same _ _ same (m createdAt + 1) μ i (omega arith) (omega arith) u
+        (new-process m (m createdAt + 1) μ i (x .statement + 1) (x .process) (omega arith) (omega arith) u))
+        (kept-same _ _ same m lc (others-kept m (m createdAt + 1) μ i (x .statement + 1) (x .process) (omega arith) (omega arith) u))
+        (mark-same _ _ same m (mark-kept m (m createdAt + 1) μ i (x .statement + 1) (x .process) (omega arith) (omega arith) u some))
     carries-comes _ _ _ e (starts {a = a} {c = c} {d = d} y t z u p) = keeps refl (keeping-still _ (start-keeps a c d) _ _ e)
     carries-comes _ _ _ e (enters {k = k} h) =
         keeps refl (goes-still (pick (waits k) (update m (holderAt (x .works)) (x .process)) m) _ (cases (waits k) (λ u. rw u (holder-still _ _)) (λ u. rw u (still m))))
@@ -164,21 +172,24 @@ module _ (T : Table) (m page : Memory) (x : Context) where
 
 -- ---- steps
 
+stays : (m : Memory) → ProcessesKept m m
+stays m = record { created = λ r c. c; block = λ r c. refl; status = λ r c. omega arith }
+
 module _ (T : Table) (m page : Memory) (p : ℕ) where
-  still-kept : (s : Memory) → Still m s → ProcessesKept m s
-  still-kept s h = record {
+  still-kept : m createdAt ≤ 64 → (s : Memory) → Still m s → ProcessesKept m s
+  still-kept l s h = record {
     created = λ r c. let a = c .most in let e = h .count in record { least = c .least; most = omega arith };
-    block = λ r c. h .block r;
-    status = λ r c. h .status r;
+    block = λ r c. let a = c .most in h .block r (c .least) (omega arith);
+    status = λ r c. let a = c .most in h .status r (c .least) (omega arith);
   }
 
-  still-step : (n : ℕ) (s : Memory) → createsOne T m p n ≡ false → Still m s → CreatedKept T m page p n s
-  still-step n s e h = record { creating = same e (h .count); kept = still-kept s h; mark = λ l. h .mark }
+  still-step : m createdAt ≤ 64 → (n : ℕ) (s : Memory) → createsOne T m p n ≡ false → Still m s → CreatedKept T m page p n s
+  still-step l n s e h = record { creating = same e (h .count); kept = still-kept l s h; mark = λ l. h .mark }
 
-  -- another answer than 0
-  other-step : (n : ℕ) (s : Memory) → (n ≡ 0 → ⊥) → Still m s → CreatedKept T m page p n s
+  -- another answer than 0, and the state as it was
+  other-step : (n : ℕ) → (n ≡ 0 → ⊥) → CreatedKept T m page p n m
   unfolding createsOne
-  other-step n s e h = still-step n s (both-false-l _ _ (ne-eqb n 0 e)) h
+  other-step n e = record { creating = same (both-false-l _ _ (ne-eqb n 0 e)) refl; kept = stays m; mark = λ l. refl }
 
   data Left : Outcome Effect → Type 0 where
     left : {a : ℕ} {s d : Memory} → CreatedKept T m page p a s → Left (ok (effect a s d))
@@ -187,19 +198,19 @@ module _ (T : Table) (m page : Memory) (p : ℕ) where
 
   answers-left : (a : ℕ) → (a ≡ 0 → ⊥) → Left (answers T m page p a)
   unfolding answers
-  answers-left a e = left (other-step a m e (still m))
+  answers-left a e = left (other-step a e)
 
-  comes-left : (S : Statement) (o : Outcome Effect) → next T m page p ≡ S → Comes T m page (contextOf m p) S o → Left o
+  comes-left : m createdAt ≤ 64 → (S : Statement) (o : Outcome Effect) → next T m page p ≡ S → Comes T m page (contextOf m p) S o → Left o
   unfolding createsOne isCreate
-  comes-left S _ z (Comes.keeps {a = a} e h) = left (still-step a _ (both-false-r _ _ (rw z e)) h)
-  comes-left S _ z (Comes.makes a i τ μ e o t n k y) = left {a = 0} (record { creating = creates a i τ μ (rw (z, e) (both-i _ _ refl refl)) (z ∙ e) o t n; kept = k; mark = λ l. y })
-  comes-left S _ z (Comes.fails h) = fails h
-  comes-left S _ z Comes.none = none
+  comes-left l S _ z (Comes.keeps {a = a} e h) = left (still-step l a _ (both-false-r _ _ (rw z e)) h)
+  comes-left l S _ z (Comes.makes a i τ μ e o t n k y) = left {a = 0} (record { creating = creates a i τ μ (rw (z, e) (both-i _ _ refl refl)) (z ∙ e) o t n; kept = k; mark = λ l. y })
+  comes-left l S _ z (Comes.fails h) = fails h
+  comes-left l S _ z Comes.none = none
 
   performs-left : p ≤ 64 → m (statusAt p) ≡ 2 → m createdAt ≤ 64 → 1 ≤ m createdAt → Left (performs T m page p)
   unfolding performs contextOf
   performs-left l b c y =
-      g-need Left none _ _ (comes-left _ _ refl (comes T m page (contextOf m p) l b c y (next T m page p) _ refl (reports T m page (contextOf m p) (next T m page p))))
+      g-need Left none _ _ (comes-left c _ _ refl (comes T m page (contextOf m p) l b c y (next T m page p) _ refl (reports T m page (contextOf m p) (next T m page p))))
 
   exists-left : p ≤ 64 → m createdAt ≤ 64 → 1 ≤ m createdAt → Left (exists T m page p)
   unfolding exists proceeds
@@ -240,9 +251,6 @@ module _ (T : Table) (m page : Memory) (p : ℕ) where
   step-created a s d e = settled-left _ turn-left a s d e
 
 -- ---- steps one after the other
-
-stays : (m : Memory) → ProcessesKept m m
-stays m = record { created = λ r c. c; block = λ r c. refl; status = λ r c. omega arith }
 
 kept-on : (m s u : Memory) → ProcessesKept m s → ProcessesKept s u → ProcessesKept m u
 kept-on m s u h k = record {

@@ -25,7 +25,7 @@ use Rattle.machine.specs.Entries.{Unary, minus, not, val, noUnary, Binary, equa
 use Rattle.machine.specs.Entries.{Node, constant, whole, field, element, retrieve, unary, binary, transfer, noNode}
 use Rattle.machine.specs.Context.{Context}
 use Rattle.machine.specs.Variables.{belongs, offsetOf, fits}
-use Rattle.machine.specs.Operands.{simple, truth, given, deviceWord, unaryValue, ordered, integral, logical, binaryValue, placeAt, fieldPlace, elementPlace, moduleVariable, frameVariable, wholePlace, nodeOperand, operand}
+use Rattle.machine.specs.Operands.{simple, truth, given, deviceWord, unaryValue, ordered, integral, logical, binaryValue, placeAt, fieldPlace, elementPlace, moduleVariable, frameVariable, wholePlace, retrieved, nodeOperand, operand}
 use Rattle.machine.proofs.Memories.{length-words}
 use Rattle.machine.proofs.Outcomes.{g-test, g-need, g-where, g-pick, g-place, g-value, g-word, g-record, g-array}
 use Rattle.machine.specs.Layout.{locations}
@@ -135,14 +135,14 @@ module _ (T : Table) (m page : Memory) (x : Context) where
       (λ e. g-need Fine none _ _ (g-need Fine none _ _ (fine-place _ _))))
 
   fine-node : (r : ℕ → Outcome Operand) (N : Node) → Fine (nodeOperand T m page x r N)
-  unfolding nodeOperand fieldPlace elementPlace
+  unfolding nodeOperand fieldPlace elementPlace retrieved
   fine-node r (constant τ v) = g-test Fine none _ _ (λ e. fine-simple τ v (ltb-true τ 3 e))
   fine-node r (whole v) = fine-whole v
   fine-node r (field a i) = g-place Fine none (r a) _ (λ f e. fails) (λ l τ e. g-record Fine none _ _ (λ first count. g-need Fine none _ _ (fine-place _ _)))
   fine-node r (element a k) =
       g-place Fine none (r a) _ (λ f e. fails)
       (λ l τ e. g-array Fine none _ _ (λ ι σ low high t. g-word Fine none (r k) ι _ (λ f q. fails) (λ ρ ws q. g-where Fine none _ 18 _ (λ h. fails) (λ h. fine-place _ _))))
-  fine-node r (retrieve a) = g-place Fine none (r a) _ (λ f e. fails) (λ l τ e. yields (length-words m l _))
+  fine-node r (retrieve a) = g-place Fine none (r a) _ (λ f e. fails) (λ l τ e. g-where Fine none _ 31 _ (λ h. fails) (λ h. yields (length-words m l _)))
   fine-node r (unary o a) = g-value Fine none (r a) _ (λ f e. fails) (λ τ us e. fine-unary o τ _)
   fine-node r (binary o a b) = g-value Fine none (r a) _ (λ f e. fails) (λ τ us e. g-value Fine none (r b) _ (λ f q. fails) (λ σ vs q. fine-binary o τ us σ vs))
   fine-node r (transfer a τ) = g-value Fine none (r a) _ (λ f e. fails) (λ σ us e. g-test Fine none _ _ (λ h. fine-given τ _ (ltb-true τ 3 (both-r _ _ h))))

@@ -11,11 +11,14 @@ use Rattle.basics.specs.Cases.{cases}
 use Rattle.basics.proofs.Bools.{both-l, both-r}
 use Rattle.machine.specs.Memory.{Memory, update, store}
 use Rattle.machine.specs.Layout.{location, recordAt, statusAt, moduleAt, statementAt, createdAt, failureAt, locations}
+use Rattle.machine.specs.Marks.{mark, fresh}
 use Rattle.machine.specs.Calls.{standing}
 use Rattle.machine.specs.Processes.{created, refers}
 use Rattle.machine.proofs.Memories.{update-at, update-other, clear-below, clear-above}
+use Rattle.machine.proofs.MarkLaws.{SameWords, same-words, same-marks, same-update}
 use Rattle.sound.specs.InUse.{Created}
 use Rattle.sound.specs.Created.{NewProcess, ProcessesKept}
+use Rattle.sound.proofs.StoresMarks.{marks-record}
 use Rattle.sound.proofs.StoresMemory.{record-high, store-record}
 
 -- a process that a reference names is one of 64
@@ -37,7 +40,7 @@ pub unlike-words : (p q i k : ℕ) → Unlike i k → recordAt p i ≡ recordAt 
 unfolding recordAt
 unlike-words p q i k u e = let a = u .left in let b = u .right in let n = u .apart in omega arith
 
--- ---- the records of all processes say the same of their modules and count, and no status falls
+-- ---- the records of 64 processes say the same of their modules and count, and no status falls
 
 -- word k of a record is neither its status nor its module, nor the count
 pub record Unread (k : ℕ) : Type 0 where
@@ -48,13 +51,13 @@ pub record Unread (k : ℕ) : Type 0 where
 
 pub record Still (m s : Memory) : Type 0 where
   pub count : s createdAt ≡ m createdAt
-  pub block : (r : ℕ) → s (moduleAt r) ≡ m (moduleAt r)
-  pub status : (r : ℕ) → m (statusAt r) ≤ s (statusAt r)
+  pub block : (r : ℕ) → 1 ≤ r → r ≤ 64 → s (moduleAt r) ≡ m (moduleAt r)
+  pub status : (r : ℕ) → 1 ≤ r → r ≤ 64 → m (statusAt r) ≤ s (statusAt r)
   pub mark : s failureAt ≡ m failureAt
 
 module _ (m : Memory) where
   pub still : Still m m
-  still = record { count = refl; block = λ r. refl; status = λ r. omega arith; mark = refl }
+  still = record { count = refl; block = λ r a b. refl; status = λ r a b. omega arith; mark = refl }
 
   module _ (s : Memory) (h : Still m s) where
     pub still-record : (q k v : ℕ) → Unread k → Still m (update s (recordAt q k) v)
@@ -65,28 +68,39 @@ module _ (m : Memory) where
         let o = u .mark in
         record {
           count = update-other s _ v _ (unlike-words 1 q 8 k (omega arith)) ∙ h .count;
-          block = λ r. update-other s _ v _ (unlike-words r q 1 k (omega arith)) ∙ h .block r;
-          status = λ r. rw (update-other s (recordAt q k) v (statusAt r) (unlike-words r q 0 k (omega arith))) (h .status r);
+          block = λ r i j. update-other s _ v _ (unlike-words r q 1 k (omega arith)) ∙ h .block r i j;
+          status = λ r i j. rw (update-other s (recordAt q k) v (statusAt r) (unlike-words r q 0 k (omega arith))) (h .status r i j);
           mark = update-other s _ v _ (unlike-words 1 q 9 k (omega arith)) ∙ h .mark;
         }
 
     pub still-status : (q v : ℕ) → m (statusAt q) ≤ v → Still m (update s (statusAt q) v)
     still-status q v l = record {
       count = update-other s _ v _ (unlike-words 1 q 8 0 (omega arith)) ∙ h .count;
-      block = λ r. update-other s _ v _ (unlike-words r q 1 0 (omega arith)) ∙ h .block r;
-      status = λ r. cases (eqb (statusAt r) (statusAt q))
+      block = λ r i j. update-other s _ v _ (unlike-words r q 1 0 (omega arith)) ∙ h .block r i j;
+      status = λ r i j. cases (eqb (statusAt r) (statusAt q))
           (λ e. let z = eqb-true _ _ e in rw (update-at s (statusAt q) v (statusAt r) z, z) l)
-          (λ e. rw (update-other s (statusAt q) v (statusAt r) (eqb-false _ _ e)) (h .status r));
+          (λ e. rw (update-other s (statusAt q) v (statusAt r) (eqb-false _ _ e)) (h .status r i j));
       mark = update-other s _ v _ (unlike-words 1 q 9 0 (omega arith)) ∙ h .mark;
     }
 
     pub still-store : (a : ℕ) (ws : List ℕ) → a + length ws ≤ locations → Still m (store s a ws)
     still-store a ws l = record {
       count = store-record s a ws l 1 8 ∙ h .count;
-      block = λ r. store-record s a ws l r 1 ∙ h .block r;
-      status = λ r. rw (store-record s a ws l r 0) (h .status r);
+      block = λ r i j. store-record s a ws l r 1 ∙ h .block r i j;
+      status = λ r i j. rw (store-record s a ws l r 0) (h .status r i j);
       mark = store-record s a ws l 1 9 ∙ h .mark;
     }
+
+    -- marks say nothing of it
+    pub still-same : (u : Memory) → SameWords s u → Still m u
+    still-same u w =
+        let e = marks-record s u w in
+        record {
+          count = e 1 8 (omega arith) (omega arith) (omega arith) ∙ h .count;
+          block = λ r i j. e r 1 i j (omega arith) ∙ h .block r i j;
+          status = λ r i j. rw (e r 0 i j (omega arith)) (h .status r i j);
+          mark = e 1 9 (omega arith) (omega arith) (omega arith) ∙ h .mark;
+        }
 
   pub still-standing : (s : Memory) (q c f t w d : ℕ) → Still m s → Still m (standing s q c f t w d)
   unfolding standing
@@ -157,6 +171,31 @@ module _ (m : Memory) (n μ i c p : ℕ) (over : m createdAt < n) (most : n ≤ 
 
   pub mark-kept : 1 ≤ m createdAt → after failureAt ≡ m failureAt
   mark-kept l = record-after 1 9 (omega arith) ∙ old-record 1 9 (record { least = omega arith; most = l }) (omega arith) (λ z. omega arith)
+
+-- with the marks of its area and of the variable
+pub made-marks : (m : Memory) (n μ i c p : ℕ) → SameWords (update (update (created m n μ) i n) (statementAt p) c)
+    (update (mark (fresh (update (created m n μ) i n) (location n 0) 256) i 1) (statementAt p) c)
+made-marks m n μ i c p = same-update _ _ (statementAt p) c (same-marks _ _ i 1 _ (same-marks _ _ _ _ _ (same-words _)))
+
+-- marks leave the new process and the others as they are
+module _ (s u : Memory) (w : SameWords s u) where
+  pub new-same : (n μ i : ℕ) → 1 ≤ n → n ≤ 64 → i < locations → NewProcess s n μ i → NewProcess u n μ i
+  new-same n μ i a b l h = record {
+    last = marks-record s u w 1 8 (omega arith) (omega arith) (omega arith) ∙ h .last;
+    block = marks-record s u w n 1 a b (omega arith) ∙ h .block;
+    unstarted = marks-record s u w n 0 a b (omega arith) ∙ h .unstarted;
+    named = w .plain i (omega arith) ∙ h .named;
+  }
+
+  pub kept-same : (m : Memory) → m createdAt ≤ 64 → ProcessesKept m s → ProcessesKept m u
+  kept-same m l h = record {
+    created = λ r c. let x = h .created r c in let y = x .most in let e = marks-record s u w 1 8 (omega arith) (omega arith) (omega arith) in record { least = x .least; most = omega arith };
+    block = λ r c. let y = c .most in marks-record s u w r 1 (c .least) (omega arith) (omega arith) ∙ h .block r c;
+    status = λ r c. let y = c .most in rw (marks-record s u w r 0 (c .least) (omega arith) (omega arith)) (h .status r c);
+  }
+
+  pub mark-same : (m : Memory) → s failureAt ≡ m failureAt → u failureAt ≡ m failureAt
+  mark-same m e = marks-record s u w 1 9 (omega arith) (omega arith) (omega arith) ∙ e
 
 -- a failing step
 module _ (m : Memory) (n : ℕ) where

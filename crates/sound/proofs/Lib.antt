@@ -23,6 +23,8 @@ pub mod HistoriesRecords
 pub mod HistoriesSized
 pub mod HistoriesValues
 pub mod Holders
+pub mod NumbersKept
+pub mod NumbersMarks
 pub mod OpenCallsEntered
 pub mod OpenCallsKept
 pub mod OpenCallsListed
@@ -45,6 +47,7 @@ pub mod StoresCalls
 pub mod StoresChains
 pub mod StoresCreated
 pub mod StoresHolders
+pub mod StoresMarks
 pub mod StoresMemory
 pub mod StoresProcesses
 pub mod StoresPushes
@@ -55,6 +58,13 @@ pub mod StoresStanding
 pub mod StoresStarted
 pub mod StoresSteps
 pub mod StoresValues
+pub mod Tested
+pub mod TestedDemand
+pub mod TestedOperands
+pub mod TestedOutcomes
+pub mod TestedStatements
+pub mod TestedSteps
+pub mod TestedTwins
 pub mod ValueBlocks
 pub mod ValueKnown
 pub mod ValueParts

@@ -18,12 +18,13 @@ use Rattle.machine.specs.Memory.{Memory, store}
 use Rattle.machine.specs.Layout.{location, linkAt, topAt, callerFrame, calledBlock}
 use Rattle.machine.specs.Variables.{firstWords, frameWords, offsetOf}
 use Rattle.machine.specs.Context.{Context, contextOf}
-use Rattle.machine.specs.Calls.{frame, pushed}
+use Rattle.machine.specs.Calls.{frame, pushed, frameMarked}
 use Rattle.machine.proofs.Memories.{store-at}
 use Rattle.verdict.specs.Accepted.{Accepted}
 use Rattle.sound.specs.Conditions.{Yields}
 use Rattle.sound.specs.Carried.{Passes, noMore, byValue, byVariable, Passed}
 use Rattle.sound.specs.OpenCalls.{variableAt, Gets, stores, binds, Enters}
+use Rattle.sound.proofs.StoresMarks.{frame-marks, marks-area}
 use Rattle.sound.proofs.StoresMemory.{location-add}
 use Rattle.sound.proofs.StoresCalls.{frameOf, frame-length, frame-argument, frame-zero}
 use Rattle.sound.proofs.StoresStanding.{stand-area}
@@ -92,17 +93,20 @@ frame-long T m page x q ws l = let e = frame-length (x .frame) (x .statement) (x
 module _ (T : Table) (m page : Memory) (p : ℕ) (some : 1 ≤ p) (most : p ≤ 64) (s : Memory) (q r : ℕ) (ws : List ℕ)
     (short : length ws ≤ frameWords T q) (room : m (topAt p) + 4 + frameWords T q ≤ 256) where
   abbrev entered : Memory
-  entered = pushed T m page (contextOf m p) s q r ws
+  entered = frameMarked T m page (contextOf m p) (pushed T m page (contextOf m p) s q r ws) q ws
 
   abbrev words : List ℕ
   words = frameOf (contextOf m p .frame) (contextOf m p .statement) (contextOf m p .works) q ws (frameWords T q - length ws)
 
-  frame-word : (j : ℕ) → j < 4 + frameWords T q → entered (location p (m (topAt p) + j)) ≡ getD words j 0
+  pushed-word : (j : ℕ) → j < 4 + frameWords T q → pushed T m page (contextOf m p) s q r ws (location p (m (topAt p) + j)) ≡ getD words j 0
   unfolding pushed contextOf frame frameOf
-  frame-word j l =
+  pushed-word j l =
       let e = frame-length (contextOf m p .frame) (contextOf m p .statement) (contextOf m p .works) q ws (frameWords T q - length ws) in
       stand-area (store s (location p (m (topAt p))) words) p _ _ _ _ _ some p (m (topAt p) + j) some most (omega arith)
       ∙ rw (← location-add p (m (topAt p)) j) (store-at s (location p (m (topAt p))) words j (omega arith))
+
+  frame-word : (j : ℕ) → j < 4 + frameWords T q → entered (location p (m (topAt p) + j)) ≡ getD words j 0
+  frame-word j l = marks-area _ _ (frame-marks T m page (contextOf m p) _ q ws) p (m (topAt p) + j) some most (omega arith) ∙ pushed-word j l
 
   pub entered-caller : callerFrame entered p (m (topAt p)) ≡ contextOf m p .frame
   unfolding linkAt frameOf
@@ -142,7 +146,7 @@ module _ (T : Table) (acc : Accepted T) (m page : Memory) (p q c d : ℕ) (ws : 
     variable-is v = sym (location-add p (m (topAt p) + 4) (offsetOf T q v))
 
     abbrev state : Memory
-    state = pushed T m page (contextOf m p) s q r ws
+    state = frameMarked T m page (contextOf m p) (pushed T m page (contextOf m p) s q r ws) q ws
 
     local-zero : (i k : ℕ) → i < vars T q → varMode T (firstVar T q + i) ≡ 0 → k < wordsOf T (varType T (firstVar T q + i))
         → state (location p (m (topAt p) + 4) + (offsetOf T q (firstVar T q + i) + k)) ≡ 0

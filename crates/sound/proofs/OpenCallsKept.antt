@@ -2,7 +2,7 @@
 -- Assumes nothing.
 use Prim.Native.Nat.{ℕ, zero, suc, _+_, _-_, _≤_, _<_}
 use mathlib.Core.Path.{_≡_, refl, sym, ap, _∙_}
-use mathlib.Core.Bool.{true}
+use mathlib.Core.Bool.{Bool, true}
 use mathlib.Core.Logic.{_⊎_, inl, inr}
 use mathlib.Core.List.{List, [], _∷_}
 use native.Mathlib.Omega.{arith}
@@ -17,22 +17,24 @@ use Rattle.table.specs.Table.{Table}
 use Rattle.table.specs.Entries.{blockCount, blockKind, owner}
 use Rattle.machine.specs.Memory.{Memory, update, store}
 use Rattle.machine.specs.Layout.{location, recordAt, statusAt, moduleAt, statementAt, frameAt, topAt, worksAt, holderAt, depthAt, createdAt, failureAt, callerFrame, calledBlock, locations}
+use Rattle.machine.specs.Marks.{mark, fresh, setMarks}
 use Rattle.machine.specs.Outcomes.{stuck, andThen, failWhere, placed, onPlace}
 use Rattle.machine.specs.Entries.{processType, typeAt, waits, Statement, skip, assign, localCall, processCall, create, start, opener, arm, endArms, write, blockEnd, noStatement}
 use Rattle.machine.specs.Variables.{frameWords}
 use Rattle.machine.specs.Context.{Context, contextOf}
-use Rattle.machine.specs.Calls.{standing, frame, pushed, popped}
+use Rattle.machine.specs.Calls.{standing, frame, pushed, frameMarked, popped}
 use Rattle.machine.specs.Processes.{onModule, onProcess, refers, onReference, created, started}
 use Rattle.machine.specs.Statements.{doLocalCall, doProcessCall, doStart, perform}
 use Rattle.machine.specs.Step.{Step, done, settled, performs, proceeds, exists, turn, step}
 use Rattle.machine.proofs.Memories.{update-other}
+use Rattle.machine.proofs.MarkLaws.{SameWords, same-words, same-marks}
 use Rattle.machine.proofs.Outcomes.{need-holds, need-stuck}
 use Rattle.machine.proofs.Tests.{failure-low}
 use Rattle.verdict.specs.Accepted.{Accepted}
 use Rattle.sound.specs.Ruled.{Ruled}
 use Rattle.sound.specs.InUse.{Created, innermost, caller}
 use Rattle.sound.specs.Bindings.{BindingsKept}
-use Rattle.sound.specs.Conditions.{Selects, AreaFull, StatementEnds, ownBlock}
+use Rattle.sound.specs.Conditions.{Selects, AreaFull, Refers, StatementEnds, ownBlock}
 use Rattle.sound.specs.Carried.{Passed, Carries, Inside, nextArm, lastEnd}
 use Rattle.sound.specs.Rows.{next, Ready, CarriedOut, Changes, failureMark, nothing, givesUp, endedBefore, endsNow, absent, carried, SameFailure}
 use Rattle.sound.specs.Created.{NewProcess}
@@ -40,13 +42,14 @@ use Rattle.sound.specs.OpenCalls.{OpenCall, callsFrom, openCalls, outer,
 use Rattle.sound.proofs.Ruled.{procedure-there, block-there, block-kind, created-in, in-created}
 use Rattle.sound.proofs.RowsListed.{statement-listed}
 use Rattle.sound.proofs.HistoriesOperands.{place-fits, place-area, value-long}
-use Rattle.sound.proofs.HistoriesRecords.{location-end, unlike-words, new-process, record-after, old-record}
+use Rattle.sound.proofs.HistoriesRecords.{location-end, unlike-words, made-marks, new-same, new-process, record-after, old-record}
 use Rattle.sound.proofs.HistoriesSized.{room}
 use Rattle.sound.proofs.StoresBlocks.{module-fits}
+use Rattle.sound.proofs.StoresMarks.{frame-marks, marks-record}
 use Rattle.sound.proofs.StoresStanding.{stand-word, stand-depth, stand-frame}
 use Rattle.sound.proofs.OpenCallsListed.{not-created, open-started, open-none}
 use Rattle.sound.proofs.OpenCallsEntered.{frame-long, entered-caller, entered-block, passed-short, call-enters}
-use Rattle.sound.proofs.OpenCallsRecords.{Alike, alike, alike-record, alike-own, alike-store, alike-standing, from-kept, words-calls, alike-calls, all-calls}
+use Rattle.sound.proofs.OpenCallsRecords.{Alike, alike, alike-record, alike-own, alike-store, alike-same, alike-standing, from-kept, words-calls, alike-calls, all-calls}
 
 -- ---- what a statement that is not stuck has tested
 
@@ -59,10 +62,10 @@ module _ (T : Table) (m page : Memory) (x : Context) where
   unfolding doProcessCall onProcess onPlace andThen placed onModule
   called-there a q c d i τ μ e t h = procedure-there T q (both-l _ _ (need-holds _ _ (rw (e, t) at h)))
 
-  start-refers : (a c d i τ μ : ℕ) → Selects T m page x a i τ → typeAt T τ ≡ processType μ → (m i ≡ 0 → ⊥) → (doStart T m page x a c d ≡ stuck → ⊥)
+  start-refers : (a c d i τ μ : ℕ) → Selects T m page x a i τ → typeAt T τ ≡ processType μ → Refers T m page x i → (doStart T m page x a c d ≡ stuck → ⊥)
       → refers m μ (m i) ≡ true
   unfolding doStart onProcess onPlace onReference andThen placed onModule failWhere
-  start-refers a c d i τ μ e t n h = need-holds _ _ (rw (e, t, ne-eqb (m i) 0 n) at h)
+  start-refers a c d i τ μ e t n h = need-holds _ _ (rw (e, t, n .set, ne-eqb (m i) 0 (n .some)) at h)
 
 module _ (T : Table) (m page : Memory) (p : ℕ) where
   either-true : (r : (m (holderAt (m (worksAt p))) ≡ 0) ⊎ (m (holderAt (m (worksAt p))) ≡ p)) → either (eqb (m (holderAt (m (worksAt p)))) 0) (eqb (m (holderAt (m (worksAt p)))) p) ≡ true
@@ -111,7 +114,7 @@ inside-plain _ nextArm = record { same = λ t cs. refl; none = refl }
 inside-plain _ lastEnd = record { same = λ t cs. refl; none = refl }
 
 alike-for : (m s : Memory) (e : ℕ) → Alike m s 0 → Alike m s e
-alike-for m s e h = record { count = h .count; words = λ r l n. h .words r l (λ z. omega arith) }
+alike-for m s e h = record { count = h .count; words = λ r l g n. h .words r l g (λ z. omega arith) }
 
 -- a process that has made no call
 open-bottom : (m : Memory) (p : ℕ) → m (depthAt p) ≡ 0 → openCalls m p ≡ []
@@ -151,17 +154,21 @@ module _ (T : Table) (acc : Accepted T) (m page : Memory) (R : Ruled T m) (p : �
   own-kept S s k h g r =
       cases (eqb r p)
       (λ e. rw (e, eqb-true r p e) g)
-      (λ e. rw e (alike-calls T m s k p h r (λ l. eqb-false r p e)))
+      (λ e. rw e (alike-calls T m s k (R .most) p h r (λ l. eqb-false r p e)))
 
   -- where the process stands
-  stood-calls : (s : Memory) (i f t w d : ℕ) → Alike m s 0 → openCalls (standing s p i f t w d) p ≡ callsFrom (standing s p i f t w d) p d f
-  stood-calls s i f t w d h =
-      let x = h .words p some (λ z. omega (arith, some, z)) in
+  stood-calls : (s u : Memory) (i f t w d : ℕ) → SameWords (standing s p i f t w d) u → Alike m s 0 → openCalls u p ≡ callsFrom u p d f
+  stood-calls s u i f t w d y h =
+      let x = h .words p some most (λ z. omega (arith, some, z)) in
       let a = alike-standing m s p i f t w d some (alike-for m s p h) .count in
       let b = c .most in
-      open-started (standing s p i f t w d) p (record { least = some; most = omega arith })
-      (stand-word s p i f t w d 0 (λ z. omega arith) (λ z. omega arith) (λ z. omega arith) (λ z. omega arith) (λ z. omega arith) ∙ x .status ∙ live)
-      ∙ rw (stand-depth s p i f t w d, stand-frame s p i f t w d) refl
+      let e = marks-record _ u y in
+      let e8 = e 1 8 (omega arith) (omega arith) (omega arith) in
+      let e7 : u (depthAt p) ≡ d = e p 7 some most (omega arith) ∙ stand-depth s p i f t w d in
+      let e3 : u (frameAt p) ≡ f = e p 3 some most (omega arith) ∙ stand-frame s p i f t w d in
+      open-started u p (record { least = some; most = omega arith })
+      (e p 0 some most (omega arith) ∙ stand-word s p i f t w d 0 (λ z. omega arith) (λ z. omega arith) (λ z. omega arith) (λ z. omega arith) (λ z. omega arith) ∙ x .status ∙ live)
+      ∙ rw (e7, e3) refl
 
   -- its own calls
   own-from : (s : Memory) → BindingsKept T m s → callsFrom s p (m (depthAt p)) (m (frameAt p)) ≡ openCalls m p
@@ -172,24 +179,30 @@ module _ (T : Table) (acc : Accepted T) (m page : Memory) (R : Ruled T m) (p : �
   module _ (u : Memory) (h : Alike m u 0) (q r i d : ℕ) (ws : List ℕ) (there : q < blockCount T) (P : Passed T m page (contextOf m p) q i d ws)
       (fit : m (topAt p) + 4 + frameWords T q ≤ 256) where
     abbrev after : Memory
-    after = pushed T m page (contextOf m p) u q r ws
+    after = frameMarked T m page (contextOf m p) (pushed T m page (contextOf m p) u q r ws) q ws
+
+    after-marks : SameWords (pushed T m page (contextOf m p) u q r ws) after
+    after-marks = frame-marks T m page (contextOf m p) (pushed T m page (contextOf m p) u q r ws) q ws
 
     short : length ws ≤ frameWords T q
     short = passed-short T acc m page p q i d ws there P
 
-    pushed-alike : Alike m after p
+    frame-alike : Alike m (pushed T m page (contextOf m p) u q r ws) p
     unfolding pushed contextOf
-    pushed-alike =
+    frame-alike =
         let e = frame-long T m page (contextOf m p) q ws short in
         let l = location-end p (m (topAt p)) (4 + frameWords T q) most (omega arith) in
         alike-standing m _ p _ _ _ _ _ some (alike-store m u p (alike-for m u p h) _ _ (omega (arith, e, l)))
+
+    pushed-alike : Alike m after p
+    pushed-alike = alike-same m _ p frame-alike after after-marks
 
     pushed-from : openCalls after p ≡ callsFrom after p (m (depthAt p) + 1) (m (topAt p))
     unfolding pushed contextOf
     pushed-from =
         let e = frame-long T m page (contextOf m p) q ws short in
         let l = location-end p (m (topAt p)) (4 + frameWords T q) most (omega arith) in
-        stood-calls _ _ _ _ _ _ (alike-store m u 0 h _ _ (omega (arith, e, l)))
+        stood-calls _ after _ _ _ _ _ after-marks (alike-store m u 0 h _ _ (omega (arith, e, l)))
 
     pushed-calls : BindingsKept T m after → openCalls after p ≡ record { procedure = q; frame = m (topAt p) } ∷ openCalls m p
     unfolding contextOf
@@ -220,7 +233,7 @@ module _ (T : Table) (acc : Accepted T) (m page : Memory) (R : Ruled T m) (p : �
 
   popped-from : (u : Memory) (i : ℕ) → Alike m u 0 → openCalls (popped T m page (contextOf m p) u i) p ≡ callsFrom (popped T m page (contextOf m p) u i) p (m (depthAt p) - 1) (callerFrame m p (m (frameAt p)))
   unfolding popped contextOf
-  popped-from u i h = stood-calls u _ _ _ _ _ h
+  popped-from u i h = stood-calls u _ _ _ _ _ _ (same-words _) h
 
   -- without the innermost
   outer-from : (s : Memory) → BindingsKept T m s → (d : ℕ) → m (depthAt p) ≡ d → (d ≡ 0 → ⊥) → callsFrom s p (d - 1) (callerFrame m p (m (frameAt p))) ≡ outer (callsFrom m p d (m (frameAt p)))
@@ -244,14 +257,23 @@ module _ (T : Table) (acc : Accepted T) (m page : Memory) (R : Ruled T m) (p : �
   module _ (μ i j : ℕ) (few : m createdAt < 64) (area : i < locations) where
     -- the state that create leaves
     abbrev made : Memory
-    made = update (update (created m (m createdAt + 1) μ) i (m createdAt + 1)) (statementAt (contextOf m p .process)) j
+    made =
+        update (mark (fresh (update (created m (m createdAt + 1) μ) i (m createdAt + 1)) (location (m createdAt + 1) 0) 256) i 1)
+        (statementAt (contextOf m p .process)) j
+
+    made-same : SameWords (update (update (created m (m createdAt + 1) μ) i (m createdAt + 1)) (statementAt (contextOf m p .process)) j) made
+    made-same = made-marks m (m createdAt + 1) μ i j (contextOf m p .process)
 
     new : NewProcess made (m createdAt + 1) μ i
-    new = new-process m (m createdAt + 1) μ i j (contextOf m p .process) (omega arith) (omega arith) area
+    new =
+        new-same _ made made-same (m createdAt + 1) μ i (omega arith) (omega arith) area
+        (new-process m (m createdAt + 1) μ i j (contextOf m p .process) (omega arith) (omega arith) area)
 
     old : (r k : ℕ) → Created m r → k < 20 → (k ≡ 2 → ⊥) → (k ≡ 8 → ⊥) → made (recordAt r k) ≡ m (recordAt r k)
     old r k h l a b =
-        record-after m (m createdAt + 1) μ i j (contextOf m p .process) (omega arith) (omega arith) area r k (omega arith)
+        let y = h .most in
+        marks-record _ made made-same r k (h .least) (omega arith) l
+        ∙ record-after m (m createdAt + 1) μ i j (contextOf m p .process) (omega arith) (omega arith) area r k (omega arith)
         ∙ old-record m (m createdAt + 1) μ i j (contextOf m p .process) (omega arith) (omega arith) area r k h l b
 
     create-kept : BindingsKept T m made → (r : ℕ) → openCalls made r ≡ openCalls m r
@@ -268,12 +290,12 @@ module _ (T : Table) (acc : Accepted T) (m page : Memory) (R : Ruled T m) (p : �
           depth = old r 7 h (omega arith) (λ z. omega arith) (λ z. omega arith);
         }))
         (λ e.
-        open-none made r (λ h y. let a = h .least in let b = h .most in fresh r u y
+        open-none made r (λ h y. let a = h .least in let b = h .most in latest r u y
         (λ z. not-created m r e (record { least = a; most = z })) (omega arith))
         ∙ sym (open-none m r (λ h y. not-created m r e h)))
       where
-        fresh : (r : ℕ) → made (statusAt (m createdAt + 1)) ≡ 1 → made (statusAt r) ≡ 2 → (r ≤ m createdAt → ⊥) → r ≤ m createdAt + 1 → ⊥
-        fresh r u y n l =
+        latest : (r : ℕ) → made (statusAt (m createdAt + 1)) ≡ 1 → made (statusAt r) ≡ 2 → (r ≤ m createdAt → ⊥) → r ≤ m createdAt + 1 → ⊥
+        latest r u y n l =
             let z : r ≡ m createdAt + 1 = omega arith in
             let v : made (statusAt (m createdAt + 1)) ≡ 2 = rw z at y in
             omega arith
@@ -281,25 +303,34 @@ module _ (T : Table) (acc : Accepted T) (m page : Memory) (R : Ruled T m) (p : �
   module _ (r μ j : ℕ) (ws : List ℕ) (one : 1 ≤ r) (last : r ≤ 64) (unstarted : m (statusAt r) ≡ 1) (long : length ws ≤ 256) where
     -- the state that start leaves
     abbrev running : Memory
-    running = update (started T m r μ ws) (statementAt (contextOf m p .process)) j
+    running = update (mark (started T m r μ ws) (location r 0) (length ws)) (statementAt (contextOf m p .process)) j
+
+    running-same : SameWords (started T m r μ ws) (mark (started T m r μ ws) (location r 0) (length ws))
+    running-same = same-marks _ _ (location r 0) (length ws) true (same-words _)
+
+    started-alike : Alike m (started T m r μ ws) r
+    unfolding started
+    started-alike =
+        let l = location-end r 0 (length ws) last (omega arith) in
+        alike-standing m _ r _ _ _ _ _ one (alike-own m _ r (alike-own m _ r (alike-store m m r (alike m r) (location r 0) ws l)
+        0 2 one (omega arith) (λ z. omega arith)) 6 r one (omega arith) (λ z. omega arith))
 
     running-alike : Alike m running r
+    running-alike = alike-record m _ r (alike-same m _ r started-alike _ running-same) (contextOf m p .process) 2 j (omega arith)
+
+    started-bottom : started T m r μ ws (depthAt r) ≡ 0
     unfolding started
-    running-alike =
-        let l = location-end r 0 (length ws) last (omega arith) in
-        alike-record m _ r (alike-standing m _ r _ _ _ _ _ one (alike-own m _ r (alike-own m _ r (alike-store m m r (alike m r) (location r 0) ws l)
-        0 2 one (omega arith) (λ z. omega arith)) 6 r one (omega arith) (λ z. omega arith))) (contextOf m p .process) 2 j (omega arith)
+    started-bottom = stand-depth _ r _ _ _ _ _
 
     running-bottom : running (depthAt r) ≡ 0
-    unfolding started
     running-bottom =
-        update-other _ _ j _ (unlike-words r (contextOf m p .process) 7 2 (omega arith)) ∙ stand-depth _ r _ _ _ _ _
+        update-other _ _ j _ (unlike-words r (contextOf m p .process) 7 2 (omega arith)) ∙ marks-record _ _ running-same r 7 one last (omega arith) ∙ started-bottom
 
     start-kept : BindingsKept T m running → (q : ℕ) → openCalls running q ≡ openCalls m q
     start-kept k q =
         cases (eqb q r)
         (λ e. rw (eqb-true q r e) (open-bottom running r running-bottom ∙ sym (open-none m r (λ h y. omega arith))))
-        (λ e. alike-calls T m running k r running-alike q (λ l. eqb-false q r e))
+        (λ e. alike-calls T m running k (R .most) r running-alike q (λ l. eqb-false q r e))
 
   -- what start refers to, and passes
   started-some : (μ r : ℕ) → refers m μ r ≡ true → Created m r × (m (moduleAt r) ≡ μ)
@@ -328,19 +359,23 @@ module _ (T : Table) (acc : Accepted T) (m page : Memory) (R : Ruled T m) (p : �
   goes-alike : (s : Memory) (j : ℕ) → Alike m s 0 → Alike m (update s (statementAt (contextOf m p .process)) j) 0
   goes-alike s j h = alike-record m s 0 h (contextOf m p .process) 2 j (omega arith)
 
+  marks-alike : (s : Memory) (a n : ℕ) (v : Bool) → Alike m s 0 → Alike m (setMarks s a n v) 0
+  marks-alike s a n v h = alike-same m s 0 h _ (same-marks s s a n v (same-words s))
+
   holder-alike : (q v : ℕ) → Alike m (update m (holderAt q) v) 0
   holder-alike q v = alike-record m m 0 (alike m 0) q 6 v (omega arith)
 
   goes-kept : (S : Statement) (s : Memory) (j : ℕ) → Plain S → Alike m s 0 → BindingsKept T m (update s (statementAt (contextOf m p .process)) j)
       → KeptBy S (update s (statementAt (contextOf m p .process)) j)
-  goes-kept S s j h a k = plain S _ h (all-calls T m _ k (goes-alike s j a))
+  goes-kept S s j h a k = plain S _ h (all-calls T m _ k (R .most) (goes-alike s j a))
 
   by-carries : (S : Statement) (s d : Memory) → Carries T m page (contextOf m p) S s d → (perform T m page (contextOf m p) S ≡ stuck → ⊥) → BindingsKept T m s → KeptBy S s
   unfolding perform callsBy enteredBy contextOf
   by-carries _ _ _ Carries.skips n k = goes-kept skip m _ (record { same = λ t cs. refl; none = refl }) (alike m 0) k
   by-carries _ _ _ (Carries.assigns {a = a} {b = b} {i = i} {τ = τ} {σ = σ} {ws = ws} e y t) n k =
-      goes-kept (assign a b) (store m i ws) _ (record { same = λ t cs. refl; none = refl })
-      (alike-store m m 0 (alike m 0) i ws (room T i τ σ ws (place-fits T m page (contextOf m p) a i τ e) (value-long T m page (contextOf m p) b σ ws y) t)) k
+      goes-kept (assign a b) (mark (store m i ws) i (length ws)) _ (record { same = λ t cs. refl; none = refl })
+      (marks-alike (store m i ws) i (length ws) true
+      (alike-store m m 0 (alike m 0) i ws (room T i τ σ ws (place-fits T m page (contextOf m p) a i τ e) (value-long T m page (contextOf m p) b σ ws y) t))) k
   by-carries _ _ _ (Carries.callsLocal {q = q} {c = i} {d = d} {ws = ws} P f) n k =
       call-kept m (alike m 0) q (contextOf m p .works) i d ws (local-there T m page (contextOf m p) q i d n) P (fits-area q f) (localCall q i d) (λ cs. refl) refl k
   by-carries _ _ _ (Carries.callsProcess {a = a} {q = q} {c = i} {d = d} {i = j} {τ = τ} {ws = ws} e t z v P f) n k =
@@ -394,7 +429,7 @@ module _ (T : Table) (acc : Accepted T) (m page : Memory) (R : Ruled T m) (p : �
       let l = g .exists .least in
       cases (eqb r p)
       (λ e. rw (eqb-true r p e) (open-bottom _ p (update-other _ _ 0 _ (unlike-words p p 7 6 (omega arith)) ∙ update-other m _ 3 _ (unlike-words p p 7 0 (omega arith)) ∙ bottom h) ∙ sym (open-bottom m p (bottom h))))
-      (λ e. alike-calls T m _ k p (alike-own m _ p (alike-own m m p (alike m p) 0 3 l (omega arith) (λ z. omega arith)) 6 0 l (omega arith) (λ z. omega arith)) r (λ i. eqb-false r p e))
+      (λ e. alike-calls T m _ k (R .most) p (alike-own m _ p (alike-own m m p (alike m p) 0 3 l (omega arith) (λ z. omega arith)) 6 0 l (omega arith) (λ z. omega arith)) r (λ i. eqb-false r p e))
     where
       bottom : {S : Statement} → StatementEnds T m page (contextOf m p) S → m (depthAt p) ≡ 0
       bottom (ownBlock e) = e
@@ -402,9 +437,9 @@ module _ (T : Table) (acc : Accepted T) (m page : Memory) (R : Ruled T m) (p : �
   changes-calls : (n : ℕ) (s d : Memory) → m failureAt ≡ 0 → (step T m page p ≡ Step.stuck → ⊥) → Changes T m page p n s d → BindingsKept T m s → CallsKept T m page p n s
   changes-calls n _ _ z free (failureMark h) k =
       let l = failure-low n (statement-listed T m page (contextOf m p) n (next T m page p) (h .fails)) in
-      other-step n _ (λ y. omega arith) (all-calls T m _ k (alike-record m m 0 (alike m 0) 1 9 n (omega arith)))
+      other-step n _ (λ y. omega arith) (all-calls T m _ k (R .most) (alike-record m m 0 (alike m 0) 1 9 n (omega arith)))
   changes-calls _ _ _ z free (nothing h) k = other-step 1 m (λ y. omega arith) (λ r. refl)
-  changes-calls _ _ _ z free (givesUp h) k = other-step 1 _ (λ y. omega arith) (all-calls T m _ k (alike-record m m 0 (alike m 0) (m (worksAt p)) 6 0 (omega arith)))
+  changes-calls _ _ _ z free (givesUp h) k = other-step 1 _ (λ y. omega arith) (all-calls T m _ k (R .most) (alike-record m m 0 (alike m 0) (m (worksAt p)) 6 0 (omega arith)))
   changes-calls _ _ _ z free (endedBefore c e) k = other-step 2 m (λ y. omega arith) (λ r. refl)
   changes-calls _ _ _ z free (endsNow g h) k = other-step 2 _ (λ y. omega arith) (ended-calls g h k)
   changes-calls _ _ _ z free absent k = other-step 3 m (λ y. omega arith) (λ r. refl)

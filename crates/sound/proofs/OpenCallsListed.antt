@@ -12,10 +12,10 @@ use Rattle.basics.specs.Choice.{both, between}
 use Rattle.basics.specs.Cases.{cases}
 use Rattle.basics.proofs.Bools.{no-true, both-l, both-r, both-i, both-false-l, both-false-r}
 use Rattle.table.specs.Table.{Table}
-use Rattle.machine.specs.Memory.{Memory, memoryOf, update, zeros}
+use Rattle.machine.specs.Memory.{Memory, memoryOf, update, within, fill, zeros}
 use Rattle.machine.specs.Layout.{recordAt, statusAt, frameAt, depthAt, createdAt, callerFrame, calledBlock}
 use Rattle.machine.specs.Calls.{standing}
-use Rattle.machine.specs.Run.{begin}
+use Rattle.machine.specs.Run.{first, begin}
 use Rattle.sound.specs.InUse.{Created, Call, innermost, caller}
 use Rattle.sound.specs.Histories.{Seen, finally, Threaded, Every}
 use Rattle.sound.specs.OpenCalls.{OpenCall, callsFrom, openCalls, Among, CallsListed, callsAfter, callsMade, CallsKept}
@@ -122,12 +122,12 @@ calls-made T r s (e ∷ es) fs t h =
     a ∙ ap (λ cs. callsMade T r cs es) (b ∙ ap (callsAfter T (memoryOf (e .before)) (e .process) (e .answer) r) c)
 
 -- at the start there are none
-first-none : (T : Table) → openCalls (begin T) 1 ≡ []
-unfolding begin standing update zeros recordAt openCalls callsFrom between both
-first-none T = refl
+first-none : (T : Table) (number : ℕ) → openCalls (begin T number) 1 ≡ []
+unfolding begin first fill within standing update zeros recordAt openCalls callsFrom between both
+first-none T number = refl
 
-pub begin-none : (T : Table) (r : ℕ) → openCalls (begin T) r ≡ []
-begin-none T r =
+pub begin-none : (T : Table) (number r : ℕ) → openCalls (begin T number) r ≡ []
+begin-none T number r =
     cases (eqb r 1)
-    (λ e. rw (eqb-true r 1 e) (first-none T))
-    (λ e. open-none (begin T) r (λ c s. let a = c .least in let b = c .most in let d = begin-created T in eqb-false r 1 e (omega arith)))
+    (λ e. rw (eqb-true r 1 e) (first-none T number))
+    (λ e. open-none (begin T number) r (λ c s. let a = c .least in let b = c .most in let d = begin-created T number in eqb-false r 1 e (omega arith)))

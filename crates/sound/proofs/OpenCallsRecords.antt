@@ -13,10 +13,12 @@ use Rattle.machine.specs.Memory.{Memory, update, store}
 use Rattle.machine.specs.Layout.{recordAt, linkAt, statusAt, frameAt, depthAt, createdAt, callerFrame, calledBlock, locations}
 use Rattle.machine.specs.Calls.{standing}
 use Rattle.machine.proofs.Memories.{update-other}
+use Rattle.machine.proofs.MarkLaws.{SameWords}
 use Rattle.sound.specs.InUse.{Created, Call, innermost, caller}
 use Rattle.sound.specs.Bindings.{link, BindingsKept}
 use Rattle.sound.specs.OpenCalls.{callsFrom, openCalls}
 use Rattle.sound.proofs.HistoriesRecords.{unlike-words}
+use Rattle.sound.proofs.StoresMarks.{marks-record}
 use Rattle.sound.proofs.StoresMemory.{records-apart, store-record}
 use Rattle.sound.proofs.OpenCallsListed.{not-created, open-started, open-none}
 use Rattle.sound.proofs.Ruled.{in-created}
@@ -27,10 +29,10 @@ pub record Words (m s : Memory) (r : ℕ) : Type 0 where
   pub frame : s (frameAt r) ≡ m (frameAt r)
   pub depth : s (depthAt r) ≡ m (depthAt r)
 
--- as many processes are created, and the records of all but e say the same
+-- as many processes are created, and the records of all of 64 but e say the same
 pub record Alike (m s : Memory) (e : ℕ) : Type 0 where
   pub count : s createdAt ≡ m createdAt
-  pub words : (r : ℕ) → 1 ≤ r → (r ≡ e → ⊥) → Words m s r
+  pub words : (r : ℕ) → 1 ≤ r → r ≤ 64 → (r ≡ e → ⊥) → Words m s r
 
 -- word k of a record is not read for its calls
 pub record Unnoted (k : ℕ) : Type 0 where
@@ -41,17 +43,17 @@ pub record Unnoted (k : ℕ) : Type 0 where
   pub count : k ≡ 8 → ⊥
 
 pub alike : (m : Memory) (e : ℕ) → Alike m m e
-alike m e = record { count = refl; words = λ r l n. record { status = refl; frame = refl; depth = refl } }
+alike m e = record { count = refl; words = λ r l g n. record { status = refl; frame = refl; depth = refl } }
 
 module _ (m s : Memory) (e : ℕ) (h : Alike m s e) where
   -- what leaves these words of the records leaves them alike
-  alike-by : (u : Memory) → u createdAt ≡ s createdAt → ((r k : ℕ) → 1 ≤ r → (r ≡ e → ⊥) → k < 20 → (k ≡ 8 → ⊥) → u (recordAt r k) ≡ s (recordAt r k)) → Alike m u e
+  alike-by : (u : Memory) → u createdAt ≡ s createdAt → ((r k : ℕ) → 1 ≤ r → r ≤ 64 → (r ≡ e → ⊥) → k < 20 → (k ≡ 8 → ⊥) → u (recordAt r k) ≡ s (recordAt r k)) → Alike m u e
   alike-by u c w = record {
     count = c ∙ h .count;
-    words = λ r l n. let x = h .words r l n in record {
-      status = w r 0 l n (omega arith) (λ z. omega arith) ∙ x .status;
-      frame = w r 3 l n (omega arith) (λ z. omega arith) ∙ x .frame;
-      depth = w r 7 l n (omega arith) (λ z. omega arith) ∙ x .depth;
+    words = λ r l g n. let x = h .words r l g n in record {
+      status = w r 0 l g n (omega arith) (λ z. omega arith) ∙ x .status;
+      frame = w r 3 l g n (omega arith) (λ z. omega arith) ∙ x .frame;
+      depth = w r 7 l g n (omega arith) (λ z. omega arith) ∙ x .depth;
     };
   }
 
@@ -64,7 +66,7 @@ module _ (m s : Memory) (e : ℕ) (h : Alike m s e) where
       let f = u .count in
       record {
         count = update-other s _ v _ (unlike-words 1 q 8 k (omega arith)) ∙ h .count;
-        words = λ r l n. let x = h .words r l n in record {
+        words = λ r l g n. let x = h .words r l g n in record {
           status = update-other s _ v _ (unlike-words r q 0 k (omega arith)) ∙ x .status;
           frame = update-other s _ v _ (unlike-words r q 3 k (omega arith)) ∙ x .frame;
           depth = update-other s _ v _ (unlike-words r q 7 k (omega arith)) ∙ x .depth;
@@ -75,11 +77,16 @@ module _ (m s : Memory) (e : ℕ) (h : Alike m s e) where
   pub alike-own : (k v : ℕ) → 1 ≤ e → k < 20 → (k ≡ 8 → ⊥) → Alike m (update s (recordAt e k) v) e
   alike-own k v o l g =
       alike-by _ (update-other s _ v _ (unlike-words 1 e 8 k (omega arith)))
-      (λ r j i n a b. update-other s _ v _ (records-apart r e j k i o a l n))
+      (λ r j i g n a b. update-other s _ v _ (records-apart r e j k i o a l n))
 
   pub alike-store : (a : ℕ) (ws : List ℕ) → a + length ws ≤ locations → Alike m (store s a ws) e
   alike-store a ws l =
-      alike-by _ (store-record s a ws l 1 8) (λ r k i n b c. store-record s a ws l r k)
+      alike-by _ (store-record s a ws l 1 8) (λ r k i g n b c. store-record s a ws l r k)
+
+  -- marks say nothing of calls
+  pub alike-same : (u : Memory) → SameWords s u → Alike m u e
+  alike-same u w =
+      alike-by u (marks-record s u w 1 8 (omega arith) (omega arith) (omega arith)) (λ r k i g n b c. marks-record s u w r k i g b)
 
 pub alike-standing : (m s : Memory) (e c f t w d : ℕ) → 1 ≤ e → Alike m s e → Alike m (standing s e c f t w d) e
 unfolding standing
@@ -110,18 +117,18 @@ module _ (T : Table) (m s : Memory) (k : BindingsKept T m s) where
       let n = eqb-false _ 2 e in
       open-none s r (λ z y. n (sym (w .status) ∙ y)) ∙ sym (open-none m r (λ z y. n y)))
 
-  pub alike-calls : (e : ℕ) → Alike m s e → (r : ℕ) → (1 ≤ r → r ≡ e → ⊥) → openCalls s r ≡ openCalls m r
-  alike-calls e h r n =
+  pub alike-calls : m createdAt ≤ 64 → (e : ℕ) → Alike m s e → (r : ℕ) → (1 ≤ r → r ≡ e → ⊥) → openCalls s r ≡ openCalls m r
+  alike-calls most e h r n =
       let q = h .count in
       cases (between 1 (m createdAt) r)
       (λ i.
       let c = in-created m r i in
       let a = c .least in
       let b = c .most in
-      words-calls r c (record { least = a; most = omega arith }) (h .words r a (n a)))
+      words-calls r c (record { least = a; most = omega arith }) (h .words r a (omega arith) (n a)))
       (λ i. open-none s r (λ c y. let a = c .least in let b = c .most in not-created m r i (record { least = a; most = omega arith }))
       ∙ sym (open-none m r (λ c y. not-created m r i c)))
 
   -- all calls stay
-  pub all-calls : Alike m s 0 → (r : ℕ) → openCalls s r ≡ openCalls m r
-  all-calls h r = alike-calls 0 h r (λ l z. omega arith)
+  pub all-calls : m createdAt ≤ 64 → Alike m s 0 → (r : ℕ) → openCalls s r ≡ openCalls m r
+  all-calls most h r = alike-calls most 0 h r (λ l z. omega arith)

@@ -25,11 +25,11 @@ use Rattle.typing.specs.Typing.{typed}
 use Rattle.verdict.specs.Verdict.{judgedLate, judgedUses, judged, judgedBytes, verdict}
 use Rattle.verdict.proofs.Promise.{promise}
 use Rattle.machine.specs.Memory.{memoryOf}
-use Rattle.machine.specs.Public.{refusal, look, called, finished, beginRefusal, beginCall, runRefusal, runCall, lookRefusal, lookCall}
+use Rattle.machine.specs.Public.{refusal, wordThere, look, called, finished, beginRefusal, beginCall, runRefusal, runCall, lookRefusal, lookCall}
 use Rattle.machine.proofs.Calling.{refused-none, refuses-none, begin-refused, run-refused, run-lengths, run-accepted, run-ruled}
-use Rattle.machine.specs.Layout.{stateWords, stateSize}
+use Rattle.machine.specs.Layout.{stateWords}
 use Rattle.sound.specs.Histories.{stateBytes, pageBytes, begunResult, result}
-use Rattle.sound.specs.Refusals.{Checked, accepts, refuses, AllRight, Lowest, BeginResult, returned, RunResult, sees, looked, LookResult, Results}
+use Rattle.sound.specs.Refusals.{Checked, accepts, refuses, AllRight, Lowest, beginnable, began, BeginResult, returned, RunResult, sees, set, looked, LookResult, Results}
 use Rattle.sound.proofs.Histories.{Traced, traced}
 use Rattle.sound.proofs.HistoriesBegin.{word-table}
 use Rattle.sound.proofs.HistoriesBytes.{memory-small, memory-sized}
@@ -100,26 +100,26 @@ success-of l v s = (λ e. refused-none l v s e, λ h. refuses-none l v s (h .0) 
 
 -- ---- begin
 
-module _ (w : ℕ) (table state : List ℕ) where
-  begin-refusal : beginRefusal verdict w table state ≡ refusal (eqb (length state) stateSize) (verdict w table) true
+module _ (w : ℕ) (table state : List ℕ) (number : ℕ) where
+  begin-refusal : beginRefusal verdict w table state number ≡ refusal (beginnable verdict w table state number) (verdict w table) true
   unfolding beginRefusal refusal
-  begin-refusal = ap (λ (v : ℕ). pick (eqb (length state) stateSize) v 1) (unruled (verdict w table))
+  begin-refusal = ap (λ (v : ℕ). pick (beginnable verdict w table state number) v 1) (unruled (verdict w table))
     where
       unruled : (v : ℕ) → v ≡ pick (eqb v 0) 0 v
       unruled v = cases (eqb v 0) (λ e. rw e (eqb-true v 0 e)) (λ e. rw e)
 
-  begin-is : begunResult (beginCall verdict w table state) ≡ beginRefusal verdict w table state
+  begin-is : began verdict w table state number ≡ beginRefusal verdict w table state number
   unfolding beginCall begunResult
-  begin-is = cases (eqb (beginRefusal verdict w table state) 0) (λ e. rw e (sym (eqb-true _ 0 e))) (λ e. rw e)
+  begin-is = cases (eqb (beginRefusal verdict w table state number) 0) (λ e. rw e (sym (eqb-true _ 0 e))) (λ e. rw e)
 
-  begin-result : BeginResult verdict w table state
+  begin-result : BeginResult verdict w table state number
   begin-result =
-      let e : begunResult (beginCall verdict w table state) ≡ refusal (eqb (length state) stateSize) (verdict w table) true = begin-is ∙ begin-refusal in
+      let e : began verdict w table state number ≡ refusal (beginnable verdict w table state number) (verdict w table) true = begin-is ∙ begin-refusal in
       record {
         is = begin-is;
         lowest = rw e (lowest-of _ _ _ _ (reason-of _ _ _ (verdict-checked w table)));
         success = rw e (success-of _ _ _);
-        unchanged = λ n. rw (begin-is) (begin-refused verdict w table state (λ z. n (begin-is ∙ z)));
+        unchanged = λ n. rw (begin-is) (begin-refused verdict w table state number (λ z. n (begin-is ∙ z)));
       }
 
 -- ---- run
@@ -165,58 +165,71 @@ refusal-most true v s (refuses a b) = let n : v ≡ 0 → ⊥ = λ z. omega arit
 refusal-most true v false (accepts z) = rw (eq-eqb v 0 z) (omega arith)
 refusal-most true v true (accepts z) = rw (eq-eqb v 0 z) (omega arith)
 
--- what look gives: a refusal, 11, or a word
-data Looks (right : ℕ) (seen : Bool) (r : ℕ) : Type 0 where
-  turnedDown : (right ≡ 0 → ⊥) → r ≡ right → Looks right seen r
-  sees-none : right ≡ 0 → seen ≡ false → r ≡ 11 → Looks right seen r
-  sees-word : right ≡ 0 → seen ≡ true → 65536 ≤ r → r < 131072 → Looks right seen r
+-- what look gives: a refusal, 11, 32, or a word
+data Looks (right : ℕ) (seen given : Bool) (r : ℕ) : Type 0 where
+  turnedDown : (right ≡ 0 → ⊥) → r ≡ right → Looks right seen given r
+  sees-none : right ≡ 0 → seen ≡ false → r ≡ 11 → Looks right seen given r
+  sees-unset : right ≡ 0 → seen ≡ true → given ≡ false → r ≡ 32 → Looks right seen given r
+  sees-word : right ≡ 0 → seen ≡ true → given ≡ true → 65536 ≤ r → r < 131072 → Looks right seen given r
 
 module _ (w : ℕ) (table state : List ℕ) (process variable place : ℕ) (bs : Bytes state) where
-  looks-seen : (right seen : Bool) (n k : ℕ) → k < 65536 → eqb n 0 ≡ right → Looks n seen (pick right (pick seen (65536 + k) 11) n)
-  looks-seen false seen n k l e = turnedDown (eqb-false n 0 e) refl
-  looks-seen true false n k l e = sees-none (eqb-true n 0 e) refl refl
-  looks-seen true true n k l e = sees-word (eqb-true n 0 e) refl (omega arith) (omega arith)
+  looks-seen : (right seen given : Bool) (n k : ℕ) → k < 65536 → eqb n 0 ≡ right → Looks n seen given (pick right (pick seen (pick given (65536 + k) 32) 11) n)
+  looks-seen false seen given n k l e = turnedDown (eqb-false n 0 e) refl
+  looks-seen true false given n k l e = sees-none (eqb-true n 0 e) refl refl
+  looks-seen true true false n k l e = sees-unset (eqb-true n 0 e) refl refl refl
+  looks-seen true true true n k l e = sees-word (eqb-true n 0 e) refl refl (omega arith) (omega arith)
 
-  looks : Looks (lookRefusal verdict w table state) (sees verdict w table state process variable place) (looked verdict w table state process variable place)
-  unfolding lookCall look
-  looks = looks-seen _ _ _ _ (memory-small state bs .small _) refl
+  looks : Looks (lookRefusal verdict w table state) (sees verdict w table state process variable place) (set verdict w table state process variable place) (looked verdict w table state process variable place)
+  unfolding lookCall look wordThere
+  looks = looks-seen _ _ _ _ _ (memory-small state bs .small _) refl
 
-  module _ (right : ℕ) (l : Bool) (v : ℕ) (b : Bool) (seen : Bool) (r : ℕ) (e : right ≡ refusal l v b) (c : Checked v) where
+  module _ (right : ℕ) (l : Bool) (v : ℕ) (b : Bool) (seen given : Bool) (r : ℕ) (e : right ≡ refusal l v b) (c : Checked v) where
     most-right : right ≤ 10
     most-right = rw e (refusal-most l v b c)
 
-    look-reason : Looks right seen r → Reason l v b r
+    look-reason : Looks right seen given r → Reason l v b r
     look-reason (turnedDown n q) = rw (q, e) (reason-of l v b c)
     look-reason (sees-none z f q) = none (refused-none l v b (sym e ∙ z)) (λ n x y u. omega arith)
-    look-reason (sees-word z f q h) = none (refused-none l v b (sym e ∙ z)) (λ n x y u. omega arith)
+    look-reason (sees-unset z f g q) = none (refused-none l v b (sym e ∙ z)) (λ n x y u. omega arith)
+    look-reason (sees-word z f g q h) = none (refused-none l v b (sym e ∙ z)) (λ n x y u. omega arith)
 
     right-all : AllRight l v b → right ≡ 0
     right-all h = e ∙ refuses-none l v b (h .0) (h .1 .0) (h .1 .1)
 
-    look-eleven : Looks right seen r → (r ≡ 11) ↔ (AllRight l v b × (seen ≡ false))
+    look-eleven : Looks right seen given r → (r ≡ 11) ↔ (AllRight l v b × (seen ≡ false))
     look-eleven (turnedDown n q) = let m = most-right in (λ z. absurd (omega arith), λ h. absurd (n (right-all (h .0))))
     look-eleven (sees-none z f q) = (λ u. (refused-none l v b (sym e ∙ z), f), λ h. q)
-    look-eleven (sees-word z f q h) = (λ u. absurd (omega arith), λ g. no-true (sym (g .1) ∙ f))
+    look-eleven (sees-unset z f g q) = (λ u. absurd (omega arith), λ h. no-true (sym (h .1) ∙ f))
+    look-eleven (sees-word z f g q h) = (λ u. absurd (omega arith), λ k. no-true (sym (k .1) ∙ f))
 
-    look-success : Looks right seen r → (65536 ≤ r) ↔ (AllRight l v b × (seen ≡ true))
+    look-unset : Looks right seen given r → (r ≡ 32) ↔ (AllRight l v b × ((seen ≡ true) × (given ≡ false)))
+    look-unset (turnedDown n q) = let m = most-right in (λ z. absurd (omega arith), λ h. absurd (n (right-all (h .0))))
+    look-unset (sees-none z f q) = (λ u. absurd (omega arith), λ h. no-true (sym f ∙ h .1 .0))
+    look-unset (sees-unset z f g q) = (λ u. (refused-none l v b (sym e ∙ z), (f, g)), λ h. q)
+    look-unset (sees-word z f g q h) = (λ u. absurd (omega arith), λ k. no-true (sym (k .1 .1) ∙ g))
+
+    look-success : Looks right seen given r → (65536 ≤ r) ↔ (AllRight l v b × ((seen ≡ true) × (given ≡ true)))
     look-success (turnedDown n q) = let m = most-right in (λ z. absurd (omega arith), λ h. absurd (n (right-all (h .0))))
-    look-success (sees-none z f q) = (λ u. absurd (omega arith), λ g. no-true (sym f ∙ g .1))
-    look-success (sees-word z f q h) = (λ u. (refused-none l v b (sym e ∙ z), f), λ g. q)
+    look-success (sees-none z f q) = (λ u. absurd (omega arith), λ h. no-true (sym f ∙ h .1 .0))
+    look-success (sees-unset z f g q) = (λ u. absurd (omega arith), λ h. no-true (sym g ∙ h .1 .1))
+    look-success (sees-word z f g q h) = (λ u. (refused-none l v b (sym e ∙ z), (f, g)), λ k. q)
 
-    look-most : Looks right seen r → r < 131072
+    look-most : Looks right seen given r → r < 131072
     look-most (turnedDown n q) = let m = most-right in omega arith
     look-most (sees-none z f q) = omega arith
-    look-most (sees-word z f q h) = h
+    look-most (sees-unset z f g q) = omega arith
+    look-most (sees-word z f g q h) = h
 
   look-result : LookResult verdict w table state process variable place
   unfolding lookRefusal
   look-result =
       let c = verdict-checked w table in
       record {
-        lowest = lowest-of _ _ _ _ (look-reason _ _ _ _ _ _ refl c looks);
-        eleven = look-eleven _ _ _ _ _ _ refl c looks;
-        success = look-success _ _ _ _ _ _ refl c looks;
-        most = look-most _ _ _ _ _ _ refl c looks;
+        lowest = lowest-of _ _ _ _ (look-reason _ _ _ _ _ _ _ refl c looks);
+        eleven = look-eleven _ _ _ _ _ _ _ refl c looks;
+        thirtyTwo = look-unset _ _ _ _ _ _ _ refl c looks;
+        success = look-success _ _ _ _ _ _ _ refl c looks;
+        most = look-most _ _ _ _ _ _ _ refl c looks;
       }
 
 -- THE THEOREM

@@ -8,8 +8,8 @@ use Rattle.machine.specs.Memory.{Memory}
 use Rattle.machine.specs.Context.{Context}
 use Rattle.machine.specs.Entries.{Statement}
 use Rattle.machine.specs.Outcomes.{isFailure}
-use Rattle.machine.proofs.Tests.{failure-i}
-use Rattle.sound.specs.Conditions.{NodeFails, result, inverted, divisor, index, device, transferred, inRecord, inArray, inIndex, inVariable, inUnary, inTransfer, inLeft, inRight, ArgumentsFail, thisArgument, laterArgument, GuardsFail, thisGuard, laterGuard, StatementFails, target, source, localArgument, localArea, callee, calleeEmpty, callArgument, callArea, createe, limit, startee, starteeEmpty, startedTwice, startArgument, guard, address, datum, location}
+use Rattle.machine.proofs.Tests.{failure-i, failure-unset}
+use Rattle.sound.specs.Conditions.{NodeFails, result, inverted, divisor, index, device, transferred, unset, inRecord, inArray, inIndex, inVariable, inUnary, inTransfer, inLeft, inRight, ArgumentsFail, thisArgument, laterArgument, GuardsFail, thisGuard, laterGuard, StatementFails, target, source, localArgument, localArea, callee, calleeUnset, calleeEmpty, callArgument, callArea, createe, limit, startee, starteeUnset, starteeEmpty, startedTwice, startArgument, guard, address, datum, location}
 
 module _ (T : Table) (m page : Memory) (x : Context) where
   node-listed : (f n : ℕ) → NodeFails T m page x f n → isFailure f ≡ true
@@ -19,6 +19,7 @@ module _ (T : Table) (m page : Memory) (x : Context) where
   node-listed _ n (index e y t w h) = failure-i _ (omega arith) (omega arith)
   node-listed _ n (device e y h) = failure-i _ (omega arith) (omega arith)
   node-listed _ n (transferred e y h) = failure-i _ (omega arith) (omega arith)
+  node-listed _ n (unset e y h) = failure-unset
   node-listed f n (inRecord {a = a} e h) = node-listed f a h
   node-listed f n (inArray {a = a} e h) = node-listed f a h
   node-listed f n (inIndex {k = k} e y h) = node-listed f k h
@@ -42,12 +43,14 @@ module _ (T : Table) (m page : Memory) (x : Context) where
   statement-listed f _ (localArgument h) = arguments-listed f _ _ _ h
   statement-listed _ _ (localArea e h) = failure-i _ (omega arith) (omega arith)
   statement-listed f _ (callee h) = node-listed f _ h
+  statement-listed _ _ (calleeUnset y u) = failure-unset
   statement-listed _ _ (calleeEmpty y z) = failure-i _ (omega arith) (omega arith)
   statement-listed f _ (callArgument y z s h) = arguments-listed f _ _ _ h
   statement-listed _ _ (callArea y z s e h) = failure-i _ (omega arith) (omega arith)
   statement-listed f _ (createe h) = node-listed f _ h
   statement-listed _ _ (limit y e) = failure-i _ (omega arith) (omega arith)
   statement-listed f _ (startee h) = node-listed f _ h
+  statement-listed _ _ (starteeUnset y u) = failure-unset
   statement-listed _ _ (starteeEmpty y z) = failure-i _ (omega arith) (omega arith)
   statement-listed _ _ (startedTwice y z n) = failure-i _ (omega arith) (omega arith)
   statement-listed f _ (startArgument y z s t h) = arguments-listed f _ _ _ h

@@ -25,9 +25,9 @@ use Rattle.machine.specs.Entries.{arrayType, typeAt, Unary, minus, not, val, no
 use Rattle.machine.specs.Entries.{Node, constant, whole, field, element, retrieve, unary, binary, transfer, noNode, nodeAt}
 use Rattle.machine.specs.Context.{Context}
 use Rattle.machine.specs.Variables.{belongs, offsetOf}
-use Rattle.machine.specs.Operands.{simple, truth, given, unaryValue, ordered, integral, logical, binaryValue, outside, placeAt, fieldPlace, elementPlace, moduleVariable, frameVariable, wholePlace, nodeOperand, operandAt, operand}
+use Rattle.machine.specs.Operands.{simple, truth, given, unaryValue, ordered, integral, logical, binaryValue, outside, placeAt, fieldPlace, elementPlace, moduleVariable, frameVariable, wholePlace, retrieved, nodeOperand, operandAt, operand}
 use Rattle.machine.proofs.Outcomes.{g-need, g-where, g-pick, g-place, g-value, g-word, g-record, g-array}
-use Rattle.sound.specs.Conditions.{OutOfRange, Exact, sum, difference, product, quotient, remainder, Divides, byDivide, byModulus, Yields, NodeFails, result, inverted, divisor, index, device, transferred, inRecord, inArray, inIndex, inVariable, inUnary, inTransfer, inLeft, inRight}
+use Rattle.sound.specs.Conditions.{OutOfRange, Exact, sum, difference, product, quotient, remainder, Divides, byDivide, byModulus, Yields, NodeFails, result, inverted, divisor, index, device, transferred, unset, inRecord, inArray, inIndex, inVariable, inUnary, inTransfer, inLeft, inRight}
 use Rattle.sound.proofs.RowsOutcomes.{Near, same, lost, n-need, n-where, n-place-fails, n-place, n-value-fails, n-value, n-word-fails, n-word, n-array}
 
 -- a failure of this outcome meets F
@@ -178,7 +178,7 @@ module _ (T : Table) (m page : Memory) (x : Context) where
         (λ e. g-need (Met G) is-stuck _ _ (met-frame _ _ _)))
 
     met-node : (N : Node) → nodeAt T n ≡ N → Met G (nodeOperand T m page x (below n) N)
-    unfolding nodeOperand fieldPlace elementPlace G transferW
+    unfolding nodeOperand fieldPlace elementPlace retrieved G transferW
     met-node (constant τ v) e = g-need (Met G) is-stuck _ _ (met-simple G τ v)
     met-node (whole v) e = met-whole v
     met-node (field a i) e =
@@ -189,7 +189,9 @@ module _ (T : Table) (m page : Memory) (x : Context) where
         (λ l τ q. g-array (Met G) is-stuck _ _ (λ ι σ low high t.
         g-word (Met G) is-stuck (below n k) ι _ (λ f u. is-fail (inIndex e (below-ok n a _ q) (first-fails k f u)))
         (λ ρ ws u. g-where (Met G) is-stuck _ 18 _ (λ h. is-fail (index e (below-ok n a _ q) t (below-ok n k _ u) h)) (λ h. met-place G T _ _))))
-    met-node (retrieve a) e = g-place (Met G) is-stuck (below n a) _ (λ f q. is-fail (inVariable e (first-fails a f q))) (λ l τ q. is-ok)
+    met-node (retrieve a) e =
+        g-place (Met G) is-stuck (below n a) _ (λ f q. is-fail (inVariable e (first-fails a f q)))
+        (λ l τ q. g-where (Met G) is-stuck _ 31 _ (λ h. is-fail (unset e (below-ok n a _ q) (not-true _ h))) (λ h. is-ok))
     met-node (unary o a) e =
         g-value (Met G) is-stuck (below n a) _ (λ f q. is-fail (inUnary e (first-fails a f q))) (λ τ us q. met-unary o a τ us e (below-ok n a _ q))
     met-node (binary o a b) e =
@@ -246,7 +248,7 @@ module _ (T : Table) (m page : Memory) (x : Context) where
   at-node n N e h = rw (operand-is n, e) h
 
   pub fails-near : (f n : ℕ) → NodeFails T m page x f n → Near (fail f) (operand T m page x n)
-  unfolding nodeOperand unaryValue negW given transferW
+  unfolding nodeOperand retrieved unaryValue negW given transferW
   fails-near _ n (result {o = o} {a = a} {b = b} {τ = τ} {σ = σ} {us = us} {vs = vs} e y w q r) =
       at-node n _ e
       (n-value (fail 16) τ us (below n a) _ (near-below n a (same y))
@@ -273,6 +275,8 @@ module _ (T : Table) (m page : Memory) (x : Context) where
       at-node n _ e
       (n-value (fail 23) σ us (below n a) _ (near-below n a (same y))
       (n-need (fail 23) _ _ (rw h (same refl))))
+  fails-near _ n (unset {a = a} {i = i} {τ = τ} e y h) =
+      at-node n _ e (n-place (fail 31) i τ (below n a) _ (near-below n a (same y)) (n-where (fail 31) _ 31 _ refl (not-false _ h)))
   fails-near f n (inRecord {a = a} e h) = at-node n _ e (n-place-fails (fail f) f (below n a) _ refl (near-below n a (fails-near f a h)))
   fails-near f n (inArray {a = a} e h) = at-node n _ e (n-place-fails (fail f) f (below n a) _ refl (near-below n a (fails-near f a h)))
   fails-near f n (inIndex {a = a} {k = k} {l = l} {τ = τ} e y h) =

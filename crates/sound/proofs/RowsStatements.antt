@@ -14,15 +14,16 @@ use Rattle.table.specs.Table.{Table}
 use Rattle.table.specs.Entries.{varMode, argNode, firstVar, params, stmtCount}
 use Rattle.machine.specs.Memory.{Memory, update}
 use Rattle.machine.specs.Layout.{statusAt, statementAt, holderAt, depthAt, callStatement}
+use Rattle.machine.specs.Marks.{marked}
 use Rattle.machine.specs.Outcomes.{Outcome, ok, fail, stuck, andThen, wordOf}
 use Rattle.machine.specs.Entries.{processType, typeAt, Opener, waits, repeats, Statement, skip, assign, localCall, processCall, create, start, opener, arm, endArms, write, blockEnd, noStatement, stmtAt}
 use Rattle.machine.specs.Context.{Context}
 use Rattle.machine.specs.Operands.{operand}
-use Rattle.machine.specs.Calls.{valueArgument, varArgument, argument, argumentWords, arguments, topAfter, pushed, call, returns, return}
+use Rattle.machine.specs.Calls.{valueArgument, varArgument, argument, argumentWords, arguments, topAfter, pushed, frameMarked, call, returns, return}
 use Rattle.machine.specs.Processes.{onModule, onProcess, onReference}
 use Rattle.machine.specs.Statements.{Effect, effect, onArms, onOpener, Choice, enters, skips, endOf, goTo, goOn, wait, moved, doAssign, doLocalCall, free, doProcessCall, doCreate, doStart, choose, chosen, doOpener, doEnd, doWrite, doBlockEnd, perform}
 use Rattle.machine.proofs.Outcomes.{g-test, g-need, g-where, g-place, g-value, g-word, g-module}
-use Rattle.sound.specs.Conditions.{Selects, Yields, NodeFails, ArgumentsFail, thisArgument, laterArgument, GuardsFail, thisGuard, laterGuard, GuardsFalse, none, more, AreaFull, Serves, StatementFails, target, source, localArgument, localArea, callee, calleeEmpty, callArgument, callArea, createe, limit, startee, starteeEmpty, startedTwice, startArgument, guard, address, datum, location, StatementWaits, blocked, busy, StatementEnds, ownBlock}
+use Rattle.sound.specs.Conditions.{Selects, Yields, NodeFails, ArgumentsFail, thisArgument, laterArgument, GuardsFail, thisGuard, laterGuard, GuardsFalse, none, more, AreaFull, Refers, Empty, Serves, StatementFails, target, source, localArgument, localArea, callee, calleeUnset, calleeEmpty, callArgument, callArea, createe, limit, startee, starteeUnset, starteeEmpty, startedTwice, startArgument, guard, address, datum, location, StatementWaits, blocked, busy, StatementEnds, ownBlock}
 use Rattle.sound.specs.Carried.{Inside, nextArm, lastEnd, LeadsTo, theEnd, pastArm, Passes, noMore, byValue, byVariable, Passed, FirstTrue, thisArm, laterArm, Carries, assigns, callsLocal, callsProcess, creates, starts, passes, leaves, again, writes, returnsLocal, returnsProcess}
 use Rattle.sound.proofs.RowsOutcomes.{Near, same, lost, n-fails, n-then, n-need, n-pass, n-where, n-place-fails, n-place, n-value-fails, n-value, n-word-fails, n-word, n-pick-true, n-pick-false}
 use Rattle.sound.proofs.RowsNodes.{node-fails, fails-near}
@@ -258,7 +259,7 @@ module _ (T : Table) (m page : Memory) (x : Context) where
   Moves S o = Reports S (moved T m page x o)
 
   call-reports : (S : Statement) (s : Memory) (q r : ℕ) (ws : List ℕ) → (AreaFull T m page x q → StatementFails T m page x 22 S)
-      → ((AreaFull T m page x q → ⊥) → Carries T m page x S (pushed T m page x s q r ws) page) → Moves S (call T m page x s q r ws)
+      → ((AreaFull T m page x q → ⊥) → Carries T m page x S (frameMarked T m page x (pushed T m page x s q r ws) q ws) page) → Moves S (call T m page x s q r ws)
   unfolding moved andThen call topAfter
   call-reports S s q r ws f g =
       g-need (Moves S) strays _ _
@@ -311,18 +312,26 @@ module _ (T : Table) (m page : Memory) (x : Context) where
       (g-got (Reports _) strays _ _ _ _ (arguments-got q c d) (λ f h. failed (localArgument h))
       (λ ws e p. call-reports _ m q (x .works) ws (λ h. localArea e h) (λ n. callsLocal p n)))
 
+  -- a reference is unmarked, or empty, or names a process
+  reference-reports : (S : Statement) (i μ : ℕ) (k : ℕ → Outcome Effect) → (marked m i ≡ false → StatementFails T m page x 31 S) → (Empty T m page x i → StatementFails T m page x 19 S)
+      → (Refers T m page x i → Reports S (k (m i))) → Reports S (onReference m i μ k)
+  unfolding onReference
+  reference-reports S i μ k f g h =
+      g-where (Reports S) strays _ 31 _ (λ u. failed (f (not-true _ u)))
+      (λ u. g-where (Reports S) strays _ 19 _ (λ z. failed (g (record { set = not-false _ u; none = eqb-true _ 0 z })))
+      (λ z. g-need (Reports S) strays _ _ (h (record { set = not-false _ u; some = eqb-false _ 0 z }))))
+
   process-reports : (a q c d : ℕ) → Reports (processCall a q c d) (doProcessCall T m page x a q c d)
-  unfolding doProcessCall onProcess onReference wait
+  unfolding doProcessCall onProcess wait
   process-reports a q c d =
       g-place (Reports _) strays (operand T m page x a) _ (λ f e. failed (callee (node-fails T m page x a f e)))
       (λ i τ y. g-module (Reports _) strays (typeAt T τ) _ (λ μ t. g-test (Reports _) strays _ _ (λ o.
-      g-where (Reports _) strays _ 19 _ (λ z. failed (calleeEmpty y (eqb-true _ 0 z)))
-      (λ z. g-need (Reports _) strays _ _
-      (cases (free m (m i))
-      (λ e. rw e (g-got (Reports _) strays _ _ _ _ (arguments-got q c d) (λ f h. failed (callArgument y (eqb-false _ 0 z) (serves (m i) e) h))
-      (λ ws u p. call-reports _ _ q (m i) ws (λ h. callArea y (eqb-false _ 0 z) (serves (m i) e) u h)
-      (λ n. callsProcess y (t ∙ ap processType (sym (eqb-true _ μ (both-r _ _ o)))) (eqb-false _ 0 z) (serves (m i) e) p n))))
-      (λ e. rw e (waited (busy y (eqb-false _ 0 z) (not-free (m i) e)) keeps)))))))
+      reference-reports _ i μ _ (λ z. calleeUnset y z) (λ z. calleeEmpty y z)
+      (λ z. cases (free m (m i))
+      (λ e. rw e (g-got (Reports _) strays _ _ _ _ (arguments-got q c d) (λ f h. failed (callArgument y z (serves (m i) e) h))
+      (λ ws u p. call-reports _ _ q (m i) ws (λ h. callArea y z (serves (m i) e) u h)
+      (λ n. callsProcess y (t ∙ ap processType (sym (eqb-true _ μ (both-r _ _ o)))) z (serves (m i) e) p n))))
+      (λ e. rw e (waited (busy y z (not-free (m i) e)) keeps))))))
 
   create-reports : (a : ℕ) → Reports (create a) (doCreate T m page x a)
   unfolding doCreate onProcess
@@ -332,16 +341,15 @@ module _ (T : Table) (m page : Memory) (x : Context) where
       g-where (Reports _) strays _ 24 _ (λ z. failed (limit y (eqb-true _ 64 z))) (λ z. goon-reports _ _ (creates y t (eqb-false _ 64 z)))))
 
   start-reports : (a c d : ℕ) → Reports (start a c d) (doStart T m page x a c d)
-  unfolding doStart onProcess onReference
+  unfolding doStart onProcess
   start-reports a c d =
       g-place (Reports _) strays (operand T m page x a) _ (λ f e. failed (startee (node-fails T m page x a f e)))
       (λ i τ y. g-module (Reports _) strays (typeAt T τ) _ (λ μ t.
-      g-where (Reports _) strays _ 19 _ (λ z. failed (starteeEmpty y (eqb-true _ 0 z)))
-      (λ z. g-need (Reports _) strays _ _
-      (g-where (Reports _) strays _ 20 _ (λ h. failed (startedTwice y (eqb-false _ 0 z) (eqb-false _ 1 (not-true _ h))))
+      reference-reports _ i μ _ (λ z. starteeUnset y z) (λ z. starteeEmpty y z)
+      (λ z. g-where (Reports _) strays _ 20 _ (λ h. failed (startedTwice y z (eqb-false _ 1 (not-true _ h))))
       (λ h. let b = eqb-true _ 1 (not-false _ h) in
-      g-got (Reports _) strays _ _ _ _ (arguments-got μ c d) (λ f u. failed (startArgument y (eqb-false _ 0 z) b t u))
-      (λ ws u p. g-need (Reports _) strays _ _ (goon-reports _ _ (starts y t (eqb-false _ 0 z) b p))))))))
+      g-got (Reports _) strays _ _ _ _ (arguments-got μ c d) (λ f u. failed (startArgument y z b t u))
+      (λ ws u p. g-need (Reports _) strays _ _ (goon-reports _ _ (starts y t z b p)))))))
 
   chosen-reports : (k : Opener) (o : Outcome Choice) → Chosen (x .statement + 1) o → Reports (opener k) (andThen o (chosen T m page x k))
   unfolding andThen chosen wait
@@ -411,10 +419,10 @@ module _ (T : Table) (m page : Memory) (x : Context) where
       n-fails (fail 22) 22 (call T m page x s q r ws) _ refl
       (n-need (fail 22) _ _ (n-where (fail 22) _ 22 _ refl (lt-ltb 256 _ h)))
 
-  room-near : (s : Memory) (q r : ℕ) (ws : List ℕ) → (AreaFull T m page x q → ⊥) → Near (ok (effect 0 (pushed T m page x s q r ws) page)) (moved T m page x (call T m page x s q r ws))
+  room-near : (s : Memory) (q r : ℕ) (ws : List ℕ) → (AreaFull T m page x q → ⊥) → Near (ok (effect 0 (frameMarked T m page x (pushed T m page x s q r ws) q ws) page)) (moved T m page x (call T m page x s q r ws))
   unfolding moved call topAfter
   room-near s q r ws n =
-      n-then _ (pushed T m page x s q r ws) (call T m page x s q r ws) _
+      n-then _ (frameMarked T m page x (pushed T m page x s q r ws) q ws) (call T m page x s q r ws) _
       (n-need _ _ _ (n-pass _ _ 22 _ (cases _ (λ e. absurd (n (ltb-true 256 _ e))) (λ e. e)) (n-need _ _ _ (same refl))))
       (same refl)
 
@@ -428,13 +436,17 @@ module _ (T : Table) (m page : Memory) (x : Context) where
     unfolding onProcess onModule
     n-known k μ t h = n-place R i τ (operand T m page x a) _ (same y) (rw t h)
 
-    n-empty : (μ : ℕ) (k : ℕ → Outcome Effect) → R ≡ fail 19 → m i ≡ 0 → Near R (onReference m i μ k)
+    n-unset : (μ : ℕ) (k : ℕ → Outcome Effect) → R ≡ fail 31 → marked m i ≡ false → Near R (onReference m i μ k)
     unfolding onReference
-    n-empty μ k e z = n-where R _ 19 _ e (eq-eqb _ 0 z)
+    n-unset μ k e z = n-where R _ 31 _ e (rw z)
 
-    n-reference : (μ : ℕ) (k : ℕ → Outcome Effect) → (m i ≡ 0 → ⊥) → Near R (k (m i)) → Near R (onReference m i μ k)
+    n-empty : (μ : ℕ) (k : ℕ → Outcome Effect) → R ≡ fail 19 → Empty T m page x i → Near R (onReference m i μ k)
     unfolding onReference
-    n-reference μ k z h = n-pass R _ 19 _ (ne-eqb _ 0 z) (n-need R _ _ h)
+    n-empty μ k e z = n-pass R _ 31 _ (rw (z .set)) (n-where R _ 19 _ e (eq-eqb _ 0 (z .none)))
+
+    n-reference : (μ : ℕ) (k : ℕ → Outcome Effect) → Refers T m page x i → Near R (k (m i)) → Near R (onReference m i μ k)
+    unfolding onReference
+    n-reference μ k z h = n-pass R _ 31 _ (rw (z .set)) (n-pass R _ 19 _ (ne-eqb _ 0 (z .some)) (n-need R _ _ h))
 
   n-process-fails : (f a : ℕ) (k : ℕ → ℕ → Outcome Effect) → NodeFails T m page x f a → Near (fail f) (onProcess T (operand T m page x a) k)
   unfolding onProcess
@@ -450,6 +462,8 @@ module _ (T : Table) (m page : Memory) (x : Context) where
   statement-near _ _ (localArea {q = q} {c = c} {d = d} {ws = ws} e h) =
       n-need (fail 22) _ _ (n-then (fail 22) ws (arguments T m page x q c d) _ (same e) (area-near _ q _ ws h))
   statement-near f _ (callee {a = a} h) = n-process-fails f a _ h
+  statement-near _ _ (calleeUnset {a = a} {i = i} {τ = τ} y z) =
+      n-process (fail 31) a i τ y _ (λ μ t. n-need (fail 31) _ _ (n-unset (fail 31) a i τ y μ _ refl z))
   statement-near _ _ (calleeEmpty {a = a} {i = i} {τ = τ} y z) =
       n-process (fail 19) a i τ y _ (λ μ t. n-need (fail 19) _ _ (n-empty (fail 19) a i τ y μ _ refl z))
   statement-near f _ (callArgument {a = a} {q = q} {c = c} {d = d} {i = i} {τ = τ} y z s h) =
@@ -462,6 +476,7 @@ module _ (T : Table) (m page : Memory) (x : Context) where
   statement-near _ _ (limit {a = a} {i = i} {τ = τ} y e) =
       n-process (fail 24) a i τ y _ (λ μ t. n-where (fail 24) _ 24 _ refl (eq-eqb _ 64 e))
   statement-near f _ (startee {a = a} h) = n-process-fails f a _ h
+  statement-near _ _ (starteeUnset {a = a} {i = i} {τ = τ} y z) = n-process (fail 31) a i τ y _ (λ μ t. n-unset (fail 31) a i τ y μ _ refl z)
   statement-near _ _ (starteeEmpty {a = a} {i = i} {τ = τ} y z) = n-process (fail 19) a i τ y _ (λ μ t. n-empty (fail 19) a i τ y μ _ refl z)
   statement-near _ _ (startedTwice {a = a} {i = i} {τ = τ} y z n) =
       n-process (fail 20) a i τ y _ (λ μ t. n-reference (fail 20) a i τ y μ _ z (n-where (fail 20) _ 20 _ refl (rw (ne-eqb _ 1 n))))

@@ -13,11 +13,11 @@ use Rattle.table.specs.Table.{Table}
 use Rattle.table.specs.Entries.{blockCount, varMode, varType, blockKind, owner, firstVar, vars, firstStmt, stmtLimit}
 use Rattle.sizes.specs.Sizes.{moduleWords}
 use Rattle.machine.specs.Memory.{Memory}
-use Rattle.machine.specs.Layout.{location, statusAt, moduleAt, statementAt, frameAt, topAt, worksAt, holderAt, depthAt, createdAt, failureAt, callerFrame, callStatement, callerWorks, calledBlock}
+use Rattle.machine.specs.Layout.{location, statusAt, moduleAt, statementAt, frameAt, topAt, worksAt, holderAt, depthAt, createdAt, failureAt, numberAt, callerFrame, callStatement, callerWorks, calledBlock}
 use Rattle.machine.specs.Entries.{stmtAt}
 use Rattle.machine.specs.Variables.{frameWords, offsetOf, isModule, isProcedure}
 use Rattle.machine.specs.Values.{holds}
-use Rattle.machine.specs.Rule.{liesIn, calls, isCreated, worked, lives, holdsOn, worksBy, moduleHolds, modulesHold, frameHolds, framesHold, frameOk, chain, moduleOk, startedOk, processOk, failureOk, rule}
+use Rattle.machine.specs.Rule.{liesIn, calls, isCreated, worked, lives, holdsOn, worksBy, moduleHolds, modulesHold, frameHolds, framesHold, frameOk, chain, moduleOk, startedOk, processOk, failureOk, runOk, rule}
 use Rattle.numbers.proofs.BlockPromise.{program-there, program-kind, owner-self, owner-there}
 use Rattle.machine.specs.Context.{blockOf, contextual}
 use Rattle.machine.specs.Outcomes.{isFailure}
@@ -247,6 +247,18 @@ module _ (T : Table) where
         (λ q. either-l _ _ q)
         (λ q. either-r (eqb (m failureAt) 0) _ (h (eqb-false (m failureAt) 0 q)))
 
+    number-in : runOk m ≡ true → m numberAt ≤ 1
+    unfolding runOk
+    number-in e = leb-true (m numberAt) 1 (both-r _ _ e)
+
+    run-failure : runOk m ≡ true → failureOk m ≡ true
+    unfolding runOk
+    run-failure e = both-l _ _ e
+
+    run-ok : failureOk m ≡ true → m numberAt ≤ 1 → runOk m ≡ true
+    unfolding runOk
+    run-ok e l = both-i _ _ e (le-leb (m numberAt) 1 l)
+
     -- THE RULE as a record, and back
     pub ruled : rule T m ≡ true → Ruled T m
     unfolding rule
@@ -254,7 +266,8 @@ module _ (T : Table) where
         record {
           some = range-low 1 64 (m createdAt) (both-l _ _ e);
           most = range-high 1 64 (m createdAt) (both-l _ _ e);
-          failed = failed-in (both-l _ _ (both-r _ _ e));
+          failed = failed-in (run-failure (both-l _ _ (both-r _ _ e)));
+          number = number-in (both-l _ _ (both-r _ _ e));
           process = λ p l h.
               let q : p - 1 + 1 ≡ p = omega arith in
               process-of p (rw q at (all-at (m createdAt) (λ i. processOk T m (i + 1)) (both-r _ _ (both-r _ _ e)) (p - 1) (omega arith)));
@@ -264,7 +277,7 @@ module _ (T : Table) where
     unfolding rule
     rules r =
         both-i _ _ (range-i 1 64 (m createdAt) (r .some) (r .most))
-        (both-i _ _ (failure-ok (r .failed))
+        (both-i _ _ (run-ok (failure-ok (r .failed)) (r .number))
         (all-i (m createdAt) (λ i. processOk T m (i + 1)) (λ i l. process-ok (i + 1) (r .process (i + 1) (omega arith) (omega arith)))))
 
 -- a module, or block 0, of a created process

@@ -24,7 +24,7 @@ same-state a b s t d e h = cc
 
 module _ (T : Table) (acc : Accepted T) (words : WordTable T) where
   reachable-rule : (m : Memory) → Reachable T m → (rule T m ≡ true) × Small m
-  reachable-rule _ atBegin = let h = begin-law T acc words .reached in (h .ruled, h .words)
+  reachable-rule _ (atBegin number l) = let h = begin-law T acc words .reached number l in (h .ruled, h .words)
   reachable-rule s (byStep {m = m} {page = page} {d = d} {a = a} p r ps e) =
       let h = reachable-rule m r in
       let u = step-laws T acc words .sound m page p (h .0) (h .1) ps in

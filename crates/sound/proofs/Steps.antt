@@ -1,4 +1,5 @@
 -- THE STEP of any process, from any state that meets the rule and any page, is sound; the first state meets the rule. Assumes nothing.
+use Prim.Native.Nat.{ℕ, _≤_}
 use mathlib.Core.Path.{_≡_}
 use mathlib.Core.Bool.{true}
 use Rattle.table.specs.Table.{Table}
@@ -17,8 +18,8 @@ use Rattle.sound.proofs.HistoriesBindings.{step-bindings}
 use Rattle.sound.proofs.StepsBegin as first
 
 module _ (T : Table) (acc : Accepted T) where
-  pub begin-ruled : rule T (begin T) ≡ true
-  begin-ruled = first.begin-ruled T acc (place-laws T acc)
+  pub begin-ruled : (number : ℕ) → number ≤ 1 → rule T (begin T number) ≡ true
+  begin-ruled number l = first.begin-ruled T acc number l (place-laws T acc)
 
   module _ (words : WordTable T) where
     pub begin-law : BeginLaw T

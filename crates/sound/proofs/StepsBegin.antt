@@ -3,91 +3,115 @@ use Prim.Native.Nat.{ℕ, _+_, _≤_, _<_}
 use mathlib.Core.Path.{_≡_, refl, _∙_}
 use mathlib.Core.Bool.{true}
 use native.Mathlib.Omega.{arith}
+use lib.Dec.{leb, ltb}
+use borrow.Author.Tests.{lt-leb}
+use Rattle.basics.proofs.Bools.{both-false-l}
 use Rattle.table.specs.Table.{Table}
 use Rattle.table.specs.Entries.{varType, blockKind, firstVar, vars, firstStmt}
 use Rattle.sizes.specs.Sizes.{moduleWords}
 use Rattle.numbers.proofs.BlockPromise.{program-there, program-kind}
-use Rattle.machine.specs.Memory.{Memory, update, zeros}
-use Rattle.machine.specs.Layout.{location, recordAt, statusAt, moduleAt, holderAt, createdAt, failureAt}
+use Rattle.machine.specs.Memory.{Memory, update, within, fill, zeros}
+use Rattle.machine.specs.Layout.{location, recordAt, statusAt, moduleAt, holderAt, createdAt, failureAt, numberAt, plainWords, markWords}
 use Rattle.machine.specs.Variables.{offsetOf}
 use Rattle.machine.specs.Values.{holds}
 use Rattle.machine.specs.Calls.{standing}
 use Rattle.machine.specs.Run.{begin}
+use Rattle.machine.specs.Run as run
 use Rattle.machine.specs.Rule.{rule}
 use Rattle.machine.proofs.Memories.{update-at, update-other}
+use Rattle.machine.proofs.MarkLaws.{SameWords}
 use Rattle.verdict.specs.Accepted.{Accepted}
 use Rattle.sound.specs.Claims.{PlaceLaws}
 use Rattle.sound.specs.Ruled.{Bottom, bottom, held, Process, Ruled}
 use Rattle.sound.proofs.Ruled.{rules}
 use Rattle.sound.proofs.StoresBlocks.{module-plain, module-fits}
 use Rattle.sound.proofs.StoresMemory.{location-add, location-low, location-up, record-high, words-apart}
+use Rattle.sound.proofs.StoresMarks.{marks-rule}
 use Rattle.sound.proofs.StoresStanding.{block-begins, stand-word, stand-depth, stand-works, stand-top, stand-frame, stand-statement, stand-area}
 use Rattle.sound.proofs.ValueBlocks.{variable-in, words-value, variable-type}
 use Rattle.sound.proofs.Worked.{worked-bottom}
 
 -- the state before process 1 stands
-unfoldable empty : Memory
-empty = update (update (update zeros (statusAt 1) 2) (holderAt 1) 1) createdAt 1
+unfoldable empty : ℕ → Memory
+empty number = update (update (update (update zeros (statusAt 1) 2) (holderAt 1) 1) createdAt 1) numberAt number
 
-empty-created : empty createdAt ≡ 1
-unfolding empty
-empty-created = update-at _ createdAt 1 createdAt refl
+module _ (number : ℕ) where
+  empty-number : empty number numberAt ≡ number
+  unfolding empty
+  empty-number = update-at _ numberAt number numberAt refl
 
-empty-holder : empty (holderAt 1) ≡ 1
-unfolding empty
-empty-holder = update-other _ createdAt 1 (holderAt 1) (words-apart 1 6 8 (λ z. omega arith)) ∙ update-at _ (holderAt 1) 1 (holderAt 1) refl
+  empty-created : empty number createdAt ≡ 1
+  unfolding empty
+  empty-created = update-other _ numberAt number createdAt (words-apart 1 8 10 (λ z. omega arith)) ∙ update-at _ createdAt 1 createdAt refl
 
-empty-status : empty (statusAt 1) ≡ 2
-unfolding empty
-empty-status =
-    update-other _ createdAt 1 (statusAt 1) (words-apart 1 0 8 (λ z. omega arith))
-    ∙ update-other _ (holderAt 1) 1 (statusAt 1) (words-apart 1 0 6 (λ z. omega arith))
-    ∙ update-at _ (statusAt 1) 2 (statusAt 1) refl
+  empty-holder : empty number (holderAt 1) ≡ 1
+  unfolding empty
+  empty-holder =
+      update-other _ numberAt number (holderAt 1) (words-apart 1 6 10 (λ z. omega arith))
+      ∙ update-other _ createdAt 1 (holderAt 1) (words-apart 1 6 8 (λ z. omega arith))
+      ∙ update-at _ (holderAt 1) 1 (holderAt 1) refl
 
-empty-else : (j : ℕ) → (j ≡ createdAt → ⊥) → (j ≡ holderAt 1 → ⊥) → (j ≡ statusAt 1 → ⊥) → empty j ≡ 0
-unfolding empty zeros
-empty-else j a b c = update-other _ createdAt 1 j a ∙ update-other _ (holderAt 1) 1 j b ∙ update-other zeros (statusAt 1) 2 j c
+  empty-status : empty number (statusAt 1) ≡ 2
+  unfolding empty
+  empty-status =
+      update-other _ numberAt number (statusAt 1) (words-apart 1 0 10 (λ z. omega arith))
+      ∙ update-other _ createdAt 1 (statusAt 1) (words-apart 1 0 8 (λ z. omega arith))
+      ∙ update-other _ (holderAt 1) 1 (statusAt 1) (words-apart 1 0 6 (λ z. omega arith))
+      ∙ update-at _ (statusAt 1) 2 (statusAt 1) refl
 
-empty-word : (k : ℕ) → (k ≡ 8 → ⊥) → (k ≡ 6 → ⊥) → (k ≡ 0 → ⊥) → empty (recordAt 1 k) ≡ 0
-empty-word k a b c = empty-else (recordAt 1 k) (words-apart 1 k 8 a) (words-apart 1 k 6 b) (words-apart 1 k 0 c)
+  empty-else : (j : ℕ) → (j ≡ numberAt → ⊥) → (j ≡ createdAt → ⊥) → (j ≡ holderAt 1 → ⊥) → (j ≡ statusAt 1 → ⊥) → empty number j ≡ 0
+  unfolding empty zeros
+  empty-else j o a b c = update-other _ numberAt number j o ∙ update-other _ createdAt 1 j a ∙ update-other _ (holderAt 1) 1 j b ∙ update-other zeros (statusAt 1) 2 j c
 
-empty-area : (j : ℕ) → j < 256 → empty (location 1 j) ≡ 0
-empty-area j l =
-    let y = location-up 1 j 256 l in
-    let z = location-low 1 256 (omega arith) (omega arith) (omega arith) in
-    empty-else (location 1 j) (λ e. let x = record-high 1 8 in omega arith) (λ e. let x = record-high 1 6 in omega arith) (λ e. let x = record-high 1 0 in omega arith)
+  empty-word : (k : ℕ) → (k ≡ 10 → ⊥) → (k ≡ 8 → ⊥) → (k ≡ 6 → ⊥) → (k ≡ 0 → ⊥) → empty number (recordAt 1 k) ≡ 0
+  empty-word k o a b c = empty-else (recordAt 1 k) (words-apart 1 k 10 o) (words-apart 1 k 8 a) (words-apart 1 k 6 b) (words-apart 1 k 0 c)
 
-module _ (T : Table) (ok : Accepted T) where
-  begin-is : begin T ≡ standing empty 1 (firstStmt T 0) 0 (moduleWords T 0) 1 0
-  unfolding begin empty
-  begin-is = refl
+  empty-area : (j : ℕ) → j < 256 → empty number (location 1 j) ≡ 0
+  empty-area j l =
+      let y = location-up 1 j 256 l in
+      let z = location-low 1 256 (omega arith) (omega arith) (omega arith) in
+      empty-else (location 1 j)
+      (λ e. let x = record-high 1 10 in omega arith) (λ e. let x = record-high 1 8 in omega arith) (λ e. let x = record-high 1 6 in omega arith) (λ e. let x = record-high 1 0 in omega arith)
+
+module _ (T : Table) (ok : Accepted T) (number : ℕ) (zero-or-one : number ≤ 1) where
+  first-is : run.first T number ≡ standing (empty number) 1 (firstStmt T 0) 0 (moduleWords T 0) 1 0
+  unfolding run.first empty
+  first-is = refl
+
+  -- the marks stand after all other words
+  begin-words : SameWords (run.first T number) (begin T number)
+  unfolding begin fill within
+  begin-words = record { plain = λ i l. rw (both-false-l (leb plainWords i) (ltb i (plainWords + markWords)) (lt-leb plainWords i l)) refl }
 
   module _ (L : PlaceLaws T) where
     abbrev first : Memory
-    first = standing empty 1 (firstStmt T 0) 0 (moduleWords T 0) 1 0
+    first = standing (empty number) 1 (firstStmt T 0) 0 (moduleWords T 0) 1 0
 
-    first-word : (k : ℕ) → (k ≡ 2 → ⊥) → (k ≡ 3 → ⊥) → (k ≡ 4 → ⊥) → (k ≡ 5 → ⊥) → (k ≡ 7 → ⊥) → first (recordAt 1 k) ≡ empty (recordAt 1 k)
-    first-word = stand-word empty 1 (firstStmt T 0) 0 (moduleWords T 0) 1 0
+    first-word : (k : ℕ) → (k ≡ 2 → ⊥) → (k ≡ 3 → ⊥) → (k ≡ 4 → ⊥) → (k ≡ 5 → ⊥) → (k ≡ 7 → ⊥) → first (recordAt 1 k) ≡ empty number (recordAt 1 k)
+    first-word = stand-word (empty number) 1 (firstStmt T 0) 0 (moduleWords T 0) 1 0
 
     first-created : first createdAt ≡ 1
-    first-created = first-word 8 (λ z. omega arith) (λ z. omega arith) (λ z. omega arith) (λ z. omega arith) (λ z. omega arith) ∙ empty-created
+    first-created = first-word 8 (λ z. omega arith) (λ z. omega arith) (λ z. omega arith) (λ z. omega arith) (λ z. omega arith) ∙ empty-created number
 
     first-failure : first failureAt ≡ 0
     first-failure =
-        first-word 9 (λ z. omega arith) (λ z. omega arith) (λ z. omega arith) (λ z. omega arith) (λ z. omega arith) ∙ empty-word 9 (λ z. omega arith) (λ z. omega arith) (λ z. omega arith)
+        first-word 9 (λ z. omega arith) (λ z. omega arith) (λ z. omega arith) (λ z. omega arith) (λ z. omega arith) ∙ empty-word number 9 (λ z. omega arith) (λ z. omega arith) (λ z. omega arith) (λ z. omega arith)
+
+    first-number : first numberAt ≡ number
+    first-number = first-word 10 (λ z. omega arith) (λ z. omega arith) (λ z. omega arith) (λ z. omega arith) (λ z. omega arith) ∙ empty-number number
 
     first-status : first (statusAt 1) ≡ 2
-    first-status = first-word 0 (λ z. omega arith) (λ z. omega arith) (λ z. omega arith) (λ z. omega arith) (λ z. omega arith) ∙ empty-status
+    first-status = first-word 0 (λ z. omega arith) (λ z. omega arith) (λ z. omega arith) (λ z. omega arith) (λ z. omega arith) ∙ empty-status number
 
     first-holder : first (holderAt 1) ≡ 1
-    first-holder = first-word 6 (λ z. omega arith) (λ z. omega arith) (λ z. omega arith) (λ z. omega arith) (λ z. omega arith) ∙ empty-holder
+    first-holder = first-word 6 (λ z. omega arith) (λ z. omega arith) (λ z. omega arith) (λ z. omega arith) (λ z. omega arith) ∙ empty-holder number
 
     first-module : first (moduleAt 1) ≡ 0
     first-module =
-        first-word 1 (λ z. omega arith) (λ z. omega arith) (λ z. omega arith) (λ z. omega arith) (λ z. omega arith) ∙ empty-word 1 (λ z. omega arith) (λ z. omega arith) (λ z. omega arith)
+        first-word 1 (λ z. omega arith) (λ z. omega arith) (λ z. omega arith) (λ z. omega arith) (λ z. omega arith) ∙ empty-word number 1 (λ z. omega arith) (λ z. omega arith) (λ z. omega arith) (λ z. omega arith)
 
     first-area : (j : ℕ) → j < 256 → first (location 1 j) ≡ 0
-    first-area j l = stand-area empty 1 (firstStmt T 0) 0 (moduleWords T 0) 1 0 (omega arith) 1 j (omega arith) (omega arith) l ∙ empty-area j l
+    first-area j l = stand-area (empty number) 1 (firstStmt T 0) 0 (moduleWords T 0) 1 0 (omega arith) 1 j (omega arith) (omega arith) l ∙ empty-area number j l
 
     first-variable : (i : ℕ) → i < vars T 0 → holds T first (varType T (firstVar T 0 + i)) (location 1 (offsetOf T 0 (firstVar T 0 + i))) ≡ true
     first-variable i l =
@@ -122,15 +146,15 @@ module _ (T : Table) (ok : Accepted T) where
           variables = rw μ first-variable;
           chain = λ z.
               rw (
-                stand-depth empty 1 (firstStmt T 0) 0 (moduleWords T 0) 1 0,
-                stand-frame empty 1 (firstStmt T 0) 0 (moduleWords T 0) 1 0,
-                stand-works empty 1 (firstStmt T 0) 0 (moduleWords T 0) 1 0,
-                stand-statement empty 1 (firstStmt T 0) 0 (moduleWords T 0) 1 0,
-                stand-top empty 1 (firstStmt T 0) 0 (moduleWords T 0) 1 0,
+                stand-depth (empty number) 1 (firstStmt T 0) 0 (moduleWords T 0) 1 0,
+                stand-frame (empty number) 1 (firstStmt T 0) 0 (moduleWords T 0) 1 0,
+                stand-works (empty number) 1 (firstStmt T 0) 0 (moduleWords T 0) 1 0,
+                stand-statement (empty number) 1 (firstStmt T 0) 0 (moduleWords T 0) 1 0,
+                stand-top (empty number) 1 (firstStmt T 0) 0 (moduleWords T 0) 1 0,
               )
               (bottom first-bottom);
           holding = λ z.
-              rw (stand-depth empty 1 (firstStmt T 0) 0 (moduleWords T 0) 1 0, stand-frame empty 1 (firstStmt T 0) 0 (moduleWords T 0) 1 0, stand-works empty 1 (firstStmt T 0) 0 (moduleWords T 0) 1 0)
+              rw (stand-depth (empty number) 1 (firstStmt T 0) 0 (moduleWords T 0) 1 0, stand-frame (empty number) 1 (firstStmt T 0) 0 (moduleWords T 0) 1 0, stand-works (empty number) 1 (firstStmt T 0) 0 (moduleWords T 0) 1 0)
               (λ x t. let i = worked-bottom first 1 0 1 x t in rw (← i) (held h));
         }
 
@@ -138,12 +162,14 @@ module _ (T : Table) (ok : Accepted T) where
     first-ruled =
         let c = first-created in
         let f = first-failure in
+        let n = first-number in
         record {
           some = omega arith;
           most = omega arith;
           failed = λ n. absurd (n f);
+          number = omega arith;
           process = λ p a b. let e : p ≡ 1 = omega arith in rw e first-process;
         }
 
-    pub begin-ruled : rule T (begin T) ≡ true
-    begin-ruled = rw begin-is (rules T first first-ruled)
+    pub begin-ruled : rule T (begin T number) ≡ true
+    begin-ruled = marks-rule T ok L (run.first T number) (begin T number) begin-words (rw first-is (rules T first first-ruled))

@@ -16,9 +16,9 @@ pub demand3 : (w : ℕ) (h : History verdict w) → Demand3 verdict w h
 demand3 w h = demand.demand3 verdict w (promise w) step-laws begin-ruled h
 
 -- and so runs begun alike of which the same is asked tell the same, to the last step
-pub agree-whole : (w : ℕ) (h k : History verdict w) → k .table ≡ h .table → asked (steps verdict w k) ≡ asked (steps verdict w h) → told (steps verdict w k) ≡ told (steps verdict w h)
-agree-whole w h k e q =
+pub agree-whole : (w : ℕ) (h k : History verdict w) → k .table ≡ h .table → k .number ≡ h .number → asked (steps verdict w k) ≡ asked (steps verdict w h) → told (steps verdict w k) ≡ told (steps verdict w h)
+agree-whole w h k e o q =
     let n = length (told (steps verdict w k)) + length (told (steps verdict w h)) in
     sym (take-all n (told (steps verdict w k)) (omega arith))
-    ∙ demand3 w h .agrees k e n (ap (take n) q)
+    ∙ demand3 w h .agrees k e o n (ap (take n) q)
     ∙ take-all n (told (steps verdict w h)) (omega arith)

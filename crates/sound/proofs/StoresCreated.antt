@@ -190,10 +190,12 @@ module _ (T : Table) (good : Accepted T) (L : PlaceLaws T) (m : Memory) (h : Rul
   created-kept =
       let e8 = created-count m next μ in
       let e9 = created-record m next μ two most 1 9 (omega arith) (omega arith) (λ z. omega arith) (λ z. let o = h .some in omega arith) in
+      let e10 = created-record m next μ two most 1 10 (omega arith) (omega arith) (λ z. omega arith) (λ z. let o = h .some in omega arith) in
       record {
         some = omega arith;
         most = omega arith;
         failed = rw e9 (h .failed);
+        number = let x = h .number in omega arith;
         process = λ p a b.
             cases (eqb p next)
             (λ e. rw (eqb-true p next e) new-process)

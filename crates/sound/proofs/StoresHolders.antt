@@ -52,6 +52,7 @@ module _ (T : Table) (ok : Accepted T) (L : PlaceLaws T) (m : Memory) (h : Ruled
         holder-held p a b s y (worked-created T m p a b (x .chain s) y t) t (x .holding s y t)))
         (λ q l r d s. holder-held q l r s)
         (set-failed m p 6 v a (omega arith) (λ z. omega arith) (λ z. omega arith) T ok L h b (λ z. absurd (omega arith)) (λ z. omega arith))
+        (λ z. omega arith)
 
   -- a process that does not hold them stays as it was
   holder-given : (p v q : ℕ) → 1 ≤ p → 1 ≤ q → (m (holderAt p) ≡ q → ⊥) → Held T m q p → Held T (update m (holderAt p) v) q p

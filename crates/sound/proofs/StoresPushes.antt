@@ -27,6 +27,7 @@ use Rattle.sound.proofs.StoresChains.{Same, carries-keeps, created-low,
 use Rattle.sound.proofs.StoresProcesses.{chain-fits, base-fits}
 use Rattle.sound.proofs.StoresRecords.{set-unlike, set-other, set-area, set-carries, Holds, passing-holds}
 use Rattle.sound.proofs.StoresHolders.{holder-worked, take-kept}
+use Rattle.sound.proofs.StoresMarks.{frame-marks, marks-rule}
 use Rattle.sound.proofs.Worked.{Alike, worked-first, worked-created, worked-begun, lives-alike}
 use Rattle.sound.proofs.StoresCalls.{chain-depth, fills-short, frameOf, push-kept}
 
@@ -67,7 +68,8 @@ module _ (T : Table) (good : Accepted T) (L : PlaceLaws T) (m page : Memory) (p 
         let w = le-leb (length ws) (frameWords T q) (fills-short T good s p q ws there F) in
         cases (ltb 256 (m (topAt p) + 4 + frameWords T q))
         (λ x. rw (w, x) full)
-        (λ x. let y = ltb-false 256 (m (topAt p) + 4 + frameWords T q) x in rw (w, x, lt-ltb (m (depthAt p)) 64 (shallow y)) (enters _ (pushed-rule y)))
+        (λ x. let y = ltb-false 256 (m (topAt p) + 4 + frameWords T q) x in rw (w, x, lt-ltb (m (depthAt p)) 64 (shallow y))
+        (enters _ (marks-rule T good L _ _ (frame-marks T m page (contextOf m p) (pushed T m page (contextOf m p) s q r ws) q ws) (pushed-rule y))))
 
   module _ (st : Started T m p) (q : ℕ) (ws : List ℕ) (F : Fills T m p q ws) (there : q < blockCount T) (kind : blockKind T q ≡ 2) (calling : calls q (stmtAt T (m (statementAt p))) ≡ true) where
     h : Ruled T m

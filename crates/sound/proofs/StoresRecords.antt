@@ -74,13 +74,15 @@ module _ (m : Memory) (r i v : ℕ) (a : 1 ≤ r) (l : i < 20) (no-module : i �
         process-same T ok L m (update m (recordAt r i) v) (set-carries begins) p x y (h .process p x y)
         (λ k g. set-other p k x (omega arith) d) (λ j g. set-area p j x (omega arith) g) o
 
-    pub set-ruled : Process T (update m (recordAt r i) v) r → ((p : ℕ) → 1 ≤ p → p ≤ m createdAt → (p ≡ r → ⊥) → Keeping p) → ((update m (recordAt r i) v failureAt ≡ 0 → ⊥) → isFailure (update m (recordAt r i) v failureAt) ≡ true) → Ruled T (update m (recordAt r i) v)
-    set-ruled n o f =
+    pub set-ruled : Process T (update m (recordAt r i) v) r → ((p : ℕ) → 1 ≤ p → p ≤ m createdAt → (p ≡ r → ⊥) → Keeping p) → ((update m (recordAt r i) v failureAt ≡ 0 → ⊥) → isFailure (update m (recordAt r i) v failureAt) ≡ true) → (i ≡ 10 → ⊥) → Ruled T (update m (recordAt r i) v)
+    set-ruled n o f d =
         let e = set-unlike 1 8 (omega arith) (omega arith) (λ x. no-created (sym x)) in
+        let e10 = set-unlike 1 10 (omega arith) (omega arith) (λ x. d (sym x)) in
         record {
           some = let x = h .some in omega arith;
           most = let x = h .most in omega arith;
           failed = f;
+          number = let x = h .number in omega arith;
           process = λ p x y.
               let y' : p ≤ m createdAt = omega arith in
               cases (eqb p r)
@@ -160,6 +162,7 @@ module _ (T : Table) (ok : Accepted T) (L : PlaceLaws T) (m : Memory) (h : Ruled
       held (set-unlike m p 2 c a (omega arith) (λ z. omega arith) (λ z. omega arith) y 6 (worked-created T m p a b (x .chain s) y t .least) (omega arith) (λ z. omega arith) ∙ o y t)))
       (set-keeps m p 2 c a (omega arith) (λ z. omega arith) (λ z. omega arith) T ok L h b (λ z. absurd (omega arith)) (λ z. omega arith))
       (set-failed m p 2 c a (omega arith) (λ z. omega arith) (λ z. omega arith) T ok L h b (λ z. absurd (omega arith)) (λ z. omega arith))
+      (λ z. omega arith)
 
   -- a process has ended
   pub status-kept : (p : ℕ) → 1 ≤ p → p ≤ m createdAt → Ruled T (update m (statusAt p) 3)
@@ -174,6 +177,7 @@ module _ (T : Table) (ok : Accepted T) (L : PlaceLaws T) (m : Memory) (h : Ruled
       (λ z. absurd (omega arith)) (λ z. absurd (omega arith)))
       (set-keeps m p 0 3 a (omega arith) (λ z. omega arith) (λ z. omega arith) T ok L h b (λ y z. omega arith) (λ z. omega arith))
       (set-failed m p 0 3 a (omega arith) (λ z. omega arith) (λ z. omega arith) T ok L h b (λ y z. omega arith) (λ z. omega arith))
+      (λ z. omega arith)
 
   -- the run has failed
   pub fail-kept : (n : ℕ) → isFailure n ≡ true → Ruled T (update m failureAt n)
@@ -198,7 +202,7 @@ module _ (T : Table) (ok : Accepted T) (L : PlaceLaws T) (m : Memory) (h : Ruled
       (set-unlike m 1 9 n one (omega arith) (λ z. omega arith) (λ z. omega arith) y 6 (worked-created T m 1 one b (x .chain s) y t .least) (omega arith) (λ z. omega arith))
       (w 5 (λ z. omega arith)) (w 2 (λ z. omega arith)) (x .holding s y t)))
       (set-keeps m 1 9 n one (omega arith) (λ z. omega arith) (λ z. omega arith) T ok L h b (λ z. absurd (omega arith)) (λ z. omega arith))
-      (λ z. ap isFailure e9 ∙ g)
+      (λ z. ap isFailure e9 ∙ g) (λ z. omega arith)
 
   -- where p stands at no when or cycle, it holds what it works on
   pub passing-holds : (p : ℕ) → 1 ≤ p → p ≤ m createdAt → m (statusAt p) ≡ 2 → mayWait (stmtAt T (m (statementAt p))) ≡ false → Holds T m p

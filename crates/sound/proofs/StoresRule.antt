@@ -41,10 +41,12 @@ module _ (T : Table) (ok : Accepted T) (L : PlaceLaws T) (m : Memory) (h : Ruled
       let u : r ≤ 64 = let y = h .most in omega arith in
       let e8 = area-record m r k ws 1 8 a u c in
       let e9 = area-record m r k ws 1 9 a u c in
+      let e10 = area-record m r k ws 1 10 a u c in
       record {
         some = let y = h .some in omega arith;
         most = let y = h .most in omega arith;
         failed = rw e9 (h .failed);
+        number = let y = h .number in omega arith;
         process = λ p l g.
             let g' : p ≤ m createdAt = omega arith in
             cases (eqb p r)

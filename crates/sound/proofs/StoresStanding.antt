@@ -175,12 +175,14 @@ module _ (s : Memory) (p c f top w d : ℕ) where
       stand-kept =
           let e8 = stand-same 1 8 (omega arith) (omega arith) (λ z. omega arith) (λ z. omega arith) (λ z. omega arith) (λ z. omega arith) (λ z. omega arith) in
           let e9 = stand-same 1 9 (omega arith) (omega arith) (λ z. omega arith) (λ z. omega arith) (λ z. omega arith) (λ z. omega arith) (λ z. omega arith) in
+          let e10 = stand-same 1 10 (omega arith) (omega arith) (λ z. omega arith) (λ z. omega arith) (λ z. omega arith) (λ z. omega arith) (λ z. omega arith) in
           let u = h .most in
           let o = h .some in
           record {
             some = omega arith;
             most = omega arith;
             failed = rw e9 (h .failed);
+            number = let x = h .number in omega arith;
             process = λ q x y.
                 let y' : q ≤ s createdAt = omega arith in
                 cases (eqb q p)

@@ -14,7 +14,7 @@ use Rattle.table.specs.Table.{Table}
 use Rattle.table.specs.Entries.{blockCount, varType, blockKind, firstVar, params, vars, firstStmt}
 use Rattle.sizes.specs.Sizes.{moduleWords}
 use Rattle.machine.specs.Memory.{Memory, store, update}
-use Rattle.machine.specs.Layout.{location, recordAt, statusAt, moduleAt, statementAt, frameAt, topAt, worksAt, holderAt, depthAt, createdAt, failureAt}
+use Rattle.machine.specs.Layout.{location, recordAt, statusAt, moduleAt, statementAt, frameAt, topAt, worksAt, holderAt, depthAt, createdAt, failureAt, numberAt}
 use Rattle.machine.specs.Variables.{firstWords, frameWords, offsetOf}
 use Rattle.machine.specs.Processes.{refers, started}
 use Rattle.machine.specs.Calls.{standing}
@@ -43,7 +43,7 @@ use Rattle.sound.proofs.ValueBlocks.{begins-at, begins-up, variable-in,
 
 -- only the record of process r is written, and its module stays
 module _ (T : Table) (good : Accepted T) (L : PlaceLaws T) (m n : Memory) (h : Ruled T m) (r : ℕ)
-    (fresh : m (statusAt r) ≡ 1) (count : n createdAt ≡ m createdAt) (failure : n failureAt ≡ m failureAt) (same-module : n (moduleAt r) ≡ m (moduleAt r))
+    (fresh : m (statusAt r) ≡ 1) (count : n createdAt ≡ m createdAt) (failure : n failureAt ≡ m failureAt) (number : n numberAt ≡ m numberAt) (same-module : n (moduleAt r) ≡ m (moduleAt r))
     (records : (q k : ℕ) → 1 ≤ q → k < 8 → (q ≡ r → ⊥) → n (recordAt q k) ≡ m (recordAt q k))
     (areas : (q j : ℕ) → 1 ≤ q → q ≤ 64 → j < 256 → n (location q j) ≡ m (location q j)) where
   pub rewritten-carries : Carries m n
@@ -69,6 +69,7 @@ module _ (T : Table) (good : Accepted T) (L : PlaceLaws T) (m n : Memory) (h : R
         some = omega arith;
         most = omega arith;
         failed = rw failure (h .failed);
+        number = let x = h .number in omega arith;
         process = λ p a b.
             let b' : p ≤ m createdAt = omega arith in
             cases (eqb p r)
@@ -179,6 +180,9 @@ module _ (T : Table) (good : Accepted T) (L : PlaceLaws T) (m : Memory) (h : Rul
   begun-failure : begun failureAt ≡ passed failureAt
   begun-failure = begun-same 1 9 (omega arith) (omega arith) (λ z. omega arith) (λ z. omega arith) (λ z. omega arith) (λ z. omega arith) (λ z. omega arith) (λ z. omega arith) (λ z. omega arith)
 
+  begun-number : begun numberAt ≡ passed numberAt
+  begun-number = begun-same 1 10 (omega arith) (omega arith) (λ z. omega arith) (λ z. omega arith) (λ z. omega arith) (λ z. omega arith) (λ z. omega arith) (λ z. omega arith) (λ z. omega arith)
+
   begun-records : (q k : ℕ) → 1 ≤ q → k < 8 → (q ≡ r → ⊥) → begun (recordAt q k) ≡ passed (recordAt q k)
   begun-records q k a l d = stand-other held r (firstStmt T μ) 0 (moduleWords T μ) r 0 one q k a (omega arith) d ∙ held-other q k a (omega arith) d
 
@@ -186,7 +190,7 @@ module _ (T : Table) (good : Accepted T) (L : PlaceLaws T) (m : Memory) (h : Rul
   begun-areas q j a b l = stand-area held r (firstStmt T μ) 0 (moduleWords T μ) r 0 one q j a b l ∙ held-area q j a b l
 
   begun-carries : Carries passed begun
-  begun-carries = rewritten-carries T good L passed begun passed-ruled r passed-fresh begun-count begun-failure begun-module begun-records begun-areas
+  begun-carries = rewritten-carries T good L passed begun passed-ruled r passed-fresh begun-count begun-failure begun-number begun-module begun-records begun-areas
 
   begun-is : begun (moduleAt r) ≡ μ
   begun-is = begun-module ∙ area-record m r 0 ws r 1 one most fits ∙ of-module
@@ -226,7 +230,7 @@ module _ (T : Table) (good : Accepted T) (L : PlaceLaws T) (m : Memory) (h : Rul
   -- THE START
   pub started-kept : Ruled T (started T m r μ ws)
   unfolding started
-  started-kept = rewritten T good L passed begun passed-ruled r passed-fresh begun-count begun-failure begun-module begun-records begun-areas begun-process
+  started-kept = rewritten T good L passed begun passed-ruled r passed-fresh begun-count begun-failure begun-number begun-module begun-records begun-areas begun-process
 
   module _ (a : 1 ≤ p) (b : p ≤ m createdAt) (st : m (statusAt p) ≡ 2) where
     apart : p ≡ r → ⊥

@@ -5,6 +5,7 @@ use Prim.Native.Nat.{ℕ, suc, _+_}
 use mathlib.Core.Path.{_≡_}
 use mathlib.Core.Bool.{true, false}
 use mathlib.Core.List.{List, [], _∷_, _++_}
+use lib.ListN.{length}
 use Rattle.basics.specs.Choice.{pick}
 use Rattle.table.specs.Table.{Table}
 use Rattle.table.specs.Entries.{argNode, varMode, varType, firstVar, params, owner}
@@ -12,14 +13,15 @@ use Rattle.types.specs.Match.{matches}
 use Rattle.words.specs.Numbers.{intOf}
 use Rattle.words.specs.Devices.{isDevice}
 use Rattle.machine.specs.Memory.{Memory, update, store}
-use Rattle.machine.specs.Layout.{statusAt, statementAt, holderAt, depthAt, createdAt, callStatement}
+use Rattle.machine.specs.Layout.{location, statusAt, statementAt, holderAt, depthAt, createdAt, callStatement}
+use Rattle.machine.specs.Marks.{mark, fresh}
 use Rattle.machine.specs.Outcomes.{wordOf}
 use Rattle.machine.specs.Entries.{processType, typeAt, Opener, waits, repeats, Statement, skip, assign, localCall, processCall, create, start, opener, arm, endArms, write, blockEnd, stmtAt}
 use Rattle.machine.specs.Context.{Context}
 use Rattle.machine.specs.Operands.{deviceWord}
-use Rattle.machine.specs.Calls.{pushed, popped}
+use Rattle.machine.specs.Calls.{pushed, frameMarked, popped}
 use Rattle.machine.specs.Processes.{created, started}
-use Rattle.sound.specs.Conditions.{Selects, Yields, GuardsFalse, AreaFull, Serves}
+use Rattle.sound.specs.Conditions.{Selects, Yields, GuardsFalse, AreaFull, Refers, Serves}
 
 -- a statement that is reached from inside the arm before it
 pub data Inside : Statement → Type 0 where
@@ -66,22 +68,22 @@ module _ (T : Table) (m page : Memory) (x : Context) where
   pub data Carries : Statement → Memory → Memory → Type 0 where
     -- 11.1
     skips : Carries skip (goingOn m) page
-    -- 11.2: an assignment stores what b yields where a selects
+    -- 11.2: an assignment stores what b yields where a selects, and marks it
     assigns : {a b i τ σ : ℕ} {ws : List ℕ} → Selects T m page x a i τ → Yields T m page x b σ ws → matches T τ σ ≡ true
-        → Carries (assign a b) (goingOn (store m i ws)) page
+        → Carries (assign a b) (goingOn (mark (store m i ws) i (length ws))) page
     -- 11.3: a local call passes its arguments and enters the procedure; what it works on stays
     callsLocal : {q c d : ℕ} {ws : List ℕ} → Passed q c d ws → (AreaFull T m page x q → ⊥)
-        → Carries (localCall q c d) (pushed T m page x m q (x .works) ws) page
+        → Carries (localCall q c d) (frameMarked T m page x (pushed T m page x m q (x .works) ws) q ws) page
     -- 11.3, 13: a process call also holds the variables of the process that its variable refers to, and works on them
-    callsProcess : {a q c d i τ : ℕ} {ws : List ℕ} → Selects T m page x a i τ → typeAt T τ ≡ processType (owner T q) → (m i ≡ 0 → ⊥)
+    callsProcess : {a q c d i τ : ℕ} {ws : List ℕ} → Selects T m page x a i τ → typeAt T τ ≡ processType (owner T q) → Refers T m page x i
         → Serves T m page x (m i) → Passed q c d ws → (AreaFull T m page x q → ⊥)
-        → Carries (processCall a q c d) (pushed T m page x (update m (holderAt (m i)) (x .process)) q (m i) ws) page
-    -- 11.4: create makes the next number a process of the module that the variable's type names, and the variable refer to it
+        → Carries (processCall a q c d) (frameMarked T m page x (pushed T m page x (update m (holderAt (m i)) (x .process)) q (m i) ws) q ws) page
+    -- 11.4: create makes the next number a process of the module that the variable's type names, its area too, and the variable refer to it
     creates : {a i τ μ : ℕ} → Selects T m page x a i τ → typeAt T τ ≡ processType μ → (m createdAt ≡ 64 → ⊥)
-        → Carries (create a) (goingOn (update (created m (m createdAt + 1) μ) i (m createdAt + 1))) page
+        → Carries (create a) (goingOn (mark (fresh (update (created m (m createdAt + 1) μ) i (m createdAt + 1)) (location (m createdAt + 1) 0) 256) i 1)) page
     -- 11.5: start passes its arguments to the process that the variable refers to, which stands at its first statement then
-    starts : {a c d i τ μ : ℕ} {ws : List ℕ} → Selects T m page x a i τ → typeAt T τ ≡ processType μ → (m i ≡ 0 → ⊥)
-        → m (statusAt (m i)) ≡ 1 → Passed μ c d ws → Carries (start a c d) (goingOn (started T m (m i) μ ws)) page
+    starts : {a c d i τ μ : ℕ} {ws : List ℕ} → Selects T m page x a i τ → typeAt T τ ≡ processType μ → Refers T m page x i
+        → m (statusAt (m i)) ≡ 1 → Passed μ c d ws → Carries (start a c d) (goingOn (mark (started T m (m i) μ ws) (location (m i) 0) (length ws))) page
     -- 11.7 to 11.10: an opener enters the first arm whose guard is true; a when or cycle holds the variables worked on again
     enters : {k : Opener} {j : ℕ} → FirstTrue (x .statement + 1) j
         → Carries (opener k) (goingTo (pick (waits k) (update m (holderAt (x .works)) (x .process)) m) (j + 1)) page

@@ -16,9 +16,11 @@ use Rattle.table.specs.Table.{Table}
 use Rattle.table.specs.Entries.{argNode, firstVar}
 use Rattle.machine.specs.Memory.{Memory}
 use Rattle.machine.specs.Layout.{statusAt, topAt, holderAt, depthAt, createdAt}
+use Rattle.machine.specs.Marks.{marked, allMarked}
 use Rattle.machine.specs.Outcomes.{ok, place, value, wordOf}
 use Rattle.machine.specs.Entries.{arrayType, processType, typeAt, Unary, minus, val, Binary, add, subtract, multiply, divide, modulus, field, element, retrieve, unary, binary, transfer, nodeAt}
 use Rattle.machine.specs.Entries.{Opener, waits, Statement, assign, localCall, processCall, create, start, opener, arm, endArms, write, blockEnd, stmtAt}
+use Rattle.sizes.specs.Sizes.{wordsOf}
 use Rattle.machine.specs.Variables.{frameWords}
 use Rattle.machine.specs.Context.{Context}
 use Rattle.machine.specs.Operands.{operand, outside}
@@ -67,6 +69,8 @@ module _ (T : Table) (m page : Memory) (x : Context) where
     device : {n a τ : ℕ} {us : List ℕ} → nodeAt T n ≡ unary val a → Yields a τ us → isDevice (intOf (wordOf us)) ≡ false → NodeFails 21 n
     -- 23: transferred word is no value of the type
     transferred : {n a τ σ : ℕ} {us : List ℕ} → nodeAt T n ≡ transfer a τ → Yields a σ us → inType τ (wordOf us) ≡ false → NodeFails 23 n
+    -- 31: a word of the variable that is retrieved is unmarked
+    unset : {n a i τ : ℕ} → nodeAt T n ≡ retrieve a → Selects a i τ → allMarked m i (wordsOf T τ) ≡ false → NodeFails 31 n
     -- an operand's failure is met first: the record of a field; the array variable before its index; the variable of a value
     inRecord : {f n a i : ℕ} → nodeAt T n ≡ field a i → NodeFails f a → NodeFails f n
     inArray : {f n a k : ℕ} → nodeAt T n ≡ element a k → NodeFails f a → NodeFails f n
@@ -97,6 +101,15 @@ module _ (T : Table) (m page : Memory) (x : Context) where
   abbrev pub AreaFull : ℕ → Type 0
   AreaFull q = 256 < m (topAt (x .process)) + 4 + frameWords T q
 
+  -- the process variable at location i has a value, which names a process; which is empty
+  pub record Refers (i : ℕ) : Type 0 where
+    pub set : marked m i ≡ true
+    pub some : m i ≡ 0 → ⊥
+
+  pub record Empty (i : ℕ) : Type 0 where
+    pub set : marked m i ≡ true
+    pub none : m i ≡ 0
+
   -- process r can serve a call: it is started and nobody holds its variables
   pub record Serves (r : ℕ) : Type 0 where
     pub started : m (statusAt r) ≡ 1 → ⊥
@@ -110,21 +123,23 @@ module _ (T : Table) (m page : Memory) (x : Context) where
     -- a local call evaluates arguments, then tests the area (22)
     localArgument : {f q c d : ℕ} → ArgumentsFail f d (firstVar T q) c → StatementFails f (localCall q c d)
     localArea : {q c d : ℕ} {ws : List ℕ} → arguments T m page x q c d ≡ ok ws → AreaFull q → StatementFails 22 (localCall q c d)
-    -- a process call tests its reference (19), waits, evaluates arguments, tests the area (22)
+    -- a process call tests its reference (31, then 19), waits, evaluates arguments, tests the area (22)
     callee : {f a q c d : ℕ} → NodeFails f a → StatementFails f (processCall a q c d)
-    calleeEmpty : {a q c d i τ : ℕ} → Selects a i τ → m i ≡ 0 → StatementFails 19 (processCall a q c d)
-    callArgument : {f a q c d i τ : ℕ} → Selects a i τ → (m i ≡ 0 → ⊥) → Serves (m i) → ArgumentsFail f d (firstVar T q) c
+    calleeUnset : {a q c d i τ : ℕ} → Selects a i τ → marked m i ≡ false → StatementFails 31 (processCall a q c d)
+    calleeEmpty : {a q c d i τ : ℕ} → Selects a i τ → Empty i → StatementFails 19 (processCall a q c d)
+    callArgument : {f a q c d i τ : ℕ} → Selects a i τ → Refers i → Serves (m i) → ArgumentsFail f d (firstVar T q) c
         → StatementFails f (processCall a q c d)
-    callArea : {a q c d i τ : ℕ} {ws : List ℕ} → Selects a i τ → (m i ≡ 0 → ⊥) → Serves (m i) → arguments T m page x q c d ≡ ok ws → AreaFull q
+    callArea : {a q c d i τ : ℕ} {ws : List ℕ} → Selects a i τ → Refers i → Serves (m i) → arguments T m page x q c d ≡ ok ws → AreaFull q
         → StatementFails 22 (processCall a q c d)
     -- create selects its variable, tests the limit (24)
     createe : {f a : ℕ} → NodeFails f a → StatementFails f (create a)
     limit : {a i τ : ℕ} → Selects a i τ → m createdAt ≡ 64 → StatementFails 24 (create a)
-    -- start tests its reference (19, then 20), then arguments
+    -- start tests its reference (31, then 19, then 20), then arguments
     startee : {f a c d : ℕ} → NodeFails f a → StatementFails f (start a c d)
-    starteeEmpty : {a c d i τ : ℕ} → Selects a i τ → m i ≡ 0 → StatementFails 19 (start a c d)
-    startedTwice : {a c d i τ : ℕ} → Selects a i τ → (m i ≡ 0 → ⊥) → (m (statusAt (m i)) ≡ 1 → ⊥) → StatementFails 20 (start a c d)
-    startArgument : {f a c d i τ μ : ℕ} → Selects a i τ → (m i ≡ 0 → ⊥) → m (statusAt (m i)) ≡ 1 → typeAt T τ ≡ processType μ
+    starteeUnset : {a c d i τ : ℕ} → Selects a i τ → marked m i ≡ false → StatementFails 31 (start a c d)
+    starteeEmpty : {a c d i τ : ℕ} → Selects a i τ → Empty i → StatementFails 19 (start a c d)
+    startedTwice : {a c d i τ : ℕ} → Selects a i τ → Refers i → (m (statusAt (m i)) ≡ 1 → ⊥) → StatementFails 20 (start a c d)
+    startArgument : {f a c d i τ μ : ℕ} → Selects a i τ → Refers i → m (statusAt (m i)) ≡ 1 → typeAt T τ ≡ processType μ
         → ArgumentsFail f d (firstVar T μ) c → StatementFails f (start a c d)
     -- an opener tries its guards
     guard : {f : ℕ} {k : Opener} → GuardsFail f (x .statement + 1) → StatementFails f (opener k)
@@ -136,7 +151,7 @@ module _ (T : Table) (m page : Memory) (x : Context) where
   -- a statement waits: every guard of a when or cycle is false; a process call's target is unstarted or held
   pub data StatementWaits : Statement → Type 0 where
     blocked : {k : Opener} → waits k ≡ true → GuardsFalse (x .statement + 1) → StatementWaits (opener k)
-    busy : {a q c d i τ : ℕ} → Selects a i τ → (m i ≡ 0 → ⊥) → (m (statusAt (m i)) ≡ 1) ⊎ (m (holderAt (m i)) ≡ 0 → ⊥)
+    busy : {a q c d i τ : ℕ} → Selects a i τ → Refers i → (m (statusAt (m i)) ≡ 1) ⊎ (m (holderAt (m i)) ≡ 0 → ⊥)
         → StatementWaits (processCall a q c d)
 
   -- a statement ends the process's own block

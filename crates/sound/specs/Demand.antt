@@ -7,7 +7,9 @@ use mathlib.Core.List.{List, [], _++_}
 use lib.ListN.{take}
 use Rattle.table.specs.Table.{Table, tableOf}
 use Rattle.machine.specs.Memory.{memoryOf}
-use Rattle.machine.specs.Layout.{moduleAt, createdAt, failureAt}
+use Rattle.machine.specs.Layout.{locations, moduleAt, createdAt, failureAt, numberAt}
+use Rattle.machine.specs.Marks.{marked}
+use Rattle.machine.specs.Public.{look}
 use Rattle.machine.specs.Step.{done, step}
 use Rattle.machine.specs.Rule.{rule}
 use Rattle.sound.specs.Histories.{Seen, asked, told, processes, answers, finally, Threaded, Every, Lasting, order, written, Served, Handed, stateAfter, History, first, steps}
@@ -74,8 +76,16 @@ module _ (verdict : ℕ → List ℕ → ℕ) (w : ℕ) where
         → (p : ℕ) → openCalls (memoryOf (finally (first verdict w h) es)) p ≡ callsMade (tableOf w (h .table)) p [] es
     -- the variables of calls in use are those of these calls
     pub callsListed : (es fs : List Seen) → es ++ fs ≡ steps verdict w h → CallsListed (tableOf w (h .table)) (memoryOf (finally (first verdict w h) es))
-    -- a run begun alike begins with the same state; as far as it names the same order and sees the same device words, it gives the same
+    -- the number that it was begun with stays. Begun with 1, every word is marked after any steps, es: no step answers 31 and no look 32
+    -- (02, g)
+    pub number : (es fs : List Seen) → es ++ fs ≡ steps verdict w h → memoryOf (finally (first verdict w h) es) numberAt ≡ h .number
+    pub set : h .number ≡ 1 → (es fs : List Seen) → es ++ fs ≡ steps verdict w h → (a : ℕ) → a < locations
+        → marked (memoryOf (finally (first verdict w h) es)) a ≡ true
+    pub neverUnset : h .number ≡ 1 → Every (λ e. e .answer ≡ 31 → ⊥) (steps verdict w h)
+    pub looks : h .number ≡ 1 → (es fs : List Seen) → es ++ fs ≡ steps verdict w h → (p v k : ℕ)
+        → look (tableOf w (h .table)) (memoryOf (finally (first verdict w h) es)) p v k ≡ 32 → ⊥
+    -- a run begun alike, with one table and one number, begins with the same state; as far as it names the same order and sees the same device words, it gives the same
     -- answers, states and device words, wherever the calls of the two begin and end (of a host that cuts its calls: Cuts)
-    pub alike : (k : History verdict w) → k .table ≡ h .table → first verdict w k ≡ first verdict w h
-    pub agrees : (k : History verdict w) → k .table ≡ h .table → (n : ℕ) → take n (asked (steps verdict w k)) ≡ take n (asked (steps verdict w h))
+    pub alike : (k : History verdict w) → k .table ≡ h .table → k .number ≡ h .number → first verdict w k ≡ first verdict w h
+    pub agrees : (k : History verdict w) → k .table ≡ h .table → k .number ≡ h .number → (n : ℕ) → take n (asked (steps verdict w k)) ≡ take n (asked (steps verdict w h))
         → take n (told (steps verdict w k)) ≡ take n (told (steps verdict w h))

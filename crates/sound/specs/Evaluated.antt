@@ -9,14 +9,15 @@ use Rattle.table.specs.Table.{Table}
 use Rattle.table.specs.Entries.{typeCount, blockCount, typeKind, typeP, varMode, varType, blockKind, owner, firstVar, params, argNode, nodeKind, nodeP, nodeQ, stmtKind, stmtA, stmtB, stmtC, stmtD}
 use Rattle.types.specs.Types.{typeOf}
 use Rattle.machine.specs.Memory.{Memory, update, store}
-use Rattle.machine.specs.Layout.{statusAt, statementAt, frameAt, worksAt, holderAt, depthAt, createdAt}
+use Rattle.machine.specs.Layout.{location, statusAt, statementAt, frameAt, worksAt, holderAt, depthAt, createdAt}
 use Rattle.machine.specs.Outcomes.{Outcome, ok, fail, Operand, place, value, isFailure}
 use Rattle.machine.specs.Variables.{frameWords, belongs, fits}
 use Rattle.machine.specs.Processes.{refers, created, started}
 use Rattle.machine.specs.Values.{holds}
 use Rattle.machine.specs.Context.{contextOf, blockOf}
 use Rattle.machine.specs.Operands.{deviceWord}
-use Rattle.machine.specs.Calls.{topAfter, pushed, return}
+use Rattle.machine.specs.Marks.{mark, fresh}
+use Rattle.machine.specs.Calls.{topAfter, pushed, frameMarked, return}
 use Rattle.machine.specs.Statements.{Effect, effect}
 use Rattle.machine.specs.Rule.{lives}
 use Rattle.machine.specs.Rule as state
@@ -93,19 +94,19 @@ pub data Performed (T : Table) (m page : Memory) (p : ℕ) : Outcome Effect → 
   gives-up : state.mayWait (stmtAt T (m (statementAt p))) ≡ true → Performed T m page p (ok (effect 1 (update m (holderAt (m (worksAt p))) 0) page))
   -- an assignment
   assigns : (τ a : ℕ) (ws : List ℕ) → Passing T m p → state.liesIn T (blockOf m p) (m (statementAt p) + 1) ≡ true → Live T m p τ a → IsValue T m τ ws → SmallWords ws
-      → Performed T m page p (ok (effect 0 (update (store m a ws) (statementAt p) (m (statementAt p) + 1)) page))
+      → Performed T m page p (ok (effect 0 (update (mark (store m a ws) a (length ws)) (statementAt p) (m (statementAt p) + 1)) page))
   -- a local call; a process call that is served, or waits
   calls : (q : ℕ) (ws : List ℕ) {c n : ℕ} → stmtAt T (m (statementAt p)) ≡ localCall q c n → owner T q ≡ owner T (blockOf m p) → Pushable T m page p q ws
-      → Performed T m page p (ok (effect 0 (pushed T m page (contextOf m p) m q (m (worksAt p)) ws) page))
+      → Performed T m page p (ok (effect 0 (frameMarked T m page (contextOf m p) (pushed T m page (contextOf m p) m q (m (worksAt p)) ws) q ws) page))
   serves : (r q : ℕ) (ws : List ℕ) {i c n : ℕ} → stmtAt T (m (statementAt p)) ≡ processCall i q c n → refers m (owner T q) r ≡ true → (m (statusAt r) ≡ 1 → ⊥) → m (holderAt r) ≡ 0 → Pushable T m page p q ws
-      → Performed T m page p (ok (effect 0 (pushed T m page (contextOf m p) (update m (holderAt r) p) q r ws) page))
+      → Performed T m page p (ok (effect 0 (frameMarked T m page (contextOf m p) (pushed T m page (contextOf m p) (update m (holderAt r) p) q r ws) q ws) page))
   waits : Performed T m page p (ok (effect 1 m page))
   -- a creation, a start, a write
   creates : (τ a : ℕ) → Passing T m p → state.liesIn T (blockOf m p) (m (statementAt p) + 1) ≡ true → Live T m p τ a → typeKind T τ ≡ 3 → m createdAt < 64
-      → Performed T m page p (ok (effect 0 (update (update (created m (m createdAt + 1) (typeP T τ)) a (m createdAt + 1)) (statementAt p) (m (statementAt p) + 1)) page))
+      → Performed T m page p (ok (effect 0 (update (mark (fresh (update (created m (m createdAt + 1) (typeP T τ)) a (m createdAt + 1)) (location (m createdAt + 1) 0) 256) a 1) (statementAt p) (m (statementAt p) + 1)) page))
   starts : (r μ : ℕ) (ws : List ℕ) → Passing T m p → state.liesIn T (blockOf m p) (m (statementAt p) + 1) ≡ true → refers m μ r ≡ true → m (statusAt r) ≡ 1 → μ < blockCount T → blockKind T μ ≡ 1
       → Bound T m p (params T μ) (firstVar T μ) ws → length ws ≤ 256
-      → Performed T m page p (ok (effect 0 (update (started T m r μ ws) (statementAt p) (m (statementAt p) + 1)) page))
+      → Performed T m page p (ok (effect 0 (update (mark (started T m r μ ws) (location r 0) (length ws)) (statementAt p) (m (statementAt p) + 1)) page))
   writes : (a v : ℕ) → Passing T m p → state.liesIn T (blockOf m p) (m (statementAt p) + 1) ≡ true → a < 65536 → v < 65536 → isDevice (intOf a) ≡ true
       → Performed T m page p (ok (effect 0 (update m (statementAt p) (m (statementAt p) + 1)) (update page (deviceWord a) v)))
   -- the end of its own block, and of a call

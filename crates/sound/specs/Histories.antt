@@ -85,6 +85,11 @@ unfoldable pub devicesAfter : List ℕ → List Seen → List ℕ
 devicesAfter d [] = d
 devicesAfter d (e ∷ es) = devicesAfter (e .left) es
 
+-- what a host can see of them: the answer, and the device words after each step
+unfoldable pub shown : List Seen → List (ℕ × List ℕ)
+shown [] = []
+shown (e ∷ es) = (e .answer, e .left) ∷ shown es
+
 -- P holds of every step
 unfoldable pub Every : (Seen → Type 0) → List Seen → Type 0
 Every P [] = Unit
@@ -184,21 +189,22 @@ module _ (verdict : ℕ → List ℕ → ℕ) (w : ℕ) where
   Calls t s (x ∷ xs) = Fits t s x × Calls t (stateLeft (callOf s x)) xs
 
   -- the state that begin leaves in the slice that it is lent
-  unfoldable pub begunWith : List ℕ → List ℕ → List ℕ
-  begunWith t slice = begunState (beginCall verdict w t slice)
+  unfoldable pub begunWith : List ℕ → List ℕ → ℕ → List ℕ
+  begunWith t slice number = begunState (beginCall verdict w t slice number)
 
-  -- A RUN: a begin that is not refused, with its table and the slice that it fills, and any list of run calls
+  -- A RUN: a begin that is not refused, with its table, the slice that it fills and its number, and any list of run calls
   pub record History : Type 0 where
     pub table : List ℕ
     pub slice : List ℕ
+    pub number : ℕ
     pub calls : List Ask
     pub bytes : Bytes table
-    pub begins : begunResult (beginCall verdict w table slice) ≡ 0
-    pub fits : Calls table (begunWith table slice) calls
+    pub begins : begunResult (beginCall verdict w table slice number) ≡ 0
+    pub fits : Calls table (begunWith table slice number) calls
 
   -- the state that it begins with, its steps, its order and its answers
   abbrev pub first : History → List ℕ
-  first h = begunWith (h .table) (h .slice)
+  first h = begunWith (h .table) (h .slice) (h .number)
 
   abbrev pub steps : History → List Seen
   steps h = history (first h) (h .calls)

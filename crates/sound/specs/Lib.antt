@@ -14,5 +14,6 @@ pub mod OpenCalls
 pub mod Created
 pub mod Cuts
 pub mod Demand
+pub mod Tested
 pub mod Refusals
 pub mod StateRule

@@ -16,7 +16,7 @@ use Rattle.sound.specs.Answers.{Small, Sound}
 pub record Sized (n : ℕ) (m : Memory) : Type 0 where
   pub beyond : (i : ℕ) → n ≤ i → m i ≡ 0
 
--- a state that meets the rule, of 17,664 words; a page of 4,096 words
+-- a state that meets the rule, of 18,688 words; a page of 4,096 words
 pub record Reached (T : Table) (m : Memory) : Type 0 where
   pub ruled : rule T m ≡ true
   pub words : Small m
@@ -44,4 +44,4 @@ pub record StepLaws (T : Table) : Type 0 where
 
 -- begin's state is one that steps reach
 pub record BeginLaw (T : Table) : Type 0 where
-  pub reached : Reached T (begin T)
+  pub reached : (number : ℕ) → number ≤ 1 → Reached T (begin T number)

@@ -7,13 +7,16 @@ use mathlib.Core.Bool.{Bool, true, false}
 use mathlib.Core.Logic.{_↔_}
 use mathlib.Core.List.{List}
 use lib.ListN.{length}
-use lib.Dec.{eqb}
+use lib.Dec.{eqb, leb}
+use Rattle.basics.specs.Choice.{both}
 use Rattle.words.specs.Bytes.{Bytes}
 use Rattle.table.specs.Table.{tableOf}
 use Rattle.machine.specs.Memory.{memoryOf}
 use Rattle.machine.specs.Rule.{rule}
 use Rattle.machine.specs.Public.{visible, begun, called, runLengths, beginRefusal, beginCall, runRefusal, runCall, lookCall}
-use Rattle.machine.specs.Layout.{stateSize}
+use Rattle.machine.specs.Layout.{location, moduleAt, stateSize}
+use Rattle.machine.specs.Marks.{marked}
+use Rattle.machine.specs.Variables.{offsetOf}
 use Rattle.sound.specs.Histories.{begunResult, result}
 
 -- ---- the numbers that check gives
@@ -35,13 +38,20 @@ module _ (lengths : Bool) (v : ℕ) (state : Bool) where
 
 module _ (verdict : ℕ → List ℕ → ℕ) (w : ℕ) (table state : List ℕ) where
   -- BEGIN
-  pub record BeginResult : Type 0 where
-    pub is : begunResult (beginCall verdict w table state) ≡ beginRefusal verdict w table state
-    pub lowest : Lowest (eqb (length state) stateSize) (verdict w table) true (begunResult (beginCall verdict w table state))
-    pub success : (begunResult (beginCall verdict w table state) ≡ 0) ↔ AllRight (eqb (length state) stateSize) (verdict w table) true
-    -- where it refuses, the state is as it was
-    pub unchanged : (begunResult (beginCall verdict w table state) ≡ 0 → ⊥)
-        → beginCall verdict w table state ≡ begun (begunResult (beginCall verdict w table state)) state
+  module _ (number : ℕ) where
+    -- are the state's length and the number right (02, g)
+    abbrev pub beginnable : Bool
+    beginnable = both (eqb (length state) stateSize) (leb number 1)
+
+    abbrev pub began : ℕ
+    began = begunResult (beginCall verdict w table state number)
+
+    pub record BeginResult : Type 0 where
+      pub is : began ≡ beginRefusal verdict w table state number
+      pub lowest : Lowest beginnable (verdict w table) true began
+      pub success : (began ≡ 0) ↔ AllRight beginnable (verdict w table) true
+      -- where it refuses, the state is as it was
+      pub unchanged : (began ≡ 0 → ⊥) → beginCall verdict w table state number ≡ begun began state
 
   -- does the state meet its rule
   abbrev pub ruled : Bool
@@ -67,18 +77,23 @@ module _ (verdict : ℕ → List ℕ → ℕ) (w : ℕ) (table state : List ℕ)
     abbrev pub sees : Bool
     sees = visible (tableOf w table) (memoryOf state) process variable place
 
+    -- is the word that they name marked
+    abbrev pub set : Bool
+    set = marked (memoryOf state) (location process (offsetOf (tableOf w table) (memoryOf state (moduleAt process)) variable + place))
+
     abbrev pub looked : ℕ
     looked = lookCall verdict w table state process variable place
 
     pub record LookResult : Type 0 where
       pub lowest : Lowest (eqb (length state) stateSize) (verdict w table) ruled looked
       pub eleven : (looked ≡ 11) ↔ (AllRight (eqb (length state) stateSize) (verdict w table) ruled × (sees ≡ false))
-      pub success : (65536 ≤ looked) ↔ (AllRight (eqb (length state) stateSize) (verdict w table) ruled × (sees ≡ true))
+      pub thirtyTwo : (looked ≡ 32) ↔ (AllRight (eqb (length state) stateSize) (verdict w table) ruled × ((sees ≡ true) × (set ≡ false)))
+      pub success : (65536 ≤ looked) ↔ (AllRight (eqb (length state) stateSize) (verdict w table) ruled × ((sees ≡ true) × (set ≡ true)))
       pub most : looked < 65536 + 65536
 
 -- ALL FOUR CALLS, for every input: a table, a state and a page are bytes
 pub record Results (verdict : ℕ → List ℕ → ℕ) (w : ℕ) : Type 0 where
   pub checks : (table : List ℕ) → Checked (verdict w table)
-  pub begins : (table state : List ℕ) → BeginResult verdict w table state
+  pub begins : (table state : List ℕ) (number : ℕ) → BeginResult verdict w table state number
   pub runs : (table state page schedule answers : List ℕ) → Bytes table → Bytes state → Bytes page → RunResult verdict w table state page schedule answers
   pub looks : (table state : List ℕ) (process variable place : ℕ) → Bytes state → LookResult verdict w table state process variable place

@@ -9,7 +9,7 @@ use Rattle.table.specs.Table.{Table}
 use Rattle.table.specs.Entries.{blockCount, varMode, varType, blockKind, owner, firstVar, params, vars, firstStmt, stmtLimit}
 use Rattle.sizes.specs.Sizes.{moduleWords}
 use Rattle.machine.specs.Memory.{Memory}
-use Rattle.machine.specs.Layout.{location, statusAt, moduleAt, statementAt, frameAt, topAt, worksAt, holderAt, depthAt, createdAt, failureAt, callerFrame, callStatement, callerWorks, calledBlock}
+use Rattle.machine.specs.Layout.{location, statusAt, moduleAt, statementAt, frameAt, topAt, worksAt, holderAt, depthAt, createdAt, failureAt, numberAt, callerFrame, callStatement, callerWorks, calledBlock}
 use Rattle.machine.specs.Entries.{stmtAt}
 use Rattle.machine.specs.Variables.{firstWords, frameWords, offsetOf}
 use Rattle.machine.specs.Context.{blockOf}
@@ -78,6 +78,7 @@ pub record Ruled (T : Table) (m : Memory) : Type 0 where
   pub some : 1 ≤ m createdAt
   pub most : m createdAt ≤ 64
   pub failed : (m failureAt ≡ 0 → ⊥) → isFailure (m failureAt) ≡ true
+  pub number : m numberAt ≤ 1
   pub process : (p : ℕ) → 1 ≤ p → p ≤ m createdAt → Process T m p
 
 -- the context of a started process: its block exists, and is one of the module of the process that it works on

@@ -1,6 +1,6 @@
 -- Trusted: public promises are said with these definitions.
 -- What the state rule is worth (01, Verdicts and other refusals: The state rule). States and pages are memories of words. Assumes nothing.
-use Prim.Native.Nat.{ℕ}
+use Prim.Native.Nat.{ℕ, _≤_}
 use mathlib.Core.Path.{_≡_}
 use mathlib.Core.Bool.{true, false}
 use Rattle.table.specs.Table.{Table}
@@ -16,7 +16,7 @@ use Rattle.sound.specs.InUse.{Created, Call, ValuesHold}
 
 -- a state that begin and steps reach, of any processes and on any pages
 pub data Reachable (T : Table) : Memory → Type 0 where
-  atBegin : Reachable T (begin T)
+  atBegin : (number : ℕ) → number ≤ 1 → Reachable T (begin T number)
   byStep : {m page s d : Memory} {a : ℕ} (p : ℕ) → Reachable T m → Small page → step T m page p ≡ done a s d → Reachable T s
 
 -- process p is started, and stands at no when or cycle
