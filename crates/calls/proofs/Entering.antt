@@ -21,7 +21,7 @@ use Rattle.machine.specs.Entries.{stmtAt}
 use Rattle.machine.specs.Variables.{frameWords, isProcedure}
 use Rattle.machine.specs.Context as machine
 use Rattle.machine.specs.Context.{contextOf}
-use Rattle.machine.specs.Calls.{argumentWords, arguments, pushed, call}
+use Rattle.machine.specs.Calls.{argumentWords, arguments, pushed, frameMarked, call}
 use Rattle.machine.specs.Statements.{effect, moved, doLocalCall, perform}
 use Rattle.code.specs.Code.{decoded}
 use Rattle.operands.specs.declared.Context.{Context}
@@ -164,7 +164,7 @@ module _ (t m p : List ℕ) (x : Context) (q : ℕ) (st : Memory) (r : ℕ) (l :
       entering-held = h .room few
 
       pub entering-done : (s1 : List ℕ)
-          → Becomes s1 (pushed (decoded t) (memoryOf m) (memoryOf p) (contextOf (memoryOf m) (x .process)) st q r (take n l))
+          → Becomes s1 (frameMarked (decoded t) (memoryOf m) (memoryOf p) (contextOf (memoryOf m) (x .process)) (pushed (decoded t) (memoryOf m) (memoryOf p) (contextOf (memoryOf m) (x .process)) st q r (take n l)) q (take n l))
           → Stepped 0 s1 p (carried (decoded t) (memoryOf m) (memoryOf p) (contextIn x))
       entering-done s1 c =
           let d = call-done (decoded t) (memoryOf m) (memoryOf p) st (x .process) q r (h .words) call-unstuck fits-under in
@@ -175,7 +175,7 @@ module _ (t m p : List ℕ) (x : Context) (q : ℕ) (l : List ℕ) (n : ℕ)
     (h : Entering t m p x q (memoryOf m) (x .works) l n) (size : ℕ) (hs : Counted (decoded t) q size) (b : Bool)
     (hb : b ≡ ltb 256 (memoryOf m (topAt (x .process)) + 4 + size)) (e : b ≡ false) where
   pub entering-local : (s1 : List ℕ)
-      → ((page : Memory) → Becomes s1 (pushed (decoded t) (memoryOf m) page (contextOf (memoryOf m) (x .process)) (memoryOf m) q (memoryOf m (worksAt (x .process))) (take n l)))
+      → ((page : Memory) → Becomes s1 (frameMarked (decoded t) (memoryOf m) page (contextOf (memoryOf m) (x .process)) (pushed (decoded t) (memoryOf m) page (contextOf (memoryOf m) (x .process)) (memoryOf m) q (memoryOf m (worksAt (x .process))) (take n l)) q (take n l)))
       → Stepped 0 s1 p (carried (decoded t) (memoryOf m) (memoryOf p) (contextIn x))
   entering-local s1 c =
       entering-done t m p x q (memoryOf m) (x .works) l n h size hs b hb e s1

@@ -1,17 +1,17 @@
 -- What an argument that is not stuck comes to. Assumes nothing.
-use Prim.Native.Nat.{ℕ, _+_, _-_, _<_, _≤_}
+use Prim.Native.Nat.{ℕ, _+_, _<_, _≤_}
 use mathlib.Core.Path.{_≡_, refl, sym, ap, subst, _∙_}
 use mathlib.Core.Bool.{Bool, true, false}
 use mathlib.Core.List.{List, [], _∷_}
 use lib.ListN.{length}
 use lib.Dec.{eqb, ltb}
 use native.Mathlib.Omega.{arith}
-use borrow.Author.Tests.{eqb-true, ltb-true, ltb-false}
+use borrow.Author.Tests.{eqb-true, ltb-true}
 use Rattle.basics.specs.Choice.{pick, both}
 use Rattle.basics.specs.Cases.{cases}
 use Rattle.basics.proofs.Bools.{both-r}
 use Rattle.table.specs.Table.{Table}
-use Rattle.table.specs.Entries.{varCount, argCount, nodeCount, varMode, varType, argNode, nodeKind, nodeP}
+use Rattle.table.specs.Entries.{varCount, argCount, nodeCount, varMode, varType, argNode, nodeKind}
 use Rattle.types.specs.Types.{typeOf}
 use Rattle.types.specs.Match.{matches}
 use Rattle.sizes.specs.Sizes.{wordsOf}
@@ -32,17 +32,15 @@ use Rattle.code.specs.Code.{decoded}
 use Rattle.operands.specs.declared.Context.{Context}
 use Rattle.operands.specs.declared.Place.{Place}
 use Rattle.operands.specs.declared.Place.the-variants as place
-use Rattle.operands.specs.Answers.{selected, firstWord, Unstuck, goes, fails, Retrieval}
+use Rattle.operands.specs.Answers.{selected, firstWord, Unstuck, goes, fails, OneWord, Retrieval, Retrieved}
 use Rattle.operands.specs.Ready.{contextIn, Ready, Valued}
 use Rattle.operands.proofs.Lending.{expression-valued}
-use Rattle.operands.proofs.TypeWords.{some-words}
 use Rattle.operands.proofs.Typed.{OfType, a-value, typed-variable, typed-expression}
 use Rattle.operands.proofs.Yielding.{place-fits, failed, single}
 use Rattle.operands.proofs.Selecting.{out, Sel, fits-low, fits-high}
-use Rattle.operands.proofs.Evaluating.{Ev, only-retrieval, got-selectable, got-failed, got-fits, got-value}
+use Rattle.operands.proofs.Evaluating.{Ev, one-other, got-failed, got-fits, got-value}
 use Rattle.calls.specs.Gathering.{Appended, Added, Adds, valueOf, placeOf, Valuable, Bindable, Passing}
 use Rattle.calls.specs.declared.Gathered.{Gathered}
-use Rattle.calls.specs.declared.Gathered.the-variants as gathered
 
 -- ---- outcomes that are not stuck
 
@@ -167,12 +165,8 @@ module _ (t m p : List ℕ) (x : Context) (h : Ready t m p x) where
     pub word-evaluable : Ev t m p x n
     word-evaluable = record { expression = c .expression; unstuck = value-goes (out t m p x n) (c .unstuck) }
 
-    word-words : (nodeKind (decoded t) n ≡ 4 → ⊥) → wordsOf (decoded t) (typeOf (decoded t) n) ≡ 1
-    word-words k =
-        let g = some-words (decoded t) (h .ranged) (h .sized) (typeOf (decoded t) n) (expression-valued t m p x h n (c .expression) .type .there) in
-        cases (ltb 1 (wordsOf (decoded t) (typeOf (decoded t) n)))
-        (λ e. absurd (k (only-retrieval (decoded t) (nodeCount (decoded t)) n (h .ranged) (h .typed) (c .expression .below) (c .expression) (ltb-true 1 _ e))))
-        (λ e. let b = ltb-false 1 (wordsOf (decoded t) (typeOf (decoded t) n)) e in omega arith)
+    pub word-single : (nodeKind (decoded t) n ≡ 4 → ⊥) → OneWord (decoded t) n
+    word-single k = one-other t m p x h n (c .expression) k
 
     module _ (v : Value) (hv : outcomeOf v ≡ firstWord (out t m p x n)) where
       pub word-fails : (e : Failure) → v ≡ value.Fail e → valueOf (out t m p x n) ≡ fail (failureNumber e)
@@ -185,7 +179,7 @@ module _ (t m p : List ℕ) (x : Context) (h : Ready t m p x) where
             words = w ∷ [];
             is = value-word (decoded t) (typeOf (decoded t) n) (out t m p x n) w (c .unstuck)
                 (typed-expression (decoded t) (memoryOf m) (memoryOf p) (contextIn x) (h .ranged) n (c .expression))
-                (word-words q) (rw g at hv);
+                (word-single q .is) (rw g at hv);
             put = a;
           }
 
@@ -193,26 +187,23 @@ module _ (t m p : List ℕ) (x : Context) (h : Ready t m p x) where
     pub copy-valued : Valued t n
     copy-valued = expression-valued t m p x h n (c .expression)
 
-    module _ (k : nodeKind (decoded t) n ≡ 4) (a : ℕ) (ha : a ≡ nodeP (decoded t) n) where
-      copy-retrieval : Retrieval (decoded t) (memoryOf m) (memoryOf p) (contextIn x) n
+    module _ (k : nodeKind (decoded t) n ≡ 4) where
+      pub copy-retrieval : Retrieval (decoded t) (memoryOf m) (memoryOf p) (contextIn x) n
       copy-retrieval = record { evaluable = word-evaluable; kind = k }
 
-      pub copy-selectable : Sel t m p x a
-      copy-selectable = got-selectable t m p x h n copy-retrieval a ha
-
-      module _ (b : Place) (hb : selected b (typeOf (decoded t) a) ≡ out t m p x a) where
+      module _ (b : Place) (hb : Retrieved (decoded t) (memoryOf m) (memoryOf p) (contextIn x) n b) where
         pub copy-fails : (e : Failure) → b ≡ place.Fail e → valueOf (out t m p x n) ≡ fail (failureNumber e)
-        copy-fails e g = value-failed (out t m p x n) (failureNumber e) (got-failed t m p x h n copy-retrieval a ha b hb e g)
+        copy-fails e g = value-failed (out t m p x n) (failureNumber e) (got-failed t m p x h n copy-retrieval b hb e g)
 
         module _ (i w : ℕ) (hi : b ≡ place.At i) (hw : w ≡ wordsOf (decoded t) (typeOf (decoded t) n)) where
           pub copy-room : i + w ≤ locations
-          copy-room = rw hw (fits-high (decoded t) i (typeOf (decoded t) n) (got-fits t m p x h n copy-retrieval a ha b hb i hi))
+          copy-room = rw hw (fits-high (decoded t) i (typeOf (decoded t) n) (got-fits t m p x h n copy-retrieval b hb i hi))
 
           pub copy-returns : (l : List ℕ) (count : ℕ) (q : List ℕ) (r : ℕ) → Appended l count (wordsAt (memoryOf m) i w) q r → Added l count q r (valueOf (out t m p x n))
           copy-returns l count q r g =
               record {
                 words = wordsAt (memoryOf m) i w;
-                is = value-given (out t m p x n) (typeOf (decoded t) n) _ (got-value t m p x h n copy-retrieval a ha b hb i hi ∙ rw hw);
+                is = value-given (out t m p x n) (typeOf (decoded t) n) _ (got-value t m p x h n copy-retrieval b hb i hi ∙ rw hw);
                 put = g;
               }
 
@@ -272,4 +263,4 @@ module _ (t m p : List ℕ) (x : Context) (h : Ready t m p x) where
       valued-returns l count r k a = rw value-here a
 
 pub ruleset passes =
-    (word-evaluable, word-fails, word-returns, copy-valued, copy-selectable, copy-fails, copy-room, copy-returns, bind-selectable, bind-fails, bind-low, bind-returns, argument-bindable, bound-returns, argument-valuable, valued-returns)
+    (word-evaluable, word-single, word-fails, word-returns, copy-valued, copy-retrieval, copy-fails, copy-room, copy-returns, bind-selectable, bind-fails, bind-low, bind-returns, argument-bindable, bound-returns, argument-valuable, valued-returns)

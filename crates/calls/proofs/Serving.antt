@@ -24,7 +24,7 @@ use Rattle.machine.specs.Variables.{isProcedure}
 use Rattle.machine.specs.Context as machine
 use Rattle.machine.specs.Context.{contextOf}
 use Rattle.machine.specs.Operands.{operand}
-use Rattle.machine.specs.Calls.{arguments, pushed}
+use Rattle.machine.specs.Calls.{arguments, pushed, frameMarked}
 use Rattle.machine.specs.Statements.{Effect, effect, wait, free, doProcessCall, perform}
 use Rattle.code.specs.Code.{decoded}
 use Rattle.operands.specs.declared.Context.{Context}
@@ -58,7 +58,7 @@ module _ (t m p : List ℕ) (x : Context) (q r : ℕ) (l : List ℕ) (n : ℕ)
     (h : Entering t m p x q (update (memoryOf m) (holderAt r) (x .process)) r l n) (size : ℕ) (hs : Counted (decoded t) q size) (b : Bool)
     (hb : b ≡ ltb 256 (memoryOf m (topAt (x .process)) + 4 + size)) (e : b ≡ false) where
   pub entering-process : (s1 : List ℕ)
-      → ((page : Memory) → Becomes s1 (pushed (decoded t) (memoryOf m) page (contextOf (memoryOf m) (x .process)) (update (memoryOf m) (holderAt r) (x .process)) q r (take n l)))
+      → ((page : Memory) → Becomes s1 (frameMarked (decoded t) (memoryOf m) page (contextOf (memoryOf m) (x .process)) (pushed (decoded t) (memoryOf m) page (contextOf (memoryOf m) (x .process)) (update (memoryOf m) (holderAt r) (x .process)) q r (take n l)) q (take n l)))
       → Stepped 0 s1 p (carried (decoded t) (memoryOf m) (memoryOf p) (contextIn x))
   entering-process s1 c =
       entering-done t m p x q (update (memoryOf m) (holderAt r) (x .process)) r l n h size hs b hb e s1 (c (memoryOf p))

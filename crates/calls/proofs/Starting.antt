@@ -1,5 +1,5 @@
 -- Starts: what each call may ask, and each return. Assumes nothing.
-use Prim.Native.Nat.{ℕ, _+_, _-_, _<_, _≤_}
+use Prim.Native.Nat.{ℕ, _+_, _<_, _≤_}
 use mathlib.Core.Path.{_≡_, sym, _∙_}
 use mathlib.Core.Bool.{true}
 use mathlib.Core.List.{List}
@@ -24,7 +24,8 @@ use Rattle.sizes.proofs.Promise.{module-most}
 use Rattle.words.specs.Values.{failureNumber}
 use Rattle.words.specs.declared.values.Failure.{Failure}
 use Rattle.machine.specs.Memory.{Memory, memoryOf, update}
-use Rattle.machine.specs.Layout.{statusAt, statementAt, failureAt}
+use Rattle.machine.specs.Layout.{location, statusAt, statementAt, failureAt}
+use Rattle.machine.specs.Marks.{mark}
 use Rattle.machine.specs.Lent.{State, Becomes}
 use Rattle.machine.specs.Outcomes.{Outcome, ok, fail, stuck, andThen, need, failWhere}
 use Rattle.machine.specs.Entries.{stmtAt}
@@ -83,7 +84,7 @@ module _ (t m p : List ℕ) (x : Context) (r b : ℕ) (l : List ℕ) (n : ℕ) (
   beginning-size size c = let e = c .is in let q = h .exact in let u = h .most in omega arith
 
   pub beginning-done : (s1 : List ℕ) (c : ℕ) → c ≡ x .statement + 1
-      → Becomes s1 (update (started (decoded t) (memoryOf m) r b (take n l)) (statementAt (x .process)) c)
+      → Becomes s1 (update (mark (started (decoded t) (memoryOf m) r b (take n l)) (location r 0) (length (take n l))) (statementAt (x .process)) c)
       → Stepped 0 s1 p (carried (decoded t) (memoryOf m) (memoryOf p) (contextIn x))
   beginning-done s1 c e i = stand-done t m p x (h .standing) 0 s1 _ (h .performs) (rw e at i)
 
@@ -107,7 +108,7 @@ unfolding begun andThen
 begun-fail T m page x v r o k e = rw e
 
 begun-ok : (T : Table) (m page : Memory) (x : machine.Context) (v r : ℕ) (o : Outcome (List ℕ)) (ws : List ℕ) → o ≡ ok ws
-    → begun T m page x v r o ≡ need (leb (length ws) 256) (goOn T m page x (started T m r v ws))
+    → begun T m page x v r o ≡ need (leb (length ws) 256) (goOn T m page x (mark (started T m r v ws) (location r 0) (length ws)))
 unfolding begun andThen
 begun-ok T m page x v r o ws e = rw e
 
@@ -193,7 +194,7 @@ module _ (t m p : List ℕ) (x : Context) (r : ℕ) (h : Starting t m p x r) whe
             high = h .high;
             few = fit;
             room = omega arith;
-            performs = j ∙ (need-is _ _ v ∙ (goes-on (decoded t) (memoryOf m) (memoryOf p) (started (decoded t) (memoryOf m) r b (u .words)) x ∙ rw w));
+            performs = j ∙ (need-is _ _ v ∙ (goes-on (decoded t) (memoryOf m) (memoryOf p) (mark (started (decoded t) (memoryOf m) r b (u .words)) (location r 0) (length (u .words))) x ∙ rw w));
           }
 
 -- ---- the laws of `start`

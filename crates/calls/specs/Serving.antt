@@ -12,7 +12,8 @@ use Rattle.table.specs.Entries.{blockCount, typeP, stmtKind, stmtA, stmtB, stmt
 use Rattle.types.specs.Types.{typeOf}
 use Rattle.sizes.specs.Sizes.{moduleWords}
 use Rattle.machine.specs.Memory.{Memory, memoryOf, update}
-use Rattle.machine.specs.Layout.{statusAt, statementAt, holderAt}
+use Rattle.machine.specs.Layout.{location, statusAt, statementAt, holderAt}
+use Rattle.machine.specs.Marks.{mark}
 use Rattle.machine.specs.Outcomes.{Outcome, ok, andThen, need, failWhere}
 use Rattle.machine.specs.Entries.{stmtAt}
 use Rattle.machine.specs.Variables.{frameWords}
@@ -33,9 +34,9 @@ served T m page x q c d r =
     (invoked T m page x (update m (holderAt r) (x .process)) q r (arguments T m page x q c d))
     (wait T m page x m)
 
--- the parameters of process r, of module μ, and its start
+-- the parameters of process r, of module μ, which are marked (02, g), and its start
 unfoldable pub begun : Table → Memory → Memory → machine.Context → ℕ → ℕ → Outcome (List ℕ) → Outcome Effect
-begun T m page x μ r o = andThen o λ ws. need (leb (length ws) 256) (goOn T m page x (started T m r μ ws))
+begun T m page x μ r o = andThen o λ ws. need (leb (length ws) 256) (goOn T m page x (mark (started T m r μ ws) (location r 0) (length ws)))
 
 -- process r is started: 20 where it was started before (01)
 unfoldable pub startOf : Table → Memory → Memory → machine.Context → ℕ → ℕ → ℕ → ℕ → Outcome Effect
@@ -73,4 +74,4 @@ pub record Beginning (t m p : List ℕ) (x : Context) (r b : ℕ) (l : List ℕ)
   pub few : n ≤ 256
   pub room : n ≤ length l
   pub performs : perform (decoded t) (memoryOf m) (memoryOf p) (contextIn x) (stmtAt (decoded t) (x .statement))
-      ≡ ok (effect 0 (update (started (decoded t) (memoryOf m) r b (take n l)) (statementAt (x .process)) (x .statement + 1)) (memoryOf p))
+      ≡ ok (effect 0 (update (mark (started (decoded t) (memoryOf m) r b (take n l)) (location r 0) (length (take n l))) (statementAt (x .process)) (x .statement + 1)) (memoryOf p))

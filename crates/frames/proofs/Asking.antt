@@ -12,7 +12,7 @@ use Rattle.machine.specs.Layout.{topAt, depthAt}
 use Rattle.machine.specs.Outcomes.{Outcome, ok, fail, stuck, need, failWhere}
 use Rattle.machine.specs.Variables.{frameWords}
 use Rattle.machine.specs.Context.{contextOf}
-use Rattle.machine.specs.Calls.{topAfter, pushed, call}
+use Rattle.machine.specs.Calls.{topAfter, pushed, frameMarked, call}
 use Rattle.frames.specs.Frames.{Fits}
 
 need-true : {A : Type 0} (b : Bool) (o : Outcome A) → (need b o ≡ stuck → ⊥) → b ≡ true
@@ -33,7 +33,7 @@ module _ (T : Table) (m page s : Memory) (p q r : ℕ) (ws : List ℕ) (g : call
       rw (le-leb (length ws) (frameWords T q) call-room, lt-ltb 256 (m (topAt p) + 4 + frameWords T q) h)
 
   module _ (h : m (topAt p) + 4 + frameWords T q ≤ 256) where
-    deep : need (ltb (m (depthAt p)) 64) (ok (pushed T m page (contextOf m p) s q r ws)) ≡ stuck → ⊥
+    deep : need (ltb (m (depthAt p)) 64) (ok (frameMarked T m page (contextOf m p) (pushed T m page (contextOf m p) s q r ws) q ws)) ≡ stuck → ⊥
     unfolding call topAfter contextOf need failWhere
     deep e =
         g
@@ -45,7 +45,8 @@ module _ (T : Table) (m page s : Memory) (p q r : ℕ) (ws : List ℕ) (g : call
     pub call-fits : 1 ≤ p → p ≤ 64 → Fits m p (frameWords T q)
     call-fits l k = record { low = l; high = k; area = h; depth = call-depth }
 
-    pub call-done : call T m page (contextOf m p) s q r ws ≡ ok (pushed T m page (contextOf m p) s q r ws)
+    pub call-done : call T m page (contextOf m p) s q r ws
+        ≡ ok (frameMarked T m page (contextOf m p) (pushed T m page (contextOf m p) s q r ws) q ws)
     unfolding call topAfter contextOf need failWhere
     call-done =
         rw (

@@ -1,4 +1,5 @@
 pub mod Storing
 pub mod Writing
+pub mod Marks
 pub mod Meanings
 pub mod Asking

@@ -2,20 +2,21 @@
 use Prim.Native.Nat.{ℕ, _+_, _-_, _<_, _≤_}
 use mathlib.Core.Path.{_≡_, refl}
 use mathlib.Core.List.{List}
+use lib.ListN.{length}
 use native.Mathlib.Omega.{arith}
 use Rattle.table.specs.Table.{Table}
 use Rattle.table.specs.Entries.{firstStmt}
 use Rattle.table.specs.Reading.{Field}
 use Rattle.sizes.specs.Sizes.{moduleWords}
 use Rattle.machine.specs.Memory.{Memory, memoryOf, update}
-use Rattle.machine.specs.Layout.{location, recordAt, frameAt, worksAt, holderAt, linkAt}
+use Rattle.machine.specs.Layout.{location, recordAt, frameAt, topAt, worksAt, holderAt, linkAt}
 use Rattle.machine.specs.Lent.{Becomes}
 use Rattle.machine.specs.Variables.{frameWords}
 use Rattle.machine.specs.Context.{contextOf}
-use Rattle.machine.specs.Calls.{frame, topAfter, pushed, popped}
+use Rattle.machine.specs.Calls.{frame, topAfter, pushed, frameMarked, popped}
 use Rattle.machine.specs.Processes.{started}
-use Rattle.machine.proofs.Memories.{update-other}
-use Rattle.frames.specs.Frames.{padded, linked, framed, entered, left, given, begun, Fits, Called}
+use Rattle.machine.proofs.Memories.{update-other, location-plus}
+use Rattle.frames.specs.Frames.{padded, linked, framed, framedMarks, entered, calledIn, left, given, begun, Fits, Called}
 
 -- holders are words of their own
 pub record-kept : (m : Memory) (r v p k : ℕ) → k < 20 → (k ≡ 6 → ⊥) → update m (holderAt r) v (recordAt p k) ≡ m (recordAt p k)
@@ -27,12 +28,12 @@ unfolding recordAt linkAt location
 link-kept m r v p f k h g = update-other m (holderAt r) v (linkAt p f k) (λ e. omega arith)
 
 module _ (T : Table) (m page : Memory) (p : ℕ) where
-  pub local-push : (q r : ℕ) (ws : List ℕ)
+  local-push : (q r : ℕ) (ws : List ℕ)
       → entered m p q r (firstStmt T q) (frameWords T q) ws ≡ pushed T m page (contextOf m p) m q r ws
   unfolding entered framed linked padded pushed frame topAfter contextOf
   local-push q r ws = refl
 
-  pub process-push : (q r v : ℕ) (ws : List ℕ)
+  process-push : (q r v : ℕ) (ws : List ℕ)
       → entered (update m (holderAt r) v) p q r (firstStmt T q) (frameWords T q) ws
       ≡ pushed T m page (contextOf m p) (update m (holderAt r) v) q r ws
   unfolding entered framed linked padded pushed frame topAfter contextOf
@@ -44,6 +45,25 @@ module _ (T : Table) (m page : Memory) (p : ℕ) where
         record-kept m r v p 5 (omega arith) (λ e. omega arith),
         record-kept m r v p 7 (omega arith) (λ e. omega arith),
       )
+
+  marks-there : (s : Memory) (q : ℕ) (ws : List ℕ)
+      → framedMarks s (location p (m (topAt p))) (frameWords T q) (length ws) ≡ frameMarked T m page (contextOf m p) s q ws
+  unfolding framedMarks frameMarked contextOf
+  marks-there s q ws = rw (location-plus p (m (topAt p) + 4) (length ws), location-plus p (m (topAt p)) 4)
+
+  local-call : (q r : ℕ) (ws : List ℕ)
+      → calledIn m p q r (firstStmt T q) (frameWords T q) ws
+      ≡ frameMarked T m page (contextOf m p) (pushed T m page (contextOf m p) m q r ws) q ws
+  unfolding calledIn
+  local-call q r ws = rw (local-push q r ws) (marks-there (pushed T m page (contextOf m p) m q r ws) q ws)
+
+  process-call : (q r v : ℕ) (ws : List ℕ)
+      → calledIn (update m (holderAt r) v) p q r (firstStmt T q) (frameWords T q) ws
+      ≡ frameMarked T m page (contextOf m p) (pushed T m page (contextOf m p) (update m (holderAt r) v) q r ws) q ws
+  unfolding calledIn
+  process-call q r v ws =
+      rw (process-push q r v ws, record-kept m r v p 4 (omega arith) (λ e. omega arith))
+      (marks-there (pushed T m page (contextOf m p) (update m (holderAt r) v) q r ws) q ws)
 
   pub local-pop : (c : ℕ) → left m p c ≡ popped T m page (contextOf m p) m c
   unfolding left popped contextOf
@@ -86,17 +106,19 @@ called-kept m w v p f = record {
 
 module _ (T : Table) (s : List ℕ) (p q : ℕ) (ws : List ℕ) where
   pub pushes-local : (s1 : List ℕ) (works c size : ℕ) → works ≡ memoryOf s (worksAt p) → Field (firstStmt T q) c
-      → size ≡ frameWords T q → Becomes s1 (entered (memoryOf s) p q works c size ws) → (page : Memory)
-      → Becomes s1 (pushed T (memoryOf s) page (contextOf (memoryOf s) p) (memoryOf s) q (memoryOf s (worksAt p)) ws)
+      → size ≡ frameWords T q → Becomes s1 (calledIn (memoryOf s) p q works c size ws) → (page : Memory)
+      → Becomes s1
+      (frameMarked T (memoryOf s) page (contextOf (memoryOf s) p) (pushed T (memoryOf s) page (contextOf (memoryOf s) p) (memoryOf s) q (memoryOf s (worksAt p)) ws) q ws)
   pushes-local s1 works c size i j k h page =
-      rw (i, j .is, k, local-push T (memoryOf s) page p q (memoryOf s (worksAt p)) ws) at h
+      rw (i, j .is, k, local-call T (memoryOf s) page p q (memoryOf s (worksAt p)) ws) at h
 
   pub pushes-process : (s1 s2 : List ℕ) (r c size : ℕ) → Field (firstStmt T q) c → size ≡ frameWords T q
-      → Becomes s1 (update (memoryOf s) (holderAt r) p) → Becomes s2 (entered (memoryOf s1) p q r c size ws)
+      → Becomes s1 (update (memoryOf s) (holderAt r) p) → Becomes s2 (calledIn (memoryOf s1) p q r c size ws)
       → (page : Memory)
-      → Becomes s2 (pushed T (memoryOf s) page (contextOf (memoryOf s) p) (update (memoryOf s) (holderAt r) p) q r ws)
+      → Becomes s2
+      (frameMarked T (memoryOf s) page (contextOf (memoryOf s) p) (pushed T (memoryOf s) page (contextOf (memoryOf s) p) (update (memoryOf s) (holderAt r) p) q r ws) q ws)
   pushes-process s1 s2 r c size j k g h page =
-      rw (g .is, j .is, k, process-push T (memoryOf s) page p q r p ws) at h
+      rw (g .is, j .is, k, process-call T (memoryOf s) page p q r p ws) at h
 
 -- the frame fits, or the process is in a call, after a hold
 pub fits-held : (s s1 : List ℕ) (r v p n : ℕ) → Fits (memoryOf s) p n → Becomes s1 (update (memoryOf s) (holderAt r) v)

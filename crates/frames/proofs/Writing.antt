@@ -13,7 +13,7 @@ use Rattle.machine.specs.Layout.{location, recordAt, statusAt, moduleAt, statem
 use Rattle.machine.specs.Lent.{Becomes}
 use Rattle.machine.specs.Calls.{standing}
 use Rattle.machine.specs.Processes.{created}
-use Rattle.machine.proofs.Memories.{update-same, update-other, store-below, store-above, store-at, clear-below, clear-above, clear-at}
+use Rattle.machine.proofs.Memories.{update-same, update-other, store-below, store-above, store-at, clear-below, clear-above, clear-at, location-plus}
 use Rattle.machine.proofs.Copies.{store-none}
 use Rattle.frames.specs.Frames.{placed, padded, linked, framed, entered, left, wiped, given, begun, ended}
 
@@ -106,10 +106,6 @@ module _ (s : List ℕ) (p : ℕ) where
   unfolding ended
   ends s1 s2 c1 c2 = record { long = c2 .long; is = rw (c2 .is, c1 .is) }
 
-location-add : (p f k : ℕ) → location p (f + k) ≡ location p f + k
-unfolding location
-location-add p f k = omega arith
-
 store-four : (m : Memory) (a x y z q : ℕ)
     → store m a (linked x y z q []) ≡ update (update (update (update m a x) (a + 1) y) (a + 2) z) (a + 3) q
 unfolding linked
@@ -140,7 +136,7 @@ pub links : (s s1 s2 s3 s4 : List ℕ) (p f x y z q : ℕ) → Becomes s1 (updat
 links s s1 s2 s3 s4 p f x y z q c1 c2 c3 c4 = record {
   long = c4 .long;
   is =
-      rw (c4 .is, c3 .is, c2 .is, c1 .is, location-add p f 1, location-add p f 2, location-add p f 3)
+      rw (c4 .is, c3 .is, c2 .is, c1 .is, location-plus p f 1, location-plus p f 2, location-plus p f 3)
       (sym (store-four (memoryOf s) (location p f) x y z q));
 }
 
@@ -222,7 +218,3 @@ record-room n b h k e = omega arith
 module _ (s1 s2 : List ℕ) (m : Memory) (i v : ℕ) where
   pub then-update : Becomes s1 m → Becomes s2 (update (memoryOf s1) i v) → Becomes s2 (update m i v)
   then-update c1 c2 = record { long = c2 .long; is = rw (c2 .is, c1 .is) }
-
-  pub then-updates : (s3 : List ℕ) (j u : ℕ) → Becomes s1 m → Becomes s2 (update (memoryOf s1) i v)
-      → Becomes s3 (update (memoryOf s2) j u) → Becomes s3 (update (update m i v) j u)
-  then-updates s3 j u c1 c2 c3 = record { long = c3 .long; is = rw (c3 .is, c2 .is, c1 .is) }

@@ -5,14 +5,16 @@ use Prim.Native.Nat.{ℕ, _+_, _-_, _≤_, _<_}
 use mathlib.Core.List.{List, _∷_, _++_}
 use lib.ListN.{length, replicate}
 use Rattle.machine.specs.Memory.{Memory, update, store, clear}
-use Rattle.machine.specs.Layout.{location, recordAt, statusAt, statementAt, frameAt, topAt, worksAt, holderAt, depthAt, callerFrame, callerWorks, stateWords}
+use Rattle.machine.specs.Layout.{location, recordAt, statusAt, statementAt, frameAt, topAt, worksAt, holderAt, depthAt, callerFrame, callerWorks, locations}
+use Rattle.machine.specs.Marks.{mark, fresh}
 use Rattle.machine.specs.Places.{SameOrApart}
 use Rattle.machine.specs.Calls.{standing}
+use Rattle.machine.specs.Processes.{created}
 
--- n words of a state from one location on can be copied to another, one after the other
+-- n words from one location on can be copied to another, one after the other
 pub record Direct (from to n : ℕ) : Type 0 where
-  pub source : from + n ≤ stateWords
-  pub target : to + n ≤ stateWords
+  pub source : from + n ≤ locations
+  pub target : to + n ≤ locations
   pub apart : SameOrApart from to n
 
 -- process p is at a statement, its innermost frame and its first free word are these
@@ -36,6 +38,13 @@ unfoldable pub entered : Memory → ℕ → ℕ → ℕ → ℕ → ℕ → List
 entered m p q r c n ws =
     standing (framed m p (m (topAt p)) q (padded ws n)) p c (m (topAt p)) (m (topAt p) + 4 + n) r (m (depthAt p) + 1)
 
+-- the marks of a frame at location a, of n variables: the links and the k words of parameters are marked, the others made (02, g)
+unfoldable pub framedMarks : Memory → ℕ → ℕ → ℕ → Memory
+framedMarks m a n k = fresh (mark m a (4 + k)) (a + 4 + k) (n - k)
+
+unfoldable pub calledIn : Memory → ℕ → ℕ → ℕ → ℕ → ℕ → List ℕ → Memory
+calledIn m p q r c n ws = framedMarks (entered m p q r c n ws) (location p (m (topAt p))) n (length ws)
+
 -- process p leaves the procedure of its innermost call, and stands after the call statement c (12.2, 13)
 unfoldable pub left : Memory → ℕ → ℕ → Memory
 left m p c =
@@ -44,6 +53,10 @@ left m p c =
 -- the area and the record of process n are 0
 unfoldable pub wiped : Memory → ℕ → Memory
 wiped m n = clear (clear m (location n 0) 256) (recordAt n 0) 20
+
+-- process n is created, of module μ, for the variable at i, and its area is made
+unfoldable pub made : Memory → ℕ → ℕ → ℕ → Memory
+made m n μ i = fresh (update (created m n μ) i n) (location n 0) 256
 
 -- process r has its parameters, is started and holds its own variables (11.5)
 unfoldable pub given : Memory → ℕ → List ℕ → Memory

@@ -7,13 +7,14 @@ ghost use Rattle.table.specs.Table.{Table};
 ghost use Rattle.sizes.specs.Sizes.{moduleWords};
 ghost use Rattle.code.specs.Code.{decoded};
 ghost use Rattle.machine.specs.Memory.{Memory, memoryOf, update, store, clear, wordsAt};
-ghost use Rattle.machine.specs.Layout.{location, statementAt, worksAt, holderAt, failureAt, stateWords};
+ghost use Rattle.machine.specs.Layout.{location, statementAt, worksAt, holderAt, failureAt, stateWords, locations};
+ghost use Rattle.machine.specs.Marks.{mark, fresh};
 ghost use Rattle.machine.specs.Lent.{State, Becomes};
 ghost use Rattle.machine.specs.Variables.{frameWords};
 ghost use Rattle.machine.specs.Context.{contextOf};
-ghost use Rattle.machine.specs.Calls.{standing, pushed, popped};
+ghost use Rattle.machine.specs.Calls.{standing, pushed, frameMarked, popped};
 ghost use Rattle.machine.specs.Processes.{created, started};
-ghost use Rattle.frames.specs.Frames.{Direct, placed, padded, linked, framed, entered, left, wiped, given, begun, ended, Fits, Called};
+ghost use Rattle.frames.specs.Frames.{Direct, placed, padded, linked, framed, framedMarks, entered, calledIn, left, wiped, given, begun, made, ended, Fits, Called};
 
 // The first n words of the buffer, to the words from `at` on.
 pub fn copy_words(state: &mut [u8], at: usize, n: usize, words: &[u16])
@@ -43,7 +44,7 @@ fn copy_across(state: &mut [u8], from: usize, to: usize, n: usize)
 }
 
 // The n words from `from` on, to `to`, directly: the two are the same words, and there is nothing to do, or share none.
-pub fn move_words(state: &mut [u8], from: usize, to: usize, n: usize)
+fn move_words(state: &mut [u8], from: usize, to: usize, n: usize)
     requires { ⌜ State (now state) ⌝ }
     requires { ⌜ Direct from to n ⌝ }
     ensures { λ _. ⌜ Becomes (now (state .exit)) (store (memoryOf (now (state .entry))) to (wordsAt (memoryOf (now (state .entry))) from n)) ⌝ }
@@ -52,6 +53,46 @@ pub fn move_words(state: &mut [u8], from: usize, to: usize, n: usize)
         return;
     }
     copy_across(state, from, to, n);
+}
+
+// The word w, to location a: it has a value now (02, g).
+pub fn store_word(state: &mut [u8], a: usize, w: u16)
+    requires { ⌜ State (now state) ⌝ }
+    requires { ⌜ a < locations ⌝ }
+    ensures { λ _. ⌜ Becomes (now (state .exit)) (mark (update (memoryOf (now (state .entry))) a w) a 1) ⌝ }
+{
+    machine::set_word(state, a, w);
+    machine::marks::set_marks(state, a, 1, true);
+}
+
+// The n words from `from` on, to `to`, which have values now (02, g).
+pub fn assign_words(state: &mut [u8], from: usize, to: usize, n: usize)
+    requires { ⌜ State (now state) ⌝ }
+    requires { ⌜ Direct from to n ⌝ }
+    ensures { λ _. ⌜ Becomes (now (state .exit)) (mark (store (memoryOf (now (state .entry))) to (wordsAt (memoryOf (now (state .entry))) from n)) to n) ⌝ }
+{
+    move_words(state, from, to, n);
+    machine::marks::set_marks(state, to, n, true);
+}
+
+// The n locations from a on are made: unmarked or marked, by the number that the run was begun with (02, g).
+fn make_fresh(state: &mut [u8], a: usize, n: usize)
+    requires { ⌜ State (now state) ⌝ }
+    requires { ⌜ a + n ≤ locations ⌝ }
+    ensures { λ _. ⌜ Becomes (now (state .exit)) (fresh (memoryOf (now (state .entry))) a n) ⌝ }
+{
+    let number = machine::record_word(state, 1, machine::NUMBER);
+    machine::marks::set_marks(state, a, n, number == 1);
+}
+
+// The area of process p is made.
+fn make_area(state: &mut [u8], p: usize)
+    requires { ⌜ State (now state) ⌝ }
+    requires { ⌜ (1 ≤ p) × (p ≤ 64) ⌝ }
+    ensures { λ _. ⌜ Becomes (now (state .exit)) (fresh (memoryOf (now (state .entry))) (location p 0) 256) ⌝ }
+{
+    let number = machine::record_word(state, 1, machine::NUMBER);
+    machine::marks::set_whole(state, (p - 1) * 16, 16, number == 1);
 }
 
 // Makes the n words from `at` on 0.
@@ -180,16 +221,7 @@ fn put_frame(state: &mut [u8], p: usize, f: usize, q: u16, size: usize, n: usize
 
 // Process p enters procedure q, whose variables take `size` words and whose first statement is c, on process r. The first n words of
 // the buffer are the arguments.
-pub fn enter(
-    state: &mut [u8],
-    p: usize,
-    q: u16,
-    r: u16,
-    c: u16,
-    size: usize,
-    n: usize,
-    words: &[u16],
-)
+fn enter(state: &mut [u8], p: usize, q: u16, r: u16, c: u16, size: usize, n: usize, words: &[u16])
     requires { ⌜ State (now state) ⌝ }
     requires { ⌜ Fits (memoryOf (now state)) p size ⌝ }
     requires { ⌜ (n ≤ size) × (n ≤ length (now words)) ⌝ }
@@ -207,6 +239,29 @@ pub fn enter(
         r,
         depth + 1,
     );
+}
+
+// The marks of a frame at location `at`: of its links and n parameters, then of its other variables.
+fn mark_frame(state: &mut [u8], at: usize, size: usize, n: usize)
+    requires { ⌜ State (now state) ⌝ }
+    requires { ⌜ (at + 4 + size ≤ locations) × (n ≤ size) ⌝ }
+    ensures { λ _. ⌜ Becomes (now (state .exit)) (framedMarks (memoryOf (now (state .entry))) at size n) ⌝ }
+{
+    machine::marks::set_marks(state, at, 4 + n, true);
+    make_fresh(state, at + 4 + n, size - n);
+}
+
+// Process p enters procedure q, as in `enter`, and its frame has its marks.
+fn call_in(state: &mut [u8], p: usize, q: u16, r: u16, c: u16, size: usize, n: usize, words: &[u16])
+    requires { ⌜ State (now state) ⌝ }
+    requires { ⌜ Fits (memoryOf (now state)) p size ⌝ }
+    requires { ⌜ (n ≤ size) × (n ≤ length (now words)) ⌝ }
+    ensures { λ _. ⌜ Becomes (now (state .exit)) (calledIn (memoryOf (now (state .entry))) p q r c size (take n (now (words .entry)))) ⌝ }
+{
+    let top = machine::record_word(state, p, machine::TOP);
+    let at = machine::location_of(p, top as usize);
+    enter(state, p, q, r, c, size, n, words);
+    mark_frame(state, at, size, n);
 }
 
 // Process p leaves the procedure of its innermost call, and stands after the call statement c.
@@ -285,11 +340,11 @@ pub fn push_local(
     requires { ⌜ Fits (memoryOf (now state)) p size ⌝ }
     requires { ⌜ (n ≤ size) × ((n ≤ length (now words)) × (q < 65536)) ⌝ }
     requires { ⌜ size ≡ frameWords (decoded (now c)) q ⌝ }
-    ensures { λ _. ⌜ ((page : Memory) → Becomes (now (state .exit)) (pushed (decoded (now (c .entry))) (memoryOf (now (state .entry))) page (contextOf (memoryOf (now (state .entry))) p) (memoryOf (now (state .entry))) q (memoryOf (now (state .entry)) (worksAt p)) (take n (now (words .entry))))) ⌝ }
+    ensures { λ _. ⌜ ((page : Memory) → Becomes (now (state .exit)) (frameMarked (decoded (now (c .entry))) (memoryOf (now (state .entry))) page (contextOf (memoryOf (now (state .entry))) p) (pushed (decoded (now (c .entry))) (memoryOf (now (state .entry))) page (contextOf (memoryOf (now (state .entry))) p) (memoryOf (now (state .entry))) q (memoryOf (now (state .entry)) (worksAt p)) (take n (now (words .entry)))) q (take n (now (words .entry))))) ⌝ }
 {
     let first = code::first_stmt(c, q);
     let works = machine::record_word(state, p, machine::WORKS);
-    enter(state, p, q as u16, works, first as u16, size, n, words);
+    call_in(state, p, q as u16, works, first as u16, size, n, words);
 }
 
 // Process p calls procedure q of process r, and holds its variables.
@@ -307,11 +362,11 @@ pub fn push_process(
     requires { ⌜ Fits (memoryOf (now state)) p size ⌝ }
     requires { ⌜ (n ≤ size) × ((n ≤ length (now words)) × ((q < 65536) × ((1 ≤ r) × (r ≤ 64)))) ⌝ }
     requires { ⌜ size ≡ frameWords (decoded (now c)) q ⌝ }
-    ensures { λ _. ⌜ ((page : Memory) → Becomes (now (state .exit)) (pushed (decoded (now (c .entry))) (memoryOf (now (state .entry))) page (contextOf (memoryOf (now (state .entry))) p) (update (memoryOf (now (state .entry))) (holderAt r) p) q r (take n (now (words .entry))))) ⌝ }
+    ensures { λ _. ⌜ ((page : Memory) → Becomes (now (state .exit)) (frameMarked (decoded (now (c .entry))) (memoryOf (now (state .entry))) page (contextOf (memoryOf (now (state .entry))) p) (pushed (decoded (now (c .entry))) (memoryOf (now (state .entry))) page (contextOf (memoryOf (now (state .entry))) p) (update (memoryOf (now (state .entry))) (holderAt r) p) q r (take n (now (words .entry)))) q (take n (now (words .entry))))) ⌝ }
 {
     let first = code::first_stmt(c, q);
     hold(state, r, p as u16);
-    enter(state, p, q as u16, r as u16, first as u16, size, n, words);
+    call_in(state, p, q as u16, r as u16, first as u16, size, n, words);
 }
 
 // The end of a local call, whose statement is c.
@@ -366,19 +421,30 @@ pub fn enter_arm(state: &mut [u8], p: usize, w: usize, c: u16)
     go_to(state, p, c);
 }
 
-// Process n is created, of module `block`, its number is stored at `at`, and process p goes on at statement c.
-pub fn create_at(state: &mut [u8], p: usize, c: u16, n: usize, block: u16, at: usize)
+// Process n is created, of module `block`, its number is stored at `at`, and its area is made.
+fn create_for(state: &mut [u8], n: usize, block: u16, at: usize)
     requires { ⌜ State (now state) ⌝ }
-    requires { ⌜ (1 ≤ p) × ((p ≤ 64) × ((1 ≤ n) × (n ≤ 64))) ⌝ }
-    requires { ⌜ at < stateWords ⌝ }
-    ensures { λ _. ⌜ Becomes (now (state .exit)) (update (update (created (memoryOf (now (state .entry))) n block) at n) (statementAt p) c) ⌝ }
+    requires { ⌜ (1 ≤ n) × ((n ≤ 64) × (at < locations)) ⌝ }
+    ensures { λ _. ⌜ Becomes (now (state .exit)) (made (memoryOf (now (state .entry))) n block at) ⌝ }
 {
     create(state, n, block);
     machine::set_word(state, at, n as u16);
+    make_area(state, n);
+}
+
+// Process n is created, of module `block`, for the variable at `at`, and process p goes on at statement c.
+pub fn create_at(state: &mut [u8], p: usize, c: u16, n: usize, block: u16, at: usize)
+    requires { ⌜ State (now state) ⌝ }
+    requires { ⌜ (1 ≤ p) × ((p ≤ 64) × ((1 ≤ n) × (n ≤ 64))) ⌝ }
+    requires { ⌜ at < locations ⌝ }
+    ensures { λ _. ⌜ Becomes (now (state .exit)) (update (mark (fresh (update (created (memoryOf (now (state .entry))) n block) at n) (location n 0) 256) at 1) (statementAt p) c) ⌝ }
+{
+    create_for(state, n, block, at);
+    machine::marks::set_marks(state, at, 1, true);
     go_to(state, p, c);
 }
 
-// Process r, of module b, is started, and process p goes on at statement next.
+// Process r, of module b, is started with marked parameters, and process p goes on at statement next.
 pub fn start_on(
     c: &code::Slots,
     state: &mut [u8],
@@ -394,8 +460,9 @@ pub fn start_on(
     requires { ⌜ (1 ≤ p) × ((p ≤ 64) × ((1 ≤ r) × (r ≤ 64))) ⌝ }
     requires { ⌜ (n ≤ 256) × ((n ≤ length (now words)) × (size < 65536)) ⌝ }
     requires { ⌜ size ≡ moduleWords (decoded (now c)) b ⌝ }
-    ensures { λ _. ⌜ Becomes (now (state .exit)) (update (started (decoded (now (c .entry))) (memoryOf (now (state .entry))) r b (take n (now (words .entry)))) (statementAt p) next) ⌝ }
+    ensures { λ _. ⌜ Becomes (now (state .exit)) (update (mark (started (decoded (now (c .entry))) (memoryOf (now (state .entry))) r b (take n (now (words .entry)))) (location r 0) (length (take n (now (words .entry))))) (statementAt p) next) ⌝ }
 {
     start(c, state, r, b, size, n, words);
+    machine::marks::set_marks(state, machine::location_of(r, 0), n, true);
     go_to(state, p, next);
 }

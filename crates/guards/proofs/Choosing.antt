@@ -10,6 +10,7 @@ use Rattle.table.specs.Table.{Table}
 use Rattle.table.specs.Entries.{stmtCount, stmtKind, stmtA, stmtLink}
 use Rattle.table.specs.Reading.{Field}
 use Rattle.numbers.proofs.OperandPromise.{arm-guard}
+use Rattle.typing.proofs.Promise as typing
 use Rattle.words.specs.Values.{outcomeOf}
 use Rattle.words.specs.declared.values.Failure.{Failure}
 use Rattle.words.specs.declared.values.Value.{Value}
@@ -21,8 +22,9 @@ use Rattle.machine.specs.Outcomes.{Outcome, ok, stuck, need, onWord}
 use Rattle.machine.specs.Operands.{operand}
 use Rattle.machine.specs.Statements.{Choice, enters, skips, choose}
 use Rattle.operands.specs.declared.Context.{Context}
-use Rattle.operands.specs.Answers.{firstWord, Unstuck, Evaluable}
+use Rattle.operands.specs.Answers.{firstWord, Unstuck, Evaluable, OneWord}
 use Rattle.operands.specs.Ready.{contextIn, Ready}
+use Rattle.operands.proofs.OneWords.{one-standard}
 use Rattle.guards.specs.declared.Found.the-variants.{Arm, End, Fails}
 use Rattle.guards.specs.Guards.{Choosable, Choosing, Chosen}
 use Rattle.guards.proofs.Arms.{through, same-unstuck, word-unstuck, word-failed, word-given, at-arm, arms-there, end-is}
@@ -127,14 +129,25 @@ module _ (t m p : List ℕ) (x : Context) (h : Ready t m p x) (i j : ℕ) where
         unstuck = guard-unstuck (decoded t) (memoryOf m) (memoryOf p) (contextIn x) i j c k hk e;
       }
 
-pub ruleset chooses = (choosing-none, choose-ends, choose-fails, choose-enters, choosing-less, choosing-more, guard-evaluable)
+  -- a guard is boolean
+  pub guard-single : Choosing (decoded t) (memoryOf m) (memoryOf p) (contextIn x) i j
+      → (k : ℕ) → Field (stmtKind (decoded t) j) k → k ≡ 10 → OneWord (decoded t) (stmtA (decoded t) j)
+  guard-single c k hk e =
+      let b = guard-below (decoded t) (memoryOf m) (memoryOf p) (contextIn x) i j c k hk e in
+      let q = typing.guard (decoded t) (h .typed) j b (sym (hk .is) ∙ e) in
+      one-standard (decoded t) (stmtA (decoded t) j) (omega arith)
+
+pub ruleset chooses = (choosing-none, choose-ends, choose-fails, choose-enters, choosing-less, choosing-more, guard-evaluable, guard-single)
 
 -- ---- the laws of `guard`
 module _ (T : Table) (m page : Memory) (x : machine.Context) (i a : ℕ) (ha : Field (stmtA T i) a) where
   pub guard-asks : Evaluable T m page x (stmtA T i) → Evaluable T m page x a
   guard-asks c = rw (ha .is) c
 
+  pub guard-one : OneWord T (stmtA T i) → OneWord T a
+  guard-one c = rw (ha .is) c
+
   pub guard-returns : (v : Value) → outcomeOf v ≡ firstWord (operand T m page x a) → outcomeOf v ≡ firstWord (operand T m page x (stmtA T i))
   guard-returns v e = rw (ha .is) at e
 
-pub ruleset guards = (guard-asks, guard-returns)
+pub ruleset guards = (guard-asks, guard-one, guard-returns)

@@ -13,7 +13,7 @@ ghost use Rattle.machine.specs.Layout.{statementAt, holderAt};
 ghost use Rattle.machine.specs.Lent.{Becomes};
 ghost use Rattle.machine.specs.Entries.{repeats};
 ghost use Rattle.machine.specs.Operands.{operand};
-ghost use Rattle.operands.specs.Answers.{firstWord, Evaluable};
+ghost use Rattle.operands.specs.Answers.{firstWord, Evaluable, OneWord};
 ghost use Rattle.operands.specs.Ready.{contextIn, Ready};
 ghost use Rattle.effects.specs.Effects.{carried, Stepped, Standing};
 ghost use Rattle.guards.specs.Guards.{openerOf, Choosable, Chosen, Linked, Ended, Going};
@@ -39,6 +39,7 @@ pub fn skip(c: &code::Slots, state: &mut [u8], page: &[u8], x: Context) -> u8
 fn guard(c: &code::Slots, state: &[u8], page: &[u8], x: Context, i: usize) -> Value
     requires { ⌜ Ready (now c) (now state) (now page) x ⌝ }
     requires { ⌜ Evaluable (decoded (now c)) (memoryOf (now state)) (memoryOf (now page)) (contextIn x) (stmtA (decoded (now c)) i) ⌝ }
+    requires { ⌜ OneWord (decoded (now c)) (stmtA (decoded (now c)) i) ⌝ }
     ensures { λ r. ⌜ outcomeOf r ≡ firstWord (operand (decoded (now (c .entry))) (memoryOf (now (state .entry))) (memoryOf (now (page .entry))) (contextIn x) (stmtA (decoded (now (c .entry))) i)) ⌝ }
 {
     let a = code::stmt_a(c, i);

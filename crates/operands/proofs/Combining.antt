@@ -6,7 +6,7 @@ use mathlib.Core.List.{List}
 use lib.ListN.{length}
 use lib.Dec.{eqb, leb}
 use native.Mathlib.Omega.{arith}
-use borrow.Author.Tests.{eqb-true, eqb-false, ltb-true, ltb-false, leb-true, le-leb}
+use borrow.Author.Tests.{eqb-true, eqb-false, ltb-true, leb-true, le-leb}
 use Rattle.basics.specs.Cases.{cases}
 use Rattle.basics.proofs.Bools.{no-true}
 use Rattle.table.specs.Table.{Table}
@@ -23,7 +23,7 @@ use Rattle.machine.specs.Outcomes.{ok, fail, value, onValue, wordOf}
 use Rattle.machine.specs.Operands.{binaryValue}
 use Rattle.code.specs.Code.{slotIn, decoded}
 use Rattle.operands.specs.declared.Context.{Context}
-use Rattle.operands.specs.Answers.{firstWord, structured, Unstuck, Binary}
+use Rattle.operands.specs.Answers.{firstWord, structured, Unstuck, OneWord, Binary}
 use Rattle.operands.specs.Operators.{binaryWord}
 use Rattle.operands.specs.Packed.{WordIs, Evaluated}
 use Rattle.operands.specs.Ready.{contextIn, Ready}
@@ -32,15 +32,12 @@ use Rattle.operands.proofs.Nodes.{is-binary}
 use Rattle.operands.proofs.TypeWords.{some-words, match-words}
 use Rattle.operands.proofs.Typed.{OfType, typed-expression}
 use Rattle.operands.proofs.Lending.{lends-type, expression-valued}
+use Rattle.operands.proofs.OneWords.{one-left, one-right}
 use Rattle.operands.proofs.Yielding.{no-unstuck, first-value, Gave, gave, first-binary, by-words}
 use Rattle.operands.proofs.Selecting.{out}
 use Rattle.operands.proofs.Evaluating.{Ev, failed-value, at-value, binary-at, wider}
 
 module _ (T : Table) (n : ℕ) where
-  pub compares-few : structured T n ≡ false → nodeV T n ≤ 2 → wordsOf T (typeOf T (nodeP T n)) ≤ 1
-  unfolding structured
-  compares-few e l = ltb-false 1 (wordsOf T (typeOf T (nodeP T n))) (rw (le-leb (nodeV T n) 2 l) at e)
-
   pub compares-equal : structured T n ≡ true → nodeV T n ≤ 2
   unfolding structured
   compares-equal e = cases (leb (nodeV T n) 2) (λ g. leb-true (nodeV T n) 2 g) (λ g. no-true (rw g at e))
@@ -112,6 +109,19 @@ module _ (t m p : List ℕ) (x : Context) (h : Ready t m p x) (n : ℕ) (b : Boo
   operands-match l =
       rw (hv, hq) (match-words (decoded t) (typeOf (decoded t) (nodeP (decoded t) n)) (typeOf (decoded t) (nodeQ (decoded t) n)) (typing.equality-operands (decoded t) (h .typed) n within-table (c .kind) l))
 
+  -- operands of which no several words are compared
+  module _ (e : b ≡ false) where
+    some-left : 1 ≤ wordsOf (decoded t) (typeOf (decoded t) (nodeP (decoded t) n))
+    some-left =
+        let i = some-words (decoded t) (h .ranged) (h .sized) (typeOf (decoded t) v) (expression-valued t m p x h v (left-evaluable .expression) .type .there) in
+        rw hv at i
+
+    pub left-single : OneWord (decoded t) v
+    left-single = rw hv (one-left (decoded t) (h .typed) n within-table (c .kind) (c .compares ∙ e) some-left)
+
+    pub right-single : OneWord (decoded t) q
+    right-single = rw hq (one-right (decoded t) (h .typed) n within-table (c .kind) (c .compares ∙ e) some-left)
+
   -- ---- the laws of `combine`
   module _ (l : ℕ) (hl : Evaluated t m p x v l) where
     pub left-fails : 65536 ≤ l → Evaluated t m p x n l
@@ -138,14 +148,7 @@ module _ (t m p : List ℕ) (x : Context) (h : Ready t m p x) (n : ℕ) (b : Boo
               (right-unstuck (left-gave .words) (left-gave .is)) (right-typed (left-gave .words) (left-gave .is)) (told-word (firstWord (out t m p x q)) r hr sr)
 
           one-each : b ≡ false → nodeV (decoded t) n ≤ 2 → (length (left-gave .words) ≡ 1) × (length (right-gave .words) ≡ 1)
-          one-each e g =
-              let few = compares-few (decoded t) n (c .compares ∙ e) g in
-              let some = some-words (decoded t) (h .ranged) (h .sized) (typeOf (decoded t) v) (expression-valued t m p x h v (left-evaluable .expression) .type .there) in
-              let i : wordsOf (decoded t) (typeOf (decoded t) v) ≡ 1 = one (wordsOf (decoded t) (typeOf (decoded t) v)) some (rw (← hv) at few) in
-              (left-gave .long ∙ i, right-gave .long ∙ (sym (operands-match g) ∙ i))
-            where
-              one : (k : ℕ) → 1 ≤ k → k ≤ 1 → k ≡ 1
-              one k a b = omega arith
+          one-each e g = (left-gave .long ∙ left-single e .is, right-gave .long ∙ right-single e .is)
 
           pub combine-returns : (op τ a d : ℕ) (o : words.Outcome) (w : ℕ) → b ≡ false → op ≡ nodeV (decoded t) n → τ ≡ slotIn t v 23 → a ≡ l → d ≡ r → o ≡ binaryWord op τ a d → WordIs o w → Evaluated t m p x n w
           combine-returns op τ a d o w e ho read ha hd g hw =
@@ -157,4 +160,4 @@ module _ (t m p : List ℕ) (x : Context) (h : Ready t m p x) (n : ℕ) (b : Boo
               (g ∙ (binary-at ho hτ (ha ∙ sym (left-gave .first)) (hd ∙ sym (right-gave .first))
               ∙ sym (ap firstWord (i ∙ j) ∙ first-binary (decoded t) (typeOf (decoded t) v) (typeOf (decoded t) q) (wordOf (left-gave .words)) (wordOf (right-gave .words)) (nodeV (decoded t) n) u)))
 
-pub ruleset combines = (left-below, left-evaluable, left-fails, right-below, right-evaluable, right-fails, combine-returns)
+pub ruleset combines = (left-below, left-evaluable, left-single, left-fails, right-below, right-evaluable, right-single, right-fails, combine-returns)

@@ -1,11 +1,13 @@
 -- The evaluation of an expression that is not stuck: what each call may ask, and each return. Assumes nothing.
 use Prim.Native.Nat.{ℕ, _+_, _-_, _*_, _<_, _≤_}
-use mathlib.Core.Path.{_≡_, sym, ap, subst, _∙_}
+use mathlib.Core.Path.{_≡_, refl, sym, ap, subst, _∙_}
 use mathlib.Core.Bool.{Bool, true, false}
+use mathlib.Core.Bool as bool
 use mathlib.Core.List.{List}
 use lib.Dec.{eqb, leb, ltb}
+use native.Mathlib.Nat.{add-zero}
 use native.Mathlib.Omega.{arith}
-use borrow.Author.Tests.{eqb-true, eqb-false, leb-false, le-leb, lt-leb}
+use borrow.Author.Tests.{eqb-true, eqb-false, leb-false, ltb-true, ltb-false, le-leb, lt-leb}
 use Rattle.basics.specs.Cases.{cases}
 use Rattle.basics.specs.Choice.{both}
 use Rattle.table.specs.Table.{Table}
@@ -23,28 +25,30 @@ use Rattle.words.specs.Outcomes as words
 use Rattle.words.specs.Values.{failureNumber}
 use Rattle.words.specs.Types.{transferW}
 use Rattle.words.specs.declared.values.Failure.{Failure}
-use Rattle.machine.specs.Memory.{memoryOf, wordsAt}
+use Rattle.machine.specs.Memory.{Memory, memoryOf, wordsAt}
+use Rattle.machine.specs.Marks.{marked, allMarked}
+use Rattle.machine.specs.Context as machine
 use Rattle.machine.specs.Entries.{unaryAt}
-use Rattle.machine.specs.Outcomes.{Outcome, ok, fail, andThen, need, Operand, place, value, valued, onPlace, onValue, wordOf}
+use Rattle.machine.specs.Outcomes.{Outcome, ok, fail, andThen, need, failWhere, Operand, place, value, valued, onPlace, onValue, wordOf}
 use Rattle.machine.specs.Variables.{fits}
-use Rattle.machine.specs.Operands.{given, unaryValue}
+use Rattle.machine.specs.Operands.{given, unaryValue, retrieved}
 use Rattle.machine.specs.Layout.{locations}
 use Rattle.code.specs.Code.{slotIn, decoded}
 use Rattle.operands.specs.declared.Context.{Context}
 use Rattle.operands.specs.declared.Place.{Place}
 use Rattle.operands.specs.declared.Place.the-variants as place
-use Rattle.operands.specs.Answers.{selected, firstWord, structured, Unstuck, Evaluable, Binary, Retrieval}
+use Rattle.operands.specs.Answers.{firstWord, structured, Unstuck, Evaluable, OneWord, Binary, Retrieval, Retrieved}
 use Rattle.operands.specs.Operators.{unaryWord, binaryWord}
-use Rattle.operands.specs.Packed.{WordIs, Located, Evaluated}
+use Rattle.operands.specs.Packed.{valueAt, WordIs, Located, Evaluated, Held}
 use Rattle.operands.specs.Places.{wholeAt}
 use Rattle.operands.specs.Ready.{contextIn, Ready, Naming, Valued}
-use Rattle.operands.proofs.Packing.{told-word, told-failure, told-place, told-no-place, tell-word, tell-failure, retell}
+use Rattle.operands.proofs.Packing.{told-word, told-failure, told-place, told-no-place, tell-word, tell-failure, retell, unset-listed}
 use Rattle.operands.proofs.Nodes.{is-constant, is-retrieve, is-unary, is-transfer, type-constant, type-retrieve, type-unary, type-binary, type-transfer}
-use Rattle.operands.proofs.TypeWords.{some-words}
 use Rattle.operands.proofs.Typed.{OfType, typed-expression}
 use Rattle.operands.proofs.Lending.{lends-type, expression-valued}
+use Rattle.operands.proofs.OneWords.{one-unary, one-transfer, one-few}
 use Rattle.operands.proofs.Yielding.{first-place, first-value, gave, failed, first-word, first-constant, first-transfer, first-unary}
-use Rattle.operands.proofs.Selecting.{out, Sel, failed-place, at-place, selected-fits, selected-low, whole-naming, whole-selected}
+use Rattle.operands.proofs.Selecting.{out, Sel, fits-high, failed-place, at-place, selected-fits, selected-low, whole-naming, whole-selected}
 
 abbrev pub Ev : List ℕ → List ℕ → List ℕ → Context → ℕ → Type 0
 Ev t m p x n = Evaluable (decoded t) (memoryOf m) (memoryOf p) (contextIn x) n
@@ -123,6 +127,13 @@ module _ (t m p : List ℕ) (x : Context) (h : Ready t m p x) (n : ℕ) where
                 (λ e. first-value _ _ (subst Unstuck (the-transfer (eqb-false k 5 e)) (c .unstuck)));
           }
 
+      pub one-single : OneWord (decoded t) v
+      one-single =
+          rw hv
+          (cases (eqb k 5)
+          (λ e. one-unary (decoded t) (h .typed) n (c .expression .below) (sym hk ∙ eqb-true k 5 e))
+          (λ e. one-transfer (decoded t) (h .typed) n (c .expression .below) (is-seven (eqb-false k 5 e))))
+
       module _ (l : ℕ) (hl : Evaluated t m p x v l) where
         pub one-fails : 65536 ≤ l → Evaluated t m p x n l
         one-fails g =
@@ -156,21 +167,33 @@ module _ (t m p : List ℕ) (x : Context) (h : Ready t m p x) (n : ℕ) where
               let i = d ∙ at-value _ _ _ _ (j .is) in
               retell r hr (g ∙ (transfer-at hq (sym (j .first)) ∙ sym (ap firstWord i ∙ first-transfer _ _ _ (subst Unstuck i (c .unstuck)))))
 
-pub ruleset evaluates = (constant-returns, retrieval, binary-node, operand-valued, one-below, one-evaluable, one-fails, unary-returns, transfer-returns)
+pub ruleset evaluates = (constant-returns, retrieval, binary-node, operand-valued, one-below, one-evaluable, one-single, one-fails, unary-returns, transfer-returns)
 
--- ---- the laws of `retrieve`
+-- a value of one word at location a
+all-one : (m : Memory) (a : ℕ) → allMarked m a 1 ≡ marked m a
+unfolding allMarked both
+all-one m a = rw (add-zero a)
+
+one-first : (T : Table) (m page : Memory) (x : machine.Context) (a τ : ℕ) → wordsOf T τ ≡ 1 → valueAt m a ≡ firstWord (retrieved T m page x a τ)
+unfolding valueAt retrieved failWhere firstWord bool.not
+one-first T m page x a τ e =
+    cases (marked m a)
+    (λ g. rw (e, all-one m a, g, first-word m a 1 (omega arith)))
+    (λ g. rw (e, all-one m a, g))
+
+-- ---- the laws of `retrieve` and `hold`
 module _ (t m p : List ℕ) (x : Context) (h : Ready t m p x) (n : ℕ) (c : Retrieval (decoded t) (memoryOf m) (memoryOf p) (contextIn x) n) (v : ℕ) (hv : v ≡ nodeP (decoded t) n) where
-  the-retrieve : out t m p x n ≡ onPlace (out t m p x v) (λ a τ. ok (value τ (wordsAt (memoryOf m) a (wordsOf (decoded t) τ))))
+  the-retrieve : out t m p x n ≡ onPlace (out t m p x v) (λ a τ. retrieved (decoded t) (memoryOf m) (memoryOf p) (contextIn x) a τ)
   the-retrieve = is-retrieve (decoded t) (memoryOf m) (memoryOf p) (contextIn x) n (c .evaluable .expression .below) (h .ranged) (c .kind) ∙ rw hv
 
   got-variable : Variable (decoded t) n v
   got-variable = rw hv (value-variable (decoded t) (h .ranged) n (c .evaluable .expression .below) (c .kind))
 
-  pub got-lower : v < n
-  got-lower = got-variable .below
-
   pub got-below : (u : ℕ) → 3 * n ≡ u → 3 * v + 1 < u
   got-below u e = let b = got-variable .below in omega arith
+
+  pub hold-below : (u : ℕ) → 3 * n ≡ u → 3 * v < u
+  hold-below u e = let b = got-variable .below in omega arith
 
   pub got-selectable : Sel t m p x v
   got-selectable =
@@ -192,53 +215,100 @@ module _ (t m p : List ℕ) (x : Context) (h : Ready t m p x) (n : ℕ) (c : Ret
     there-fits : fits (decoded t) a (typeOf (decoded t) n) ≡ true
     there-fits = rw got-type (selected-fits t m p x h v got-selectable a ha)
 
-    -- THE VALUE is the words there
-    there-value : out t m p x n ≡ ok (value (typeOf (decoded t) n) (wordsAt (memoryOf m) a (wordsOf (decoded t) (typeOf (decoded t) n))))
-    there-value = the-retrieve ∙ (at-place _ _ _ _ (sym ha) ∙ rw got-type)
+    there-is : out t m p x n ≡ retrieved (decoded t) (memoryOf m) (memoryOf p) (contextIn x) a (typeOf (decoded t) n)
+    there-is = the-retrieve ∙ (at-place _ _ _ _ (sym ha) ∙ rw got-type)
 
-    there-returns : (w r : ℕ) → w ≡ memoryOf m a → Field w r → Evaluated t m p x n r
-    unfolding firstWord
-    there-returns w r e f =
-        tell-word (firstWord (out t m p x n)) w r f
-        (rw (there-value, e, first-word (memoryOf m) a _ (some-words (decoded t) (h .ranged) (h .sized) (typeOf (decoded t) n) (expression-valued t m p x h n (c .evaluable .expression) .type .there))))
+    -- THE VALUE is the words there, if all are marked
+    there-value : allMarked (memoryOf m) a (wordsOf (decoded t) (typeOf (decoded t) n)) ≡ true
+        → out t m p x n ≡ ok (value (typeOf (decoded t) n) (wordsAt (memoryOf m) a (wordsOf (decoded t) (typeOf (decoded t) n))))
+    unfolding retrieved failWhere bool.not
+    there-value e = there-is ∙ rw e
 
-  -- as `select` tells it
-  module _ (l : Place) (hl : selected l (typeOf (decoded t) v) ≡ out t m p x v) where
-    pub got-failed : (e : Failure) → l ≡ place.Fail e → out t m p x n ≡ fail (failureNumber e)
-    got-failed e g = there-failed (failureNumber e) (sym hl ∙ rw g)
+    there-unset : allMarked (memoryOf m) a (wordsOf (decoded t) (typeOf (decoded t) n)) ≡ false → out t m p x n ≡ fail 31
+    unfolding retrieved failWhere bool.not
+    there-unset e = there-is ∙ rw e
 
-    module _ (a : ℕ) (ha : l ≡ place.At a) where
-      pub got-fits : fits (decoded t) a (typeOf (decoded t) n) ≡ true
-      got-fits = there-fits a (rw ha at hl)
-
-      pub got-value : out t m p x n ≡ ok (value (typeOf (decoded t) n) (wordsAt (memoryOf m) a (wordsOf (decoded t) (typeOf (decoded t) n))))
-      got-value = there-value a (rw ha at hl)
+    there-returns : OneWord (decoded t) n → (r : ℕ) → WordIs (valueAt (memoryOf m) a) r → Evaluated t m p x n r
+    there-returns o r f =
+        retell r f (one-first (decoded t) (memoryOf m) (memoryOf p) (contextIn x) a (typeOf (decoded t) n) (o .is) ∙ sym (ap firstWord there-is))
 
   -- as `place` and `locate` tell it
   module _ (l : ℕ) (hl : Located t m p x v l) where
+    held-failed : 65536 ≤ l → out t m p x n ≡ fail (l - 65536)
+    held-failed g = there-failed (l - 65536) (told-no-place (typeOf (decoded t) v) (out t m p x v) l hl g)
+
     pub held-fails : 65536 ≤ l → Evaluated t m p x n l
     unfolding firstWord
-    held-fails g =
-        let q = there-failed (l - 65536) (told-no-place (typeOf (decoded t) v) (out t m p x v) l hl g) in
-        tell-failure (firstWord (out t m p x n)) l (hl .listed) g (rw q)
+    held-fails g = let q = held-failed g in tell-failure (firstWord (out t m p x n)) l (hl .listed) g (rw q)
+
+    pub hold-fails : 65536 ≤ l → Held t m p x n l
+    hold-fails g =
+        record {
+          holds = λ s. absurd (omega arith);
+          stands = λ s. absurd (omega arith);
+          fails = held-failed;
+          listed = hl .listed;
+        }
 
     module _ (s : l < 65536) (a : ℕ) (ha : a ≡ l) where
       held-place : ok (place a (typeOf (decoded t) v)) ≡ out t m p x v
       held-place = rw ha (sym (told-place (typeOf (decoded t) v) (out t m p x v) l hl s))
 
-      pub held-fits : fits (decoded t) a (typeOf (decoded t) n) ≡ true
-      held-fits = there-fits a held-place
-
       pub held-low : a < locations
       held-low = selected-low t m p x h v got-selectable a held-place
 
-      pub held-value : out t m p x n ≡ ok (value (typeOf (decoded t) n) (wordsAt (memoryOf m) a (wordsOf (decoded t) (typeOf (decoded t) n))))
-      held-value = there-value a held-place
-
-      pub held-returns : (w r : ℕ) → w ≡ memoryOf m a → Field w r → Evaluated t m p x n r
+      pub held-returns : OneWord (decoded t) n → (r : ℕ) → WordIs (valueAt (memoryOf m) a) r → Evaluated t m p x n r
       held-returns = there-returns a held-place
 
+      module _ (k : ℕ) (hk : k ≡ wordsOf (decoded t) (typeOf (decoded t) n)) where
+        pub hold-room : a + k ≤ locations
+        hold-room = rw hk (fits-high (decoded t) a (typeOf (decoded t) n) (there-fits a held-place))
+
+        module _ (b : Bool) (hb : b ≡ allMarked (memoryOf m) a k) where
+          pub hold-returns : b ≡ true → Held t m p x n l
+          hold-returns e =
+              record {
+                holds = λ g. rw (← ha) (there-value a held-place (rw (← hk, ← hb) e));
+                stands = λ g. rw (← hv, ← ha) (sym held-place);
+                fails = λ g. absurd (omega arith);
+                listed = hl .listed;
+              }
+
+          pub hold-unset : b ≡ false → Held t m p x n 65567
+          hold-unset e =
+              record {
+                holds = λ g. absurd (omega arith);
+                stands = λ g. absurd (omega arith);
+                fails = λ g. there-unset a held-place (rw (← hk, ← hb) e);
+                listed = unset-listed;
+              }
+
+-- the place of a value that is held
+module _ (t m p : List ℕ) (x : Context) (h : Ready t m p x) (n : ℕ) (c : Retrieval (decoded t) (memoryOf m) (memoryOf p) (contextIn x) n) where
+  pub stands-fits : (a : ℕ) → out t m p x (nodeP (decoded t) n) ≡ ok (place a (typeOf (decoded t) (nodeP (decoded t) n))) → fits (decoded t) a (typeOf (decoded t) n) ≡ true
+  stands-fits a e = there-fits t m p x h n c (nodeP (decoded t) n) refl a (sym e)
+
+  pub hold-valued : Valued t n
+  hold-valued = expression-valued t m p x h n (c .evaluable .expression)
+
+  -- as `retrieve_place` tells it
+  module _ (l : Place) (hl : Retrieved (decoded t) (memoryOf m) (memoryOf p) (contextIn x) n l) where
+    pub got-failed : (e : Failure) → l ≡ place.Fail e → out t m p x n ≡ fail (failureNumber e)
+    got-failed e g = sym (hl .is) ∙ rw g
+
+    module _ (a : ℕ) (ha : l ≡ place.At a) where
+      pub got-value : out t m p x n ≡ ok (value (typeOf (decoded t) n) (wordsAt (memoryOf m) a (wordsOf (decoded t) (typeOf (decoded t) n))))
+      got-value = sym (hl .is) ∙ rw ha
+
+      pub got-place : out t m p x (nodeP (decoded t) n) ≡ ok (place a (typeOf (decoded t) (nodeP (decoded t) n)))
+      got-place = hl .stands a ha
+
+      pub got-fits : fits (decoded t) a (typeOf (decoded t) n) ≡ true
+      got-fits = stands-fits a got-place
+
 pub ruleset retrieves = (got-below, got-selectable, held-fails, held-low, held-returns)
+
+pub ruleset holdings = (hold-below, got-selectable, hold-fails, hold-room, hold-valued, hold-returns, hold-unset)
 
 -- ---- the laws of `word`: the value of a whole variable
 module _ (t m p : List ℕ) (x : Context) (h : Ready t m p x) (n : ℕ) (c : Ev t m p x n) (k v j w : ℕ) (hk : k ≡ nodeKind (decoded t) n) (hv : v ≡ nodeP (decoded t) n) (e : k ≡ 4) (hj : j ≡ nodeKind (decoded t) v) (hw : w ≡ nodeP (decoded t) v) (g : j ≡ 1) where
@@ -255,7 +325,7 @@ module _ (t m p : List ℕ) (x : Context) (h : Ready t m p x) (n : ℕ) (c : Ev 
     pub seen-low : a < locations
     seen-low = selected-low t m p x h v seen-selectable a (whole-selected t m p x h v seen-selectable j w hj hw a g ha)
 
-    pub seen-returns : (d r : ℕ) → d ≡ memoryOf m a → Field d r → Evaluated t m p x n r
+    pub seen-returns : OneWord (decoded t) n → (r : ℕ) → WordIs (valueAt (memoryOf m) a) r → Evaluated t m p x n r
     seen-returns = there-returns t m p x h n seen-retrieval v hv a (whole-selected t m p x h v seen-selectable j w hj hw a g ha)
 
 pub ruleset sees = (constant-returns, seen-naming, seen-low, seen-returns)
@@ -293,6 +363,13 @@ module _ (T : Table) (m n : ℕ) (hr : inRange T ≡ true) (ht : typed T ≡ tru
     where
       four : (k : ℕ) → (1 ≤ k → 4 ≤ k) → k ≤ 7 → (k ≡ 0 → ⊥) → (k ≡ 5 → ⊥) → (k ≡ 6 → ⊥) → (k ≡ 7 → ⊥) → k ≡ 4
       four k g h n0 n5 n6 n7 = let i : 1 ≤ k = omega arith in let j = g i in omega arith
+
+-- an expression that retrieves no variable
+pub one-other : (t m p : List ℕ) (x : Context) → Ready t m p x → (n : ℕ) → Expression (decoded t) (nodeCount (decoded t)) n → (nodeKind (decoded t) n ≡ 4 → ⊥) → OneWord (decoded t) n
+one-other t m p x h n e k =
+    cases (ltb 1 (wordsOf (decoded t) (typeOf (decoded t) n)))
+    (λ g. absurd (k (only-retrieval (decoded t) (nodeCount (decoded t)) n (h .ranged) (h .typed) (e .below) e (ltb-true 1 _ g))))
+    (λ g. one-few t m p x h n e (wordsOf (decoded t) (typeOf (decoded t) n)) refl (ltb-false 1 (wordsOf (decoded t) (typeOf (decoded t) n)) g))
 
 -- ---- the laws of `is_structured`
 module _ (T : Table) (n k : ℕ) (hk : k ≡ nodeV T n) where

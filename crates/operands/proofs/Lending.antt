@@ -14,6 +14,7 @@ use Rattle.operands.specs.declared.Context.{Context}
 use Rattle.operands.specs.Ready.{Ready, Sized, Valued}
 use Rattle.operands.proofs.NodeTypes.{type-there}
 use Rattle.machine.specs.Layout.{stateSize, pageSize}
+use Rattle.machine.specs.Lent.{State}
 
 module _ (t m p : List ℕ) (x : Context) (h : Ready t m p x) where
   pub lends-code : Prepared t
@@ -21,6 +22,9 @@ module _ (t m p : List ℕ) (x : Context) (h : Ready t m p x) where
 
   pub lends-state : length m ≡ stateSize
   lends-state = h .state
+
+  pub lends-lent : State m
+  lends-lent = record { long = h .state }
 
   pub lends-page : length p ≡ pageSize
   lends-page = h .page
@@ -47,4 +51,4 @@ module _ (t m p : List ℕ) (x : Context) (h : Ready t m p x) where
   variable-sized v τ l e =
       record { code = h .code; sized = h .sized; there = rw e (numbers.var-type (decoded t) (h .ranged) v l) }
 
-pub ruleset lends = (lends-code, lends-state, lends-page)
+pub ruleset lends = (lends-code, lends-state, lends-lent, lends-page)

@@ -8,6 +8,7 @@ pub mod Typed
 pub mod NodeTypes
 pub mod Yielding
 pub mod Lending
+pub mod OneWords
 pub mod Selecting
 pub mod Evaluating
 pub mod Combining

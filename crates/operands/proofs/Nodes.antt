@@ -13,12 +13,11 @@ use Rattle.types.specs.Types.{noType, fieldOf, elementOf, unaryType, binaryType
 use Rattle.numbers.specs.Ranges.{inRange}
 use Rattle.numbers.proofs.OperandPromise.{field-variable, element-variable, value-variable, unary-operand, binary-left, transfer-operand, element-index, binary-right}
 use Rattle.words.specs.Types.{transferW}
-use Rattle.machine.specs.Memory.{Memory, wordsAt}
+use Rattle.machine.specs.Memory.{Memory}
 use Rattle.machine.specs.Context.{Context}
-use Rattle.machine.specs.Outcomes.{ok, stuck, need, value, onPlace, onValue, wordOf}
+use Rattle.machine.specs.Outcomes.{stuck, need, onPlace, onValue, wordOf}
 use Rattle.machine.specs.Entries.{nodeOf, nodeAt, unaryAt, binaryAt}
-use Rattle.sizes.specs.Sizes.{wordsOf}
-use Rattle.machine.specs.Operands.{simple, given, unaryValue, binaryValue, fieldPlace, elementPlace, wholePlace, nodeOperand, operandAt, operand}
+use Rattle.machine.specs.Operands.{simple, given, unaryValue, binaryValue, fieldPlace, elementPlace, wholePlace, retrieved, nodeOperand, operandAt, operand}
 
 module _ (T : Table) (m page : Memory) (x : Context) where
   operand-is : (n : ℕ) → operand T m page x n ≡ nodeOperand T m page x (λ p. pick (ltb p n) (operand T m page x p) stuck) (nodeAt T n)
@@ -44,7 +43,7 @@ module _ (T : Table) (m page : Memory) (x : Context) where
       is-element e =
           operand-is n ∙ simp (lt-ltb n (nodeCount T) l, e, lt-ltb (nodeP T n) n (element-variable T h n l e .below), lt-ltb (nodeQ T n) n (element-index T h n l e .below))
 
-      pub is-retrieve : nodeKind T n ≡ 4 → operand T m page x n ≡ onPlace (operand T m page x (nodeP T n)) (λ a τ. ok (value τ (wordsAt m a (wordsOf T τ))))
+      pub is-retrieve : nodeKind T n ≡ 4 → operand T m page x n ≡ onPlace (operand T m page x (nodeP T n)) (λ a τ. retrieved T m page x a τ)
       unfolding nodeAt nodeOf nodeOperand
       is-retrieve e = operand-is n ∙ rw (lt-ltb n (nodeCount T) l, e, lt-ltb (nodeP T n) n (value-variable T h n l e .below))
 

@@ -24,7 +24,7 @@ use Rattle.machine.specs.Variables.{offsetOf, belongs, known, fits}
 use Rattle.machine.specs.Operands.{onRecord, onArray, outside, placeAt, fieldPlace, elementPlace, moduleVariable, frameVariable, wholePlace, operand}
 use Rattle.code.specs.Code.{slotIn, decoded}
 use Rattle.operands.specs.declared.Context.{Context}
-use Rattle.operands.specs.Answers.{firstWord, Unstuck, Selectable, Evaluable}
+use Rattle.operands.specs.Answers.{firstWord, Unstuck, Selectable, Evaluable, OneWord}
 use Rattle.operands.specs.Packed.{PlaceIs, Located, Evaluated}
 use Rattle.operands.specs.Places.{numbered, framed, frameAt, wholeAt, Named, elementAt}
 use Rattle.operands.specs.Ready.{contextIn, Working, Ready, Naming, Fielded, Sized, Indexed}
@@ -33,6 +33,7 @@ use Rattle.operands.proofs.Nodes.{is-whole, is-field, is-element, type-
 use Rattle.operands.proofs.Typed.{OfType, typed-variable, typed-expression, entry-record, entry-array, no-record, no-array}
 use Rattle.operands.proofs.NodeTypes.{element-there}
 use Rattle.operands.proofs.Lending.{lends-type, variable-valued}
+use Rattle.operands.proofs.OneWords.{one-index}
 use Rattle.operands.proofs.Yielding.{no-unstuck, through, need-is, first-place, first-index, Gave, gave, place-fits, failed}
 
 -- a place lies in one area
@@ -340,6 +341,11 @@ module _ (t m p : List ℕ) (x : Context) (h : Ready t m p x) (n : ℕ) (c : Sel
                   unstuck = element-index-unstuck (decoded t) a τ (out t m p x q) element-unstuck;
                 }
 
+            pub index-single : OneWord (decoded t) q
+            index-single =
+                let u = variable-valued t m p x h v (part-selectable .variable) .type .there in
+                rw hq (one-index (decoded t) (h .typed) n (c .variable .below) (h .ranged) (rw hv at u) (two-three n2))
+
             element-sized : Sized t (typeQ (decoded t) τ)
             element-sized =
                 let u = variable-valued t m p x h v (part-selectable .variable) .type .there in
@@ -386,4 +392,4 @@ module _ (t m p : List ℕ) (x : Context) (h : Ready t m p x) (n : ℕ) (c : Sel
                     → Located t m p x n r
                 element-returns r d = rw (element-typed, element-found) d
 
-pub ruleset selects = (whole-naming, whole-low, whole-returns, part-below, part-selectable, part-fails, field-there, field-low, field-returns, index-below, index-evaluable, index-fails, element-indexed, element-returns)
+pub ruleset selects = (whole-naming, whole-low, whole-returns, part-below, part-selectable, part-fails, field-there, field-low, field-returns, index-below, index-evaluable, index-single, index-fails, element-indexed, element-returns)

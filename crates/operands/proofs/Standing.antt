@@ -24,6 +24,7 @@ use Rattle.machine.specs.Layout.{location, locations}
 use Rattle.machine.specs.Outcomes.{ok, failWhere, place}
 use Rattle.machine.specs.Operands.{outside, same}
 use Rattle.words.specs.Operators.{leW}
+use Rattle.machine.proofs.Tests.{failure-i}
 use Rattle.operands.proofs.Yielding.{le-offset}
 use Rattle.operands.proofs.Packing.{tell-place, tell-no-place}
 use Rattle.machine.specs.Variables.{offsetOf}
@@ -149,7 +150,7 @@ module _ (T : Table) (a τ i c k d low : ℕ) (hc : Field i c) (hk : k ≡ offse
   out-of-range : outside (typeLow T τ) (typeHigh T τ) i ≡ true → Element 65554
   unfolding failWhere
   out-of-range e =
-      tell-no-place (typeQ T τ) _ 65554 (record { low = λ g. omega arith; high = omega arith }) (omega arith) (rw e)
+      tell-no-place (typeQ T τ) _ 65554 (record { is = λ g. failure-i 18 (omega arith) (omega arith) }) (omega arith) (rw e)
 
   pub index-low : k < low → Element 65554
   unfolding outside both

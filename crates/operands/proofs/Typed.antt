@@ -25,7 +25,7 @@ use Rattle.machine.specs.Context.{Context}
 use Rattle.machine.specs.Outcomes.{Outcome, ok, fail, stuck, andThen, need, failWhere, Operand, place, value, placed, valued, onPlace, onValue, onWord, wordOf}
 use Rattle.machine.specs.Entries.{recordType, arrayType, typeAt, noUnary, unaryAt, noBinary, binaryAt}
 use Rattle.machine.specs.Variables.{fits, belongs}
-use Rattle.machine.specs.Operands.{simple, truth, given, unaryValue, ordered, integral, logical, binaryValue, outside, onRecord, onArray, placeAt, fieldPlace, elementPlace, moduleVariable, frameVariable, wholePlace, operand}
+use Rattle.machine.specs.Operands.{simple, truth, given, unaryValue, ordered, integral, logical, binaryValue, outside, onRecord, onArray, placeAt, fieldPlace, elementPlace, moduleVariable, frameVariable, wholePlace, retrieved, operand}
 use Rattle.operands.proofs.Nodes.{is-constant, is-whole, is-field, is-element, is-retrieve, is-unary, is-binary, is-transfer, type-constant, type-whole, type-field, type-element, type-retrieve, type-unary, type-binary, type-transfer}
 
 pub seven : (k : ℕ) → k ≤ 7 → eqb k 0 ≡ false → eqb k 1 ≡ false → eqb k 2 ≡ false → eqb k 3 ≡ false → eqb k 4 ≡ false → eqb k 5 ≡ false → eqb k 6 ≡ false → k ≡ 7
@@ -251,6 +251,10 @@ of-binary T o τ us σ vs =
     (of-logical T τ σ _ _)
     (λ e. rw e a-stuck)
 
+of-retrieved : (T : Table) (m page : Memory) (x : Context) (a τ : ℕ) → OfType T τ (retrieved T m page x a τ)
+unfolding retrieved
+of-retrieved T m page x a τ = of-failWhere T τ _ _ _ (a-value (length-words m a (wordsOf T τ)))
+
 -- THE TYPE of a node's outcome is the one that is read off
 module _ (T : Table) (m page : Memory) (x : Context) (h : inRange T ≡ true) where
   typed-at : (n : ℕ) → n < nodeCount T → ((p : ℕ) → p < n → nodeKind T p ≤ 7 → OfType T (typeOf T p) (operand T m page x p)) → nodeKind T n ≤ 7 → OfType T (typeOf T n) (operand T m page x n)
@@ -264,7 +268,7 @@ module _ (T : Table) (m page : Memory) (x : Context) (h : inRange T ≡ true) wh
       cases (eqb (nodeKind T n) 3) (λ e. let q = eqb-true (nodeKind T n) 3 e in let v = element-variable T h n l q in let b = v .below in
       rw (type-element T n l b q, is-element T m page x n l h q) (of-onPlace T _ (typeOf T (nodeP T n)) _ _ (r (nodeP T n) b (omega arith)) (λ a. of-element T a (typeOf T (nodeP T n)) (operand T m page x (nodeQ T n))))) (λ k₃.
       cases (eqb (nodeKind T n) 4) (λ e. let q = eqb-true (nodeKind T n) 4 e in let v = value-variable T h n l q in let b = v .below in
-      rw (type-retrieve T n l b q, is-retrieve T m page x n l h q) (of-onPlace T _ (typeOf T (nodeP T n)) _ _ (r (nodeP T n) b (omega arith)) (λ a. a-value (length-words m a (wordsOf T (typeOf T (nodeP T n))))))) (λ k₄.
+      rw (type-retrieve T n l b q, is-retrieve T m page x n l h q) (of-onPlace T _ (typeOf T (nodeP T n)) _ _ (r (nodeP T n) b (omega arith)) (λ a. of-retrieved T m page x a (typeOf T (nodeP T n))))) (λ k₄.
       cases (eqb (nodeKind T n) 5) (λ e. let q = eqb-true (nodeKind T n) 5 e in let v = unary-operand T h n l q in let b = v .below in
       rw (type-unary T n l b q, is-unary T m page x n l h q) (of-onValue T _ (typeOf T (nodeP T n)) _ _ (r (nodeP T n) b (omega arith)) (λ us. of-unary T page (nodeQ T n) (typeOf T (nodeP T n)) (wordOf us)))) (λ k₅.
       cases (eqb (nodeKind T n) 6) (λ e. let q = eqb-true (nodeKind T n) 6 e in let v = binary-left T h n l q in let b = v .below in

@@ -5,6 +5,8 @@ use super::bases::FIRST;
 use super::bases::FRAMED;
 use super::bases::OWNED;
 use super::packed::INDEX_RANGE;
+use super::packed::UNSET;
+use super::packed::long;
 use super::packed::thin;
 use words::memory::get;
 ghost use mathlib.Core.Path.{_≡_};
@@ -23,7 +25,7 @@ ghost use Rattle.machine.specs.Operands.{outside, same};
 ghost use Rattle.machine.specs.Layout.{stateSize, locations};
 ghost use Rattle.code.specs.Code.{decoded};
 ghost use Rattle.operands.specs.Bases.{contextAt, Based};
-ghost use Rattle.operands.specs.Packed.{PlaceIs};
+ghost use Rattle.operands.specs.Packed.{PlaceIs, WordIs, valueAt};
 ghost use Rattle.operands.specs.Places.{wholeAt, elementAt, Rooms};
 ghost use Rattle.operands.specs.Ready.{Naming, Fielded, Sized, Indexed, Valued};
 
@@ -39,6 +41,17 @@ pub fn word_at(state: &[u8], a: usize) -> u16
     ensures { λ r. ⌜ r ≡ memoryOf (now (state .entry)) a ⌝ }
 {
     get(state, a)
+}
+
+// The value of a variable of one word at a location (8.7), which must be marked (02, g).
+pub fn value_at(state: &[u8], a: usize) -> u32
+    requires { ⌜ (length (now state) ≡ stateSize) × (a < locations) ⌝ }
+    ensures { λ r. ⌜ WordIs (valueAt (memoryOf (now (state .entry))) a) r ⌝ }
+{
+    if machine::marks::is_marked(state, a) {
+        return long(word_at(state, a));
+    }
+    UNSET
 }
 
 // The number v is one of those from first on and before after.

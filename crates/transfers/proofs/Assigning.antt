@@ -1,6 +1,6 @@
 -- Assignments that are not stuck (11.2): what each call may ask, and each return. Assumes nothing.
 use Prim.Native.Nat.{ℕ, _+_, _<_, _≤_}
-use mathlib.Core.Path.{_≡_, sym, ap, subst, _∙_}
+use mathlib.Core.Path.{_≡_, refl, sym, ap, subst, _∙_}
 use mathlib.Core.Bool.{true}
 use mathlib.Core.List.{List, [], _∷_}
 use lib.ListN.{length}
@@ -16,26 +16,29 @@ use Rattle.words.specs.declared.values.Failure.{Failure}
 use Rattle.words.specs.declared.values.Value.{Value}
 use Rattle.words.specs.declared.values.Value.the-variants.{Word, Fail}
 use Rattle.machine.specs.Memory.{Memory, memoryOf, update, store, wordsAt}
-use Rattle.machine.specs.Layout.{statementAt, failureAt, stateWords, locations}
+use Rattle.machine.specs.Layout.{statementAt, failureAt, locations}
 use Rattle.machine.specs.Lent.{State, Becomes}
+use Rattle.machine.specs.Marks.{mark}
 use Rattle.machine.specs.Outcomes.{ok, fail, stuck, need, place, value, onValue}
 use Rattle.machine.specs.Entries.{stmtAt}
 use Rattle.machine.specs.Variables.{fits}
 use Rattle.machine.specs.Places.{SameOrApart}
 use Rattle.machine.specs.Statements.{effect, goOn, doAssign, perform}
 use Rattle.machine.proofs.Copies.{store-none, store-more}
+use Rattle.machine.proofs.Memories.{length-words}
 use Rattle.code.specs.Code.{decoded}
 use Rattle.operands.specs.declared.Context.{Context}
 use Rattle.operands.specs.declared.Place.{Place}
 use Rattle.operands.specs.declared.Place.the-variants as place
-use Rattle.operands.specs.Answers.{selected, firstWord, Retrieval}
+use Rattle.operands.specs.Answers.{selected, firstWord, OneWord, Retrieval, Retrieved}
 use Rattle.operands.specs.Ready.{contextIn, Ready, Valued}
 use Rattle.operands.proofs.Lending.{expression-valued}
+use Rattle.operands.proofs.OneWords.{one-few}
 use Rattle.operands.proofs.Typed.{OfType, typed-variable, typed-expression}
 use Rattle.operands.proofs.TypeWords.{some-words, match-words}
 use Rattle.operands.proofs.Yielding.{place-fits, failed, single}
 use Rattle.operands.proofs.Selecting.{out, Sel, fits-low, fits-high}
-use Rattle.operands.proofs.Evaluating.{Ev, only-retrieval, got-selectable, got-type, got-failed, got-fits, got-value}
+use Rattle.operands.proofs.Evaluating.{Ev, only-retrieval, got-type, got-failed, got-fits, got-place, got-value}
 use Rattle.effects.specs.Effects.{carried, Stepped, Standing}
 use Rattle.effects.proofs.Carrying.{performs-assign}
 use Rattle.transfers.specs.Assignments.{Assigning, Copying, copied}
@@ -45,7 +48,7 @@ use Rattle.transfers.proofs.Steps.{goes-on, stands-there, stands-below,
 -- ---- the laws of `copy`
 
 pub copy-returns : (s s1 s2 : List ℕ) (x : Context) (from to n : ℕ)
-    → Becomes s1 (store (memoryOf s) to (wordsAt (memoryOf s) from n))
+    → Becomes s1 (mark (store (memoryOf s) to (wordsAt (memoryOf s) from n)) to n)
     → Becomes s2 (update (memoryOf s1) (statementAt (x .process)) (x .statement + 1))
     → Becomes s2 (copied (memoryOf s) x from to n)
 unfolding copied
@@ -113,12 +116,12 @@ module _ (t m p : List ℕ) (x : Context) (i : ℕ) (c : Assigning t m p x i) wh
       (typed-variable (decoded t) (memoryOf m) (memoryOf p) (contextIn x) (c .standing .ready .ranged) (stmtA (decoded t) (x .statement))
       (variable-there t m p x (c .standing) (c .kind) .variable)))
 
-  pub assigning-low : i < stateWords
-  assigning-low = let l = fits-low (decoded t) i (typeOf (decoded t) (stmtA (decoded t) (x .statement))) target-fits in omega arith
+  pub assigning-low : i < locations
+  assigning-low = fits-low (decoded t) i (typeOf (decoded t) (stmtA (decoded t) (x .statement))) target-fits
 
   -- the value, then the test that it matches
   then : perform (decoded t) (memoryOf m) (memoryOf p) (contextIn x) (stmtAt (decoded t) (x .statement))
-      ≡ onValue (out t m p x (stmtB (decoded t) (x .statement))) (λ σ ws. need (matches (decoded t) (typeOf (decoded t) (stmtA (decoded t) (x .statement))) σ) (goOn (decoded t) (memoryOf m) (memoryOf p) (contextIn x) (store (memoryOf m) i ws)))
+      ≡ onValue (out t m p x (stmtB (decoded t) (x .statement))) (λ σ ws. need (matches (decoded t) (typeOf (decoded t) (stmtA (decoded t) (x .statement))) σ) (goOn (decoded t) (memoryOf m) (memoryOf p) (contextIn x) (mark (store (memoryOf m) i ws) i (length ws))))
   unfolding doAssign
   then = does t m p x (c .standing) (c .kind) ∙ place-goes _ _ i _ (c .target)
 
@@ -132,7 +135,7 @@ module _ (t m p : List ℕ) (x : Context) (i : ℕ) (c : Assigning t m p x i) wh
   -- a value of words ws
   module _ (ws : List ℕ) (e : out t m p x (stmtB (decoded t) (x .statement)) ≡ ok (value (typeOf (decoded t) (stmtB (decoded t) (x .statement))) ws)) where
     tests : perform (decoded t) (memoryOf m) (memoryOf p) (contextIn x) (stmtAt (decoded t) (x .statement))
-        ≡ need (matches (decoded t) (typeOf (decoded t) (stmtA (decoded t) (x .statement))) (typeOf (decoded t) (stmtB (decoded t) (x .statement)))) (goOn (decoded t) (memoryOf m) (memoryOf p) (contextIn x) (store (memoryOf m) i ws))
+        ≡ need (matches (decoded t) (typeOf (decoded t) (stmtA (decoded t) (x .statement))) (typeOf (decoded t) (stmtB (decoded t) (x .statement)))) (goOn (decoded t) (memoryOf m) (memoryOf p) (contextIn x) (mark (store (memoryOf m) i ws) i (length ws)))
     tests = then ∙ value-goes _ _ _ ws e
 
     same-words : wordsOf (decoded t) (typeOf (decoded t) (stmtA (decoded t) (x .statement))) ≡ wordsOf (decoded t) (typeOf (decoded t) (stmtB (decoded t) (x .statement)))
@@ -141,9 +144,9 @@ module _ (t m p : List ℕ) (x : Context) (i : ℕ) (c : Assigning t m p x i) wh
         (need-true _ _ (apart _ _ tests (c .standing .unstuck)))
 
     stores : perform (decoded t) (memoryOf m) (memoryOf p) (contextIn x) (stmtAt (decoded t) (x .statement))
-        ≡ ok (effect 0 (update (store (memoryOf m) i ws) (statementAt (x .process)) (x .statement + 1)) (memoryOf p))
+        ≡ ok (effect 0 (update (mark (store (memoryOf m) i ws) i (length ws)) (statementAt (x .process)) (x .statement + 1)) (memoryOf p))
     stores =
-        tests ∙ (need-done _ _ (apart _ _ tests (c .standing .unstuck)) ∙ goes-on (decoded t) (memoryOf m) (memoryOf p) (store (memoryOf m) i ws) x)
+        tests ∙ (need-done _ _ (apart _ _ tests (c .standing .unstuck)) ∙ goes-on (decoded t) (memoryOf m) (memoryOf p) (mark (store (memoryOf m) i ws) i (length ws)) x)
 
   module _ (b : ℕ) (hb : b ≡ stmtB (decoded t) (x .statement)) where
     pub assigning-evaluable : Ev t m p x b
@@ -156,6 +159,9 @@ module _ (t m p : List ℕ) (x : Context) (i : ℕ) (c : Assigning t m p x i) wh
         → 1 < wordsOf (decoded t) (typeOf (decoded t) (stmtB (decoded t) (x .statement)))
     assigning-several n hn l = rw (← hb, ← hn) l
 
+    pub assigning-one : (n : ℕ) → n ≡ wordsOf (decoded t) (typeOf (decoded t) b) → n ≤ 1 → OneWord (decoded t) b
+    assigning-one n hn l = one-few t m p x (c .standing .ready) b (assigning-evaluable .expression) n hn l
+
     module _ (v : Value) (hv : outcomeOf v ≡ firstWord (out t m p x b)) where
       pub assigning-fails : (e : Failure) (r : ℕ) (s1 : List ℕ) → v ≡ Fail e → r ≡ failureNumber e
           → Becomes s1 (update (memoryOf m) failureAt (failureNumber e))
@@ -165,7 +171,7 @@ module _ (t m p : List ℕ) (x : Context) (i : ℕ) (c : Assigning t m p x i) wh
           stands-fail t m p x (c .standing) (failureNumber e) r s1 (then ∙ value-failed _ _ (failureNumber e) q) k d
 
       pub assigning-returns : (n w : ℕ) (s1 s2 : List ℕ) → n ≡ wordsOf (decoded t) (typeOf (decoded t) b) → n ≤ 1 → v ≡ Word w
-          → Becomes s1 (update (memoryOf m) i w) → Becomes s2 (update (memoryOf s1) (statementAt (x .process)) (x .statement + 1))
+          → Becomes s1 (mark (update (memoryOf m) i w) i 1) → Becomes s2 (update (memoryOf s1) (statementAt (x .process)) (x .statement + 1))
           → Stepped 0 s2 p (carried (decoded t) (memoryOf m) (memoryOf p) (contextIn x))
       assigning-returns n w s1 s2 hn l g d₁ d₂ =
           let q = typed-expression (decoded t) (memoryOf m) (memoryOf p) (contextIn x) (c .standing .ready .ranged) (stmtB (decoded t) (x .statement)) (value-there .expression) in
@@ -174,7 +180,7 @@ module _ (t m p : List ℕ) (x : Context) (i : ℕ) (c : Assigning t m p x i) wh
           let k = some-words (decoded t) (c .standing .ready .ranged) (c .standing .ready .sized) (typeOf (decoded t) (stmtB (decoded t) (x .statement))) (u .type .there) in
           let one : length (j .words) ≡ 1 = one-of (length (j .words)) (wordsOf (decoded t) (typeOf (decoded t) (stmtB (decoded t) (x .statement)))) n (j .long) (hn ∙ rw hb) l k in
           let only : j .words ≡ w ∷ [] = single (j .words) one ∙ rw (j .first) in
-          stands-done t m p x (c .standing) 0 s2 (update (update (memoryOf m) i w) (statementAt (x .process)) (x .statement + 1))
+          stands-done t m p x (c .standing) 0 s2 (update (mark (update (memoryOf m) i w) i 1) (statementAt (x .process)) (x .statement + 1))
           (stores (j .words) (j .is) ∙ rw (only, store-one (memoryOf m) i w))
           (record { long = d₂ .long; is = d₂ .is ∙ rw (d₁ .is) })
         where
@@ -193,20 +199,20 @@ module _ (t m p : List ℕ) (x : Context) (i : ℕ) (c : Assigning t m p x i) wh
               (c .standing .ready .typed) (value-there .expression .below) (value-there .expression) w;
         }
 
-    module _ (b v : ℕ) (hb : b ≡ stmtB (decoded t) (x .statement)) (hv : v ≡ nodeP (decoded t) b) where
-      at-node : v ≡ nodeP (decoded t) (stmtB (decoded t) (x .statement))
-      at-node = hv ∙ rw hb
+    module _ (b : ℕ) (hb : b ≡ stmtB (decoded t) (x .statement)) where
+      pub words-retrieval : Retrieval (decoded t) (memoryOf m) (memoryOf p) (contextIn x) b
+      words-retrieval = rw hb is-retrieval
 
-      pub words-selectable : Sel t m p x v
-      words-selectable = got-selectable t m p x (c .standing .ready) _ is-retrieval v at-node
+      module _ (l : Place) (hl : Retrieved (decoded t) (memoryOf m) (memoryOf p) (contextIn x) b l) where
+        here : Retrieved (decoded t) (memoryOf m) (memoryOf p) (contextIn x) (stmtB (decoded t) (x .statement)) l
+        here = rw hb at hl
 
-      module _ (l : Place) (hl : selected l (typeOf (decoded t) v) ≡ out t m p x v) where
         pub words-fails : (e : Failure) (r : ℕ) (s1 : List ℕ) → l ≡ place.Fail e → r ≡ failureNumber e
             → Becomes s1 (update (memoryOf m) failureAt (failureNumber e))
             → Stepped r s1 p (carried (decoded t) (memoryOf m) (memoryOf p) (contextIn x))
         words-fails e r s1 g k d =
             stands-fail t m p x (c .standing) (failureNumber e) r s1
-            (then ∙ value-failed _ _ (failureNumber e) (got-failed t m p x (c .standing .ready) _ is-retrieval v at-node l hl e g)) k d
+            (then ∙ value-failed _ _ (failureNumber e) (got-failed t m p x (c .standing .ready) _ is-retrieval l here e g)) k d
 
         module _ (j n : ℕ) (g : l ≡ place.At j) (hn : n ≡ wordsOf (decoded t) (typeOf (decoded t) b)) where
           count : n ≡ wordsOf (decoded t) (typeOf (decoded t) (stmtB (decoded t) (x .statement)))
@@ -214,37 +220,35 @@ module _ (t m p : List ℕ) (x : Context) (i : ℕ) (c : Assigning t m p x i) wh
 
           found : out t m p x (stmtB (decoded t) (x .statement))
               ≡ ok (value (typeOf (decoded t) (stmtB (decoded t) (x .statement))) (wordsAt (memoryOf m) j n))
-          found = got-value t m p x (c .standing .ready) _ is-retrieval v at-node l hl j g ∙ rw (← count)
+          found = got-value t m p x (c .standing .ready) _ is-retrieval l here j g ∙ rw (← count)
 
           target-words : n ≡ wordsOf (decoded t) (typeOf (decoded t) (stmtA (decoded t) (x .statement)))
           target-words = count ∙ sym (same-words (wordsAt (memoryOf m) j n) found)
 
-          source-words : n ≡ wordsOf (decoded t) (typeOf (decoded t) v)
-          source-words = count ∙ ap (wordsOf (decoded t)) (got-type t m p x (c .standing .ready) _ is-retrieval v at-node)
+          source-words : n ≡ wordsOf (decoded t) (typeOf (decoded t) (nodeP (decoded t) (stmtB (decoded t) (x .statement))))
+          source-words = count ∙ ap (wordsOf (decoded t)) (got-type t m p x (c .standing .ready) _ is-retrieval _ refl)
 
           -- the two variables are the same or apart
           copied-apart : SameOrApart j i n
           copied-apart =
-              rw (← source-words) at (c .standing .places .apart v (stmtA (decoded t) (x .statement)) j i _ _
-              (sym hl ∙ rw g) (c .target) (sym source-words ∙ target-words))
+              rw (← source-words) at (c .standing .places .apart (nodeP (decoded t) (stmtB (decoded t) (x .statement))) (stmtA (decoded t) (x .statement)) j i _ _
+              (got-place t m p x (c .standing .ready) _ is-retrieval l here j g) (c .target) (sym source-words ∙ target-words))
 
           pub words-copying : Copying x j i n
           words-copying =
-              let a = fits-high (decoded t) j (typeOf (decoded t) (stmtB (decoded t) (x .statement))) (got-fits t m p x (c .standing .ready) _ is-retrieval v at-node l hl j g) in
+              let a = fits-high (decoded t) j (typeOf (decoded t) (stmtB (decoded t) (x .statement))) (got-fits t m p x (c .standing .ready) _ is-retrieval l here j g) in
               let b = fits-high (decoded t) i (typeOf (decoded t) (stmtA (decoded t) (x .statement))) target-fits in
               record {
                 processLow = assigning-bounds .0;
                 processHigh = assigning-bounds .1 .0;
                 statement = assigning-bounds .1 .1;
-                words = record { source = above j n _ count a; target = above i n _ target-words b; apart = copied-apart };
+                words = record { source = rw count a; target = rw target-words b; apart = copied-apart };
               }
-            where
-              above : (a n k : ℕ) → n ≡ k → a + k ≤ locations → a + n ≤ stateWords
-              above a n k e l = omega arith
 
           pub words-returns : (s1 : List ℕ) → Becomes s1 (copied (memoryOf m) x j i n)
               → Stepped 0 s1 p (carried (decoded t) (memoryOf m) (memoryOf p) (contextIn x))
           unfolding copied
-          words-returns s1 d = stands-done t m p x (c .standing) 0 s1 _ (stores (wordsAt (memoryOf m) j n) found) d
+          words-returns s1 d =
+              stands-done t m p x (c .standing) 0 s1 _ (rw (length-words (memoryOf m) j n) at (stores (wordsAt (memoryOf m) j n) found)) d
 
-pub ruleset assigns = (assign-selectable, assign-fails, assign-target, assigning-ready, assigning-lent, assigning-bounds, assigning-low, assigning-evaluable, assigning-valued, assigning-several, assigning-fails, assigning-returns, words-selectable, words-fails, words-copying, words-returns)
+pub ruleset assigns = (assign-selectable, assign-fails, assign-target, assigning-ready, assigning-lent, assigning-bounds, assigning-low, assigning-evaluable, assigning-one, assigning-valued, assigning-several, assigning-fails, assigning-returns, words-retrieval, words-fails, words-copying, words-returns)

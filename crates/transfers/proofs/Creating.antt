@@ -10,9 +10,10 @@ use Rattle.numbers.proofs.OperandPromise.{create-variable}
 use Rattle.words.specs.Values.{failureNumber}
 use Rattle.words.specs.declared.values.Failure.{Failure}
 use Rattle.machine.specs.Memory.{memoryOf, update}
-use Rattle.machine.specs.Layout.{statementAt, createdAt, failureAt, pageWords}
+use Rattle.machine.specs.Layout.{location, statementAt, createdAt, failureAt, pageWords}
 use Rattle.machine.specs.Lent.{Lent, Becomes}
-use Rattle.machine.specs.Outcomes.{ok, fail, stuck, failWhere, place}
+use Rattle.machine.specs.Marks.{mark, fresh}
+use Rattle.machine.specs.Outcomes.{ok, fail, failWhere, place}
 use Rattle.machine.specs.Entries.{stmtAt}
 use Rattle.machine.specs.Processes.{created}
 use Rattle.machine.specs.Statements.{goOn, goTo, doCreate, perform}
@@ -42,7 +43,7 @@ module _ (s d : List ℕ) (x : Context) (i μ n : ℕ) (l : Lent pageWords d) (h
   create-fails r s1 e k c = record { long = c .long; wide = l .long; is = rw (eq-eqb _ 64 (sym hn ∙ e), k, c .is) }
 
   pub create-returns : (s1 : List ℕ) (k q : ℕ) → (n ≡ 64 → ⊥) → k ≡ n + 1 → q ≡ x .statement + 1
-      → Becomes s1 (update (update (created (memoryOf s) k μ) i k) (statementAt (x .process)) q)
+      → Becomes s1 (update (mark (fresh (update (created (memoryOf s) k μ) i k) (location k 0) 256) i 1) (statementAt (x .process)) q)
       → Stepped 0 s1 d (settled (memoryOf s) (memoryOf d) (creates (memoryOf s) (memoryOf d) x i μ))
   unfolding settled creates failWhere
   create-returns s1 k q e hk hq c =
@@ -96,13 +97,12 @@ module _ (t m p : List ℕ) (x : Context) (h : Standing t m p x) (hk : stmtKind 
 
         pub create-creating : (v : ℕ) → v < 65536 → Creating (memoryOf m) x i v
         create-creating v k =
-            let b = fits-low (decoded t) i (typeOf (decoded t) (stmtA (decoded t) (x .statement))) (selected-fits here) in
             record {
               processLow = h .ready .context .processLow;
               processHigh = h .ready .context .processHigh;
               statement = stands-below t m p x h;
               count = h .created;
-              place = omega arith;
+              place = fits-low (decoded t) i (typeOf (decoded t) (stmtA (decoded t) (x .statement))) (selected-fits here);
               block = k;
             }
 

@@ -1,7 +1,7 @@
 -- What follows from the reference of a process variable that is not stuck. Assumes nothing.
 use Prim.Native.Nat.{ℕ, _<_, _≤_}
 use mathlib.Core.Path.{_≡_, refl, sym, ap, subst, _∙_}
-use mathlib.Core.Bool.{Bool, true}
+use mathlib.Core.Bool.{Bool, true, false, not}
 use mathlib.Core.List.{List}
 use lib.Dec.{eqb, leb}
 use native.Mathlib.Omega.{arith}
@@ -18,6 +18,8 @@ use Rattle.words.specs.Values.{failureNumber}
 use Rattle.words.specs.declared.values.Failure.{Failure}
 use Rattle.machine.specs.Memory.{Memory, memoryOf}
 use Rattle.machine.specs.Layout.{moduleAt, createdAt, locations}
+use Rattle.machine.specs.Lent.{State}
+use Rattle.machine.specs.Marks.{marked}
 use Rattle.machine.specs.Context as machine
 use Rattle.machine.specs.Outcomes.{Outcome, ok, fail, stuck, andThen, need, failWhere, Operand, place, value, placed, onPlace}
 use Rattle.machine.specs.Entries.{processType, typeAt}
@@ -36,7 +38,8 @@ use Rattle.operands.proofs.Selecting.{fits-low}
 use Rattle.transfers.specs.declared.Reference.{Reference}
 use Rattle.transfers.specs.declared.Reference.the-variants.{To, Fail}
 use Rattle.transfers.proofs.Following.{apart, need-true, need-done, no-stuck, not-stuck, no-ok, ok-is, fail-is}
-use Rattle.transfers.specs.References.{referenceOf, wordRefers, referred, Referring}
+use Rattle.transfers.proofs.Steps.{lent-state}
+use Rattle.transfers.specs.References.{referenceOf, wordRefers, placeRefers, referred, Referring}
 
 -- ---- process types
 
@@ -113,15 +116,28 @@ pub refer-to : (w : ℕ) → (w ≡ 0 → ⊥) → ok w ≡ wordRefers w
 unfolding wordRefers
 refer-to w n = rw (ne-eqb w 0 n)
 
+-- the variable is marked, or not
+module _ (m : Memory) (a : ℕ) (b : Bool) (hb : b ≡ marked m a) where
+  pub refer-unset : b ≡ false → fail 31 ≡ placeRefers m a
+  unfolding placeRefers
+  refer-unset e = rw (← hb, e)
+
+  pub refer-marked : b ≡ true → (w : ℕ) (r : Reference) → w ≡ m a → referred r ≡ wordRefers w → referred r ≡ placeRefers m a
+  unfolding placeRefers
+  refer-marked e w r hw d = d ∙ rw (← hb, e, hw)
+
 -- the reference at a place of a process type
 at-reference : (T : Table) (m : Memory) (a τ : ℕ) → typeKind T τ ≡ 3 → (referenceOf T m (ok (place a τ)) ≡ stuck → ⊥)
-    → referenceOf T m (ok (place a τ)) ≡ wordRefers (m a)
-unfolding referenceOf wordRefers onReference failWhere
+    → referenceOf T m (ok (place a τ)) ≡ placeRefers m a
+unfolding referenceOf placeRefers wordRefers onReference failWhere not
 at-reference T m a τ e g =
     let d = process-at T τ (λ i μ. onReference m i μ (λ r. ok r)) a e in
+    cases (marked m a)
+    (λ u.
     cases (eqb (m a) 0)
-    (λ z. d ∙ rw z)
-    (λ z. d ∙ rw z (need-done (refers m (typeP T τ) (m a)) (ok (m a)) (λ k. g (d ∙ rw z k))))
+    (λ z. d ∙ rw (u, z))
+    (λ z. d ∙ rw (u, z) (need-done (refers m (typeP T τ) (m a)) (ok (m a)) (λ k. g (d ∙ rw (u, z) k)))))
+    (λ u. d ∙ rw u)
 
 module _ (t m p : List ℕ) (x : Context) (h : Ready t m p x) (n : ℕ)
     (c : Referring (decoded t) (memoryOf m) (memoryOf p) (contextIn x) n) where
@@ -131,6 +147,9 @@ module _ (t m p : List ℕ) (x : Context) (h : Ready t m p x) (n : ℕ)
   is-selected : Selected (decoded t) (typeOf (decoded t) n) (operand (decoded t) (memoryOf m) (memoryOf p) (contextIn x) n)
   unfolding referenceOf
   is-selected = process-selected (decoded t) (typeOf (decoded t) n) _ _ is-typed (c .unstuck)
+
+  pub reference-lent : State m
+  reference-lent = lent-state m (h .state)
 
   pub reference-selectable : Selectable (decoded t) (memoryOf m) (memoryOf p) (contextIn x) n
   reference-selectable = record { variable = c .variable; unstuck = selected-unstuck is-selected }
@@ -152,14 +171,13 @@ module _ (t m p : List ℕ) (x : Context) (h : Ready t m p x) (n : ℕ)
       pub reference-low : a < locations
       reference-low = fits-low (decoded t) a (typeOf (decoded t) n) (selected-fits here)
 
-      pub reference-returns : (w : ℕ) (r : Reference) → w ≡ memoryOf m a → referred r ≡ wordRefers w
+      pub reference-returns : (r : Reference) → referred r ≡ placeRefers (memoryOf m) a
           → referred r ≡ referenceOf (decoded t) (memoryOf m) (operand (decoded t) (memoryOf m) (memoryOf p) (contextIn x) n)
-      reference-returns w r e d =
+      reference-returns r d =
           rw is-place
-          (d ∙ (ap wordRefers e
-          ∙ sym (at-reference (decoded t) (memoryOf m) a (typeOf (decoded t) n) (selected-kind here) (λ k. c .unstuck (rw is-place k)))))
+          (d ∙ sym (at-reference (decoded t) (memoryOf m) a (typeOf (decoded t) n) (selected-kind here) (λ k. c .unstuck (rw is-place k))))
 
-pub ruleset references = (refer-empty, refer-to, reference-selectable, reference-fails, reference-low, reference-returns)
+pub ruleset references = (refer-empty, refer-to, refer-unset, refer-marked, reference-lent, reference-selectable, reference-fails, reference-low, reference-returns)
 
 -- ---- what a statement does with a reference: v is the module of the variable's type, b what must hold of it (11.3, 11.5)
 
@@ -179,52 +197,76 @@ refers-is m v r e =
       block = eqb-true (m (moduleAt r)) v (both-r (both (leb 2 r) (leb r (m createdAt))) _ e);
     }
 
+-- the variable at a is marked, and refers to process r
+record Full (m : Memory) (a r : ℕ) : Type 0 where
+  set : marked m a ≡ true
+  full : m a ≡ 0 → ⊥
+  is : m a ≡ r
+
 module _ {A : Type 0} (m : Memory) (a v : ℕ) (b : Bool) (f : ℕ → Outcome A) (g : need b (onReference m a v f) ≡ stuck → ⊥) where
-  asks : need b (onReference m a v f) ≡ failWhere (eqb (m a) 0) 19 (need (refers m v (m a)) (f (m a)))
+  asks : need b (onReference m a v f) ≡ failWhere (not (marked m a)) 31 (failWhere (eqb (m a) 0) 19 (need (refers m v (m a)) (f (m a))))
   unfolding onReference
   asks = need-done b (onReference m a v f) g
 
-  empty-fails : m a ≡ 0 → need b (onReference m a v f) ≡ fail 19
-  unfolding failWhere
-  empty-fails e = asks ∙ rw (eq-eqb (m a) 0 e)
+  unset-fails : marked m a ≡ false → need b (onReference m a v f) ≡ fail 31
+  unfolding failWhere not
+  unset-fails u = asks ∙ rw u
 
-  full-asks : (m a ≡ 0 → ⊥) → need b (onReference m a v f) ≡ need (refers m v (m a)) (f (m a))
-  unfolding failWhere
-  full-asks e = asks ∙ rw (ne-eqb (m a) 0 e)
+  empty-fails : marked m a ≡ true → m a ≡ 0 → need b (onReference m a v f) ≡ fail 19
+  unfolding failWhere not
+  empty-fails u e = asks ∙ rw (u, eq-eqb (m a) 0 e)
 
-  full-refers : (m a ≡ 0 → ⊥) → refers m v (m a) ≡ true
-  full-refers e = need-true (refers m v (m a)) (f (m a)) (apart _ _ (full-asks e) g)
+  -- a variable that is marked and not empty
+  module _ (u : marked m a ≡ true) (e : m a ≡ 0 → ⊥) where
+    full-asks : need b (onReference m a v f) ≡ need (refers m v (m a)) (f (m a))
+    unfolding failWhere not
+    full-asks = asks ∙ rw (u, ne-eqb (m a) 0 e)
 
-  full-goes : (m a ≡ 0 → ⊥) → need b (onReference m a v f) ≡ f (m a)
-  full-goes e = full-asks e ∙ need-done (refers m v (m a)) (f (m a)) (apart _ _ (full-asks e) g)
+    full-refers : refers m v (m a) ≡ true
+    full-refers = need-true (refers m v (m a)) (f (m a)) (apart _ _ full-asks g)
 
-  reference-alone : onReference m a v (λ r. ok r) ≡ wordRefers (m a)
-  unfolding onReference failWhere wordRefers need
+    full-goes : need b (onReference m a v f) ≡ f (m a)
+    full-goes = full-asks ∙ need-done (refers m v (m a)) (f (m a)) (apart _ _ full-asks g)
+
+  reference-alone : onReference m a v (λ r. ok r) ≡ placeRefers m a
+  unfolding onReference failWhere placeRefers wordRefers need not
   reference-alone =
+      cases (marked m a)
+      (λ u.
       cases (eqb (m a) 0)
-      (λ z. rw z)
-      (λ z. rw (z, full-refers (eqb-false (m a) 0 z)))
+      (λ z. rw (u, z))
+      (λ z. rw (u, z, full-refers u (eqb-false (m a) 0 z))))
+      (λ u. rw u)
 
-  word-unstuck : wordRefers (m a) ≡ stuck → ⊥
-  unfolding wordRefers
+  word-unstuck : placeRefers m a ≡ stuck → ⊥
+  unfolding placeRefers wordRefers
   word-unstuck k =
+      cases (marked m a)
+      (λ u.
       cases (eqb (m a) 0)
-      (λ z. no-stuck 19 (rw z at k))
-      (λ z. not-stuck (m a) (rw z at k))
+      (λ z. no-stuck 19 (rw (u, z) at k))
+      (λ z. not-stuck (m a) (rw (u, z) at k)))
+      (λ u. no-stuck 31 (rw u at k))
 
-  word-fails : (k : ℕ) → fail k ≡ wordRefers (m a) → need b (onReference m a v f) ≡ fail k
-  unfolding wordRefers
+  word-fails : (k : ℕ) → fail k ≡ placeRefers m a → need b (onReference m a v f) ≡ fail k
+  unfolding placeRefers wordRefers
   word-fails k e =
+      cases (marked m a)
+      (λ u.
       cases (eqb (m a) 0)
-      (λ z. empty-fails (eqb-true (m a) 0 z) ∙ fail-is 19 k (sym (rw z at e)))
-      (λ z. no-ok (m a) k (sym (rw z at e)))
+      (λ z. empty-fails u (eqb-true (m a) 0 z) ∙ fail-is 19 k (sym (rw (u, z) at e)))
+      (λ z. no-ok (m a) k (sym (rw (u, z) at e))))
+      (λ u. unset-fails u ∙ fail-is 31 k (sym (rw u at e)))
 
-  word-full : (r : ℕ) → ok r ≡ wordRefers (m a) → (m a ≡ 0 → ⊥) × (m a ≡ r)
-  unfolding wordRefers
+  word-full : (r : ℕ) → ok r ≡ placeRefers m a → Full m a r
+  unfolding placeRefers wordRefers
   word-full r e =
+      cases (marked m a)
+      (λ u.
       cases (eqb (m a) 0)
-      (λ z. no-ok r 19 (rw z at e))
-      (λ z. (eqb-false (m a) 0 z, ok-is (m a) r (sym (rw z at e))))
+      (λ z. no-ok r 19 (rw (u, z) at e))
+      (λ z. record { set = u; full = eqb-false (m a) 0 z; is = ok-is (m a) r (sym (rw (u, z) at e)) }))
+      (λ u. no-ok r 31 (rw u at e))
 
 module _ {A : Type 0} (T : Table) (m page : Memory) (x : machine.Context) (n : ℕ) (b : ℕ → Bool) (f : ℕ → ℕ → Outcome A) where
   -- the statement's outcome
@@ -258,7 +300,7 @@ module _ {A : Type 0} (T : Table) (m page : Memory) (x : machine.Context) (h : i
     unstuck-there : need (b (typeP T (typeOf T n))) (onReference m a (typeP T (typeOf T n)) (f (typeP T (typeOf T n)))) ≡ stuck → ⊥
     unstuck-there = apart _ _ goes-there g
 
-    reference-there : referenceOf T m (operand T m page x n) ≡ wordRefers (m a)
+    reference-there : referenceOf T m (operand T m page x n) ≡ placeRefers m a
     unfolding referenceOf
     reference-there =
         rw e
@@ -300,7 +342,7 @@ module _ {A : Type 0} (T : Table) (m page : Memory) (x : machine.Context) (h : i
 
     -- it is process j
     module _ (j : ℕ) (z : r ≡ To j) where
-      to-place : {P : Type 0} → ((a : ℕ) → operand T m page x n ≡ ok (place a (typeOf T n)) → (m a ≡ 0 → ⊥) × (m a ≡ j) → P) → P
+      to-place : {P : Type 0} → ((a : ℕ) → operand T m page x n ≡ ok (place a (typeOf T n)) → Full m a j → P) → P
       to-place q =
           selected-cases followed
           (λ a e.
@@ -318,12 +360,12 @@ module _ {A : Type 0} (T : Table) (m page : Memory) (x : machine.Context) (h : i
       follows-to =
           to-place (λ a e w.
           goes-there a e
-          ∙ (full-goes m a (typeP T (typeOf T n)) (b (typeP T (typeOf T n))) (f (typeP T (typeOf T n))) (unstuck-there a e) (w .0)
-          ∙ ap (f (typeP T (typeOf T n))) (w .1)))
+          ∙ (full-goes m a (typeP T (typeOf T n)) (b (typeP T (typeOf T n))) (f (typeP T (typeOf T n))) (unstuck-there a e) (w .set) (w .full)
+          ∙ ap (f (typeP T (typeOf T n))) (w .is)))
 
       pub follows-refers : Refers m (typeP T (typeOf T n)) j
       follows-refers =
           to-place (λ a e w.
-          rw (w .1) at
+          rw (w .is) at
           (refers-is m (typeP T (typeOf T n)) (m a)
-          (full-refers m a (typeP T (typeOf T n)) (b (typeP T (typeOf T n))) (f (typeP T (typeOf T n))) (unstuck-there a e) (w .0))))
+          (full-refers m a (typeP T (typeOf T n)) (b (typeP T (typeOf T n))) (f (typeP T (typeOf T n))) (unstuck-there a e) (w .set) (w .full))))

@@ -11,6 +11,7 @@ use Rattle.table.specs.Table.{Table}
 use Rattle.table.specs.Entries.{stmtKind, stmtA, stmtB}
 use Rattle.types.specs.Types.{typeOf}
 use Rattle.numbers.proofs.OperandPromise.{write-address, write-value}
+use Rattle.typing.proofs.Promise.{written-address, written-value}
 use Rattle.words.specs.Memory.{putAtByte, putWord}
 use Rattle.words.specs.Numbers.{intOf}
 use Rattle.words.specs.Devices.{isDevice, positionOf}
@@ -27,14 +28,15 @@ use Rattle.machine.specs.Layout.{statementAt, failureAt, pageSize}
 use Rattle.machine.specs.Lent.{State, Becomes}
 use Rattle.machine.specs.Outcomes.{Outcome, fail, stuck, need, failWhere, Operand, onWord, wordOf}
 use Rattle.machine.specs.Entries.{stmtAt}
-use Rattle.machine.specs.Operands.{operand, deviceWord}
+use Rattle.machine.specs.Operands.{deviceWord}
 use Rattle.machine.specs.Statements.{doWrite, perform}
 use Rattle.machine.specs.Step.{settled}
 use Rattle.machine.proofs.Memories.{memory-put}
 use Rattle.code.specs.Code.{decoded}
 use Rattle.operands.specs.declared.Context.{Context}
-use Rattle.operands.specs.Answers.{firstWord}
+use Rattle.operands.specs.Answers.{firstWord, OneWord}
 use Rattle.operands.specs.Ready.{contextIn, Ready}
+use Rattle.operands.proofs.OneWords.{one-standard}
 use Rattle.operands.proofs.Typed.{OfType, typed-expression}
 use Rattle.operands.proofs.Yielding.{failed}
 use Rattle.operands.proofs.Selecting.{out}
@@ -126,6 +128,11 @@ module _ (t m p : List ℕ) (x : Context) (h : Standing t m p x) (hk : stmtKind 
     pub address-evaluable : Ev t m p x a
     address-evaluable = rw ha address-there
 
+    pub address-one : OneWord (decoded t) a
+    address-one =
+        let q = written-address (decoded t) (h .ready .typed) (x .statement) (stands-there t m p x h) hk in
+        rw ha (one-standard (decoded t) (stmtA (decoded t) (x .statement)) (omega arith))
+
     module _ (v : Value) (hv : outcomeOf v ≡ firstWord (out t m p x a)) where
       pub address-fails : (e : Failure) (r : ℕ) (s1 : List ℕ) → v ≡ Fail e → r ≡ failureNumber e
           → Becomes s1 (update (memoryOf m) failureAt (failureNumber e))
@@ -175,6 +182,11 @@ module _ (t m p : List ℕ) (x : Context) (i : ℕ) (c : Writing t m p x i) wher
     pub writing-evaluable : Ev t m p x b
     writing-evaluable = rw hb value-there
 
+    pub writing-one : OneWord (decoded t) b
+    writing-one =
+        let q = written-value (decoded t) (c .standing .ready .typed) (x .statement) (stands-there t m p x (c .standing)) (c .kind) in
+        rw hb (one-standard (decoded t) (stmtB (decoded t) (x .statement)) (omega arith))
+
     module _ (v : Value) (hv : outcomeOf v ≡ firstWord (out t m p x b)) where
       pub writing-fails : (e : Failure) (r : ℕ) (s1 : List ℕ) → v ≡ Fail e → r ≡ failureNumber e
           → Becomes s1 (update (memoryOf m) failureAt (failureNumber e))
@@ -194,4 +206,4 @@ module _ (t m p : List ℕ) (x : Context) (i : ℕ) (c : Writing t m p x i) wher
           (rw (g, hb) at hv) in
           rw (← e) at d
 
-pub ruleset writings = (write-fails, write-returns, address-evaluable, address-fails, address-writing, writing-ready, writing-lent, writing-page, writing-bounds, writing-evaluable, writing-fails, writing-returns)
+pub ruleset writings = (write-fails, write-returns, address-evaluable, address-one, address-fails, address-writing, writing-ready, writing-lent, writing-page, writing-bounds, writing-evaluable, writing-one, writing-fails, writing-returns)

@@ -7,6 +7,7 @@ use Rattle.table.specs.Entries.{stmtKind, stmtA}
 use Rattle.types.specs.Types.{typeOf}
 use Rattle.machine.specs.Memory.{Memory, memoryOf, update, store, wordsAt}
 use Rattle.machine.specs.Layout.{statementAt}
+use Rattle.machine.specs.Marks.{mark}
 use Rattle.machine.specs.Outcomes.{ok, place}
 use Rattle.machine.specs.Operands.{operand}
 use Rattle.code.specs.Code.{decoded}
@@ -24,7 +25,7 @@ pub record Assigning (t m p : List ℕ) (x : Context) (i : ℕ) : Type 0 where
       operand (decoded t) (memoryOf m) (memoryOf p) (contextIn x) (stmtA (decoded t) (x .statement))
       ≡ ok (place i (typeOf (decoded t) (stmtA (decoded t) (x .statement))))
 
--- n words are copied from one location to another; then the process goes on
+-- n words are copied from one location to another, and marked there; then the process goes on
 pub record Copying (x : Context) (from to n : ℕ) : Type 0 where
   pub processLow : 1 ≤ x .process
   pub processHigh : x .process ≤ 64
@@ -32,4 +33,4 @@ pub record Copying (x : Context) (from to n : ℕ) : Type 0 where
   pub words : Direct from to n
 
 unfoldable pub copied : Memory → Context → ℕ → ℕ → ℕ → Memory
-copied m x from to n = update (store m to (wordsAt m from n)) (statementAt (x .process)) (x .statement + 1)
+copied m x from to n = update (mark (store m to (wordsAt m from n)) to n) (statementAt (x .process)) (x .statement + 1)

@@ -3,7 +3,8 @@
 use Prim.Native.Nat.{ℕ, _+_, _≤_, _<_}
 use lib.Dec.{eqb}
 use Rattle.machine.specs.Memory.{Memory, update}
-use Rattle.machine.specs.Layout.{statementAt, createdAt, stateWords}
+use Rattle.machine.specs.Layout.{location, statementAt, createdAt, locations}
+use Rattle.machine.specs.Marks.{mark, fresh}
 use Rattle.machine.specs.Outcomes.{Outcome, ok, failWhere}
 use Rattle.machine.specs.Processes.{created}
 use Rattle.machine.specs.Statements.{Effect, effect}
@@ -13,7 +14,7 @@ use Rattle.operands.specs.declared.Context.{Context}
 unfoldable pub creates : Memory → Memory → Context → ℕ → ℕ → Outcome Effect
 creates m page x i μ =
     failWhere (eqb (m createdAt) 64) 24
-    (ok (effect 0 (update (update (created m (m createdAt + 1) μ) i (m createdAt + 1)) (statementAt (x .process)) (x .statement + 1)) page))
+    (ok (effect 0 (update (mark (fresh (update (created m (m createdAt + 1) μ) i (m createdAt + 1)) (location (m createdAt + 1) 0) 256) i 1) (statementAt (x .process)) (x .statement + 1)) page))
 
 -- what it is carried out with
 pub record Creating (m : Memory) (x : Context) (i μ : ℕ) : Type 0 where
@@ -21,5 +22,5 @@ pub record Creating (m : Memory) (x : Context) (i μ : ℕ) : Type 0 where
   pub processHigh : x .process ≤ 64
   pub statement : x .statement < 65535
   pub count : m createdAt ≤ 64
-  pub place : i < stateWords
+  pub place : i < locations
   pub block : μ < 65536

@@ -9,6 +9,7 @@ use Rattle.table.specs.Entries.{nodeCount}
 use Rattle.numbers.specs.Nodes.{Variable}
 use Rattle.words.specs.Values.{failureNumber}
 use Rattle.machine.specs.Memory.{Memory}
+use Rattle.machine.specs.Marks.{marked}
 use Rattle.machine.specs.Context.{Context}
 use Rattle.machine.specs.Outcomes.{Outcome, ok, fail, stuck, Operand}
 use Rattle.machine.specs.Operands.{operand}
@@ -16,13 +17,17 @@ use Rattle.machine.specs.Processes.{onProcess, onReference}
 use Rattle.transfers.specs.declared.Reference.{Reference}
 use Rattle.transfers.specs.declared.Reference.the-variants.{To, Fail}
 
--- the number of the process that an operand refers to; 19 where its value is empty (11.3, 11.5)
+-- the number of the process that an operand refers to; 31 where it is unmarked (02, g), 19 where its value is empty (11.3, 11.5)
 unfoldable pub referenceOf : Table → Memory → Outcome Operand → Outcome ℕ
 referenceOf T m o = onProcess T o λ i μ. onReference m i μ λ r. ok r
 
 -- what the word of a process variable says
 unfoldable pub wordRefers : ℕ → Outcome ℕ
 wordRefers w = pick (eqb w 0) (fail 19) (ok w)
+
+-- what the process variable at location a says
+unfoldable pub placeRefers : Memory → ℕ → Outcome ℕ
+placeRefers m a = pick (marked m a) (wordRefers (m a)) (fail 31)
 
 -- the answer of the code
 abbrev pub referred : Reference → Outcome ℕ

@@ -2,11 +2,12 @@
 use operands::Context;
 use operands::Place;
 use operands::eval::eval;
+use operands::eval::retrieve_place;
 use operands::eval::select;
 use operands::places::node_words;
 use words::values::Value;
 ghost use mathlib.Core.Path.{_≡_};
-ghost use Prim.Native.Nat.{_+_, _<_};
+ghost use Prim.Native.Nat.{_<_};
 ghost use Rattle.table.specs.Entries.{stmtKind, stmtB};
 ghost use Rattle.types.specs.Types.{typeOf};
 ghost use Rattle.sizes.specs.Sizes.{wordsOf};
@@ -17,25 +18,24 @@ ghost use Rattle.operands.specs.Ready.{contextIn};
 ghost use Rattle.effects.specs.Effects.{carried, Stepped, Standing};
 ghost use Rattle.transfers.specs.Assignments.{Assigning, Copying, copied};
 
-// The n words from `from` on, to `to`, directly (02, d); then the process goes on.
+// The n words from `from` on, to `to`, directly (02, d), which are marked (02, g); then the process goes on.
 fn copy(state: &mut [u8], x: Context, from: usize, to: usize, n: usize)
     requires { ⌜ State (now state) ⌝ }
     requires { ⌜ Copying x from to n ⌝ }
     ensures { λ _. ⌜ Becomes (now (state .exit)) (copied (memoryOf (now (state .entry))) x from to n) ⌝ }
 {
-    frames::move_words(state, from, to, n);
+    frames::assign_words(state, from, to, n);
     effects::go_on(state, x);
 }
 
-// A value of several words is that of a variable (8.7).
+// A value of several words is that of a variable (8.7), all of whose words must be marked (02, g).
 fn assign_words(c: &code::Slots, state: &mut [u8], page: &[u8], x: Context, i: usize) -> u8
     requires { ⌜ Assigning (now c) (now state) (now page) x i ⌝ }
     requires { ⌜ 1 < wordsOf (decoded (now c)) (typeOf (decoded (now c)) (stmtB (decoded (now c)) (x .statement))) ⌝ }
     ensures { λ r. ⌜ Stepped r (now (state .exit)) (now (page .entry)) (carried (decoded (now (c .entry))) (memoryOf (now (state .entry))) (memoryOf (now (page .entry))) (contextIn x)) ⌝ }
 {
     let b = code::stmt_b(c, x.statement);
-    let v = code::node_p(c, b);
-    let l = select(c, state, page, x, v);
+    let l = retrieve_place(c, state, page, x, b);
     match l {
         Place::Fail(f) => effects::fail(state, f),
         Place::At(j) => {
@@ -59,7 +59,7 @@ fn assign_at(c: &code::Slots, state: &mut [u8], page: &[u8], x: Context, i: usiz
     match v {
         Value::Fail(f) => effects::fail(state, f),
         Value::Word(w) => {
-            machine::set_word(state, i, w);
+            frames::store_word(state, i, w);
             effects::go_on(state, x);
             0
         }

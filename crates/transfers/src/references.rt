@@ -4,11 +4,14 @@ use operands::Context;
 use operands::Place;
 use words::values::Failure;
 ghost use mathlib.Core.Path.{_≡_};
+ghost use Prim.Native.Nat.{_<_};
 ghost use Rattle.machine.specs.Memory.{memoryOf};
+ghost use Rattle.machine.specs.Layout.{locations};
+ghost use Rattle.machine.specs.Lent.{State};
 ghost use Rattle.machine.specs.Operands.{operand};
 ghost use Rattle.code.specs.Code.{decoded};
 ghost use Rattle.operands.specs.Ready.{contextIn, Ready};
-ghost use Rattle.transfers.specs.References.{referenceOf, wordRefers, referred, Referring};
+ghost use Rattle.transfers.specs.References.{referenceOf, wordRefers, placeRefers, referred, Referring};
 
 // 0 is the empty reference.
 fn refer(w: u16) -> Reference
@@ -20,6 +23,18 @@ fn refer(w: u16) -> Reference
     Reference::To(w as usize)
 }
 
+// The process that the variable at location a refers to; before its value, its mark is tested (02, g).
+fn refer_at(state: &[u8], a: usize) -> Reference
+    requires { ⌜ State (now state) ⌝ }
+    requires { ⌜ a < locations ⌝ }
+    ensures { λ r. ⌜ referred r ≡ placeRefers (memoryOf (now (state .entry))) a ⌝ }
+{
+    if machine::marks::is_marked(state, a) {
+        return refer(machine::word_of(state, a));
+    }
+    Reference::Fail(Failure::Unset)
+}
+
 // The process that the variable of node n refers to.
 pub fn reference(c: &code::Slots, state: &[u8], page: &[u8], x: Context, n: usize) -> Reference
     requires { ⌜ Ready (now c) (now state) (now page) x ⌝ }
@@ -29,6 +44,6 @@ pub fn reference(c: &code::Slots, state: &[u8], page: &[u8], x: Context, n: usiz
     let l = operands::eval::select(c, state, page, x, n);
     match l {
         Place::Fail(f) => Reference::Fail(f),
-        Place::At(a) => refer(operands::places::word_at(state, a)),
+        Place::At(a) => refer_at(state, a),
     }
 }

@@ -8,7 +8,6 @@ pub copied-argument-spec : {M : Type 1} → statement M
 copied-argument-spec =
     tie.close
     (tie.spec
-    (λ c κs. search needs)
     (λ c κs. search (passes, lends, needs))
     (λ c. search needs)
     (λ c. search needs)

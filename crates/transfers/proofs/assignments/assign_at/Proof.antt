@@ -13,7 +13,7 @@ assign-at-spec =
     (λ c κs. (search needs, search (assigns, lends, needs)))
     (λ c. search needs)
     (λ c. search needs)
-    (λ c κs. (search (assigns, lends, needs), search (assigns, lends, needs)))
+    (λ c κs. (search (assigns, lends, needs), (search (assigns, lends, needs), search (assigns, lends, needs))))
     (λ c. search needs)
     (λ c κs. search needs)
     (λ c. search needs)

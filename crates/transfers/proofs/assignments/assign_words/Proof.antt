@@ -9,7 +9,6 @@ assign-words-spec =
     tie.close
     (tie.spec
     (λ c κs. search needs)
-    (λ c κs. search needs)
     (λ c κs. (search (assigns, lends, needs), search (assigns, lends, needs)))
     (λ c. search needs)
     (λ c κs. search needs)

@@ -8,10 +8,9 @@ pub reference-spec : {M : Type 1} → statement M
 reference-spec =
     tie.close
     (tie.spec
-    (λ c κs. search (references, lends, needs))
+    (λ c κs. (search (references, lends, needs), search (references, lends, needs)))
     (λ c. search needs)
     (λ c. search needs)
-    (λ c κs. search (references, lends, needs))
-    (λ c κs. search needs)
+    (λ c κs. (search (references, lends, needs), search (references, lends, needs)))
     (λ c. search (references, lends, needs))
     (λ c. search (references, lends, needs)))
