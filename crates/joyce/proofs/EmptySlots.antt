@@ -53,7 +53,7 @@ empty-slot = record {
   same = same-verdict;
   accepted = examples .3;
   oneByte = one-byte;
-  begins = λ w s. rw (same-verdict w, same-table w);
+  begins = λ w s n. rw (same-verdict w, same-table w);
   runs = λ w s d q a. rw (same-verdict w, same-table w);
   looks = λ w s p v k. rw (same-verdict w, same-table w);
 }

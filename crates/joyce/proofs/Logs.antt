@@ -13,6 +13,7 @@ use Rattle.machine.specs.Layout.{pageSize}
 use Rattle.sound.specs.Histories.{begunResult, begunState, result, stateLeft, pageLeft, answersLeft, Devices, Handed, Served, callOf, refused, history, order, orderOf, written, writtenOf, stateAfter, Calls, begunWith, History, first, steps, processes, answers, finally}
 use Rattle.sound.proofs.Histories.{refused-call}
 use Rattle.sound.proofs.StepsDemand.{demand3}
+use Rattle.sound.proofs.TestedDemand.{tested-alike}
 use Rattle.joyce.specs.Calls.{Call, Kept, Chained, Each, Fits, Log, asks, named, answered, leaves, made, CallHolds, LogHolds}
 
 served : (b : Bool) → pick b false true ≡ false → b ≡ true
@@ -120,11 +121,11 @@ module _ (w : ℕ) where
   )
 
   module _ (g : Log w) where
-    begins : begunResult (beginCall verdict w (g .table) (g .slice)) ≡ 0
+    begins : begunResult (beginCall verdict w (g .table) (g .slice) (g .number)) ≡ 0
     unfolding begunResult
     begins = rw (← g .begins)
 
-    first-is : begunWith verdict w (g .table) (g .slice) ≡ g .state
+    first-is : begunWith verdict w (g .table) (g .slice) (g .number) ≡ g .state
     unfolding begunWith begunState
     first-is = rw (← g .begins)
 
@@ -133,6 +134,7 @@ module _ (w : ℕ) where
     historyOf = record {
       table = g .table;
       slice = g .slice;
+      number = g .number;
       calls = asks (g .calls);
       bytes = g .bytes;
       begins = begins;
@@ -178,14 +180,16 @@ module _ (w : ℕ) where
   calls-demand3 g = record {
     run = historyOf g;
     table = refl;
+    number = refl;
     lent = refl;
     demand3 = demand3 w (historyOf g);
+    tested = tested-alike w (historyOf g);
     begins = first-so g;
     steps = steps-so g;
     order = rw (← steps-so g) (order-so g);
     answers = rw (← steps-so g) (answers-so g);
     last = ap (finally (g .state)) (sym (steps-so g)) ∙ ap (λ z. finally z (steps verdict w (historyOf g))) (sym (first-so g)) ∙ last-so g;
     calls = calls-so g;
-    alike = λ k e. sym (first-so k) ∙ demand3 w (historyOf g) .alike (historyOf k) e ∙ first-so g;
-    agrees = λ k e n q. rw (← steps-so k, ← steps-so g) (demand3 w (historyOf g) .agrees (historyOf k) e n (rw (← steps-so k, ← steps-so g) at q));
+    alike = λ k e z. sym (first-so k) ∙ demand3 w (historyOf g) .alike (historyOf k) e z ∙ first-so g;
+    agrees = λ k e z n q. rw (← steps-so k, ← steps-so g) (demand3 w (historyOf g) .agrees (historyOf k) e z n (rw (← steps-so k, ← steps-so g) at q));
   }

@@ -12,12 +12,13 @@ use Rattle.machine.specs.Public.{begun, called, beginCall, runCall}
 use Rattle.machine.specs.Layout.{pageSize}
 use Rattle.sound.specs.Histories.{Seen, asked, told, processes, answers, finally, devicesAfter, Ask, stepsOf, History, first, steps}
 use Rattle.sound.specs.Demand.{Demand3}
+use Rattle.sound.specs.Tested.{TestedAlike}
 
 -- ---- what the contracts say, in the edition of width w
 
--- joyce_begin, lent table and state: it returns r and leaves after
-abbrev pub BeginLeaves : (w : ℕ) (table state : List ℕ) (r : ℕ) (after : List ℕ) → Type 0
-BeginLeaves w table state r after = begun r after ≡ beginCall verdict w table state
+-- joyce_begin, lent table and state, with a number: it returns r and leaves after
+abbrev pub BeginLeaves : (w : ℕ) (table state : List ℕ) (number r : ℕ) (after : List ℕ) → Type 0
+BeginLeaves w table state number r after = begun r after ≡ beginCall verdict w table state number
 
 -- joyce_run, lent five slices: it returns r and leaves the state, the page and the answers after
 abbrev pub RunLeaves : (w : ℕ) (table state page schedule answers : List ℕ) (r : ℕ) (stateAfter pageAfter answersAfter : List ℕ) → Type 0
@@ -55,15 +56,16 @@ pub record Fits (t : List ℕ) (c : Call) : Type 0 where
   pub same : c .result ≡ 0 → c .ask .table ≡ t
   pub bytes : Bytes (c .ask .page)
 
--- A LOG: joyce_begin, which returned 0, with its table, the slice lent to it and the state in it afterwards; then any calls of joyce_run,
+-- A LOG: joyce_begin, which returned 0, with its table, the slice lent to it, its number and the state in it afterwards; then any calls of joyce_run,
 -- refused ones among them
 pub record Log (w : ℕ) : Type 0 where
   pub table : List ℕ
   pub slice : List ℕ
+  pub number : ℕ
   pub state : List ℕ
   pub calls : List Call
   pub bytes : Bytes table
-  pub begins : BeginLeaves w table slice 0 state
+  pub begins : BeginLeaves w table slice number 0 state
   pub chained : Chained w state calls
   pub fits : Each (Fits table) calls
 
@@ -110,11 +112,14 @@ pub record CallHolds (w : ℕ) (t : List ℕ) (c : Call) : Type 0 where
   pub unchanged : (c .result ≡ 0 → ⊥) → (c .stateAfter ≡ c .state) × ((c .pageAfter ≡ c .ask .page) × (c .answersAfter ≡ c .ask .answers))
 
 pub record LogHolds (w : ℕ) (g : Log w) : Type 0 where
-  -- it is a run of demand 3, begun with its table, of what its calls were lent
+  -- it is a run of demand 3, begun with its table and its number, of what its calls were lent
   pub run : History verdict w
   pub table : run .table ≡ g .table
+  pub number : run .number ≡ g .number
   pub lent : run .calls ≡ asks (g .calls)
   pub demand3 : Demand3 verdict w run
+  -- and one tested under 0 behaves alike under 1
+  pub tested : TestedAlike verdict w run
   -- which begins with the state that begin left, and has the steps that the calls made
   pub begins : first verdict w run ≡ g .state
   pub steps : steps verdict w run ≡ made w (g .calls)
@@ -123,8 +128,8 @@ pub record LogHolds (w : ℕ) (g : Log w) : Type 0 where
   pub answers : answers (made w (g .calls)) ≡ answered (g .calls)
   pub last : finally (g .state) (made w (g .calls)) ≡ leaves (g .state) (g .calls)
   pub calls : Each (CallHolds w (g .table)) (g .calls)
-  -- a log begun alike begins with the same state; as far as its calls name the same order and see the same device words, they give the same
+  -- a log begun alike, with one table and one number, begins with the same state; as far as its calls name the same order and see the same device words, they give the same
   -- answers, states and device words, wherever the calls of the two begin and end
-  pub alike : (k : Log w) → k .table ≡ g .table → k .state ≡ g .state
-  pub agrees : (k : Log w) → k .table ≡ g .table → (n : ℕ) → take n (asked (made w (k .calls))) ≡ take n (asked (made w (g .calls)))
+  pub alike : (k : Log w) → k .table ≡ g .table → k .number ≡ g .number → k .state ≡ g .state
+  pub agrees : (k : Log w) → k .table ≡ g .table → k .number ≡ g .number → (n : ℕ) → take n (asked (made w (k .calls))) ≡ take n (asked (made w (g .calls)))
       → take n (told (made w (k .calls))) ≡ take n (told (made w (g .calls)))

@@ -13,6 +13,6 @@ pub record EmptySlot : Type 0 where
   pub accepted : verdict 1 [] ≡ 0
   pub oneByte : (w b : ℕ) → 1 ≤ w → verdict w (b ∷ []) ≡ 2
   -- begin, run and look return and leave the same for both, whatever else they are lent
-  pub begins : (w : ℕ) (state : List ℕ) → beginCall verdict w [] state ≡ beginCall verdict w (listing w) state
+  pub begins : (w : ℕ) (state : List ℕ) (number : ℕ) → beginCall verdict w [] state number ≡ beginCall verdict w (listing w) state number
   pub runs : (w : ℕ) (state page schedule answers : List ℕ) → runCall verdict w [] state page schedule answers ≡ runCall verdict w (listing w) state page schedule answers
   pub looks : (w : ℕ) (state : List ℕ) (process variable place : ℕ) → lookCall verdict w [] state process variable place ≡ lookCall verdict w (listing w) state process variable place

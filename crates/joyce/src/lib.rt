@@ -14,12 +14,12 @@ pub extern "C" fn joyce_check(table: &[u8]) -> u32
     verdict::check(table)
 }
 
-// Makes the lent state that in which a run of the table begins, or refuses and changes nothing.
+// Makes the lent state that in which a run of the table with this number begins, or refuses and changes nothing.
 #[no_mangle]
-pub extern "C" fn joyce_begin(table: &[u8], state: &mut [u8]) -> u32
-    ensures { λ r. ⌜ BeginLeaves 1 (now (table .entry)) (now (state .entry)) r (now (state .exit)) ⌝ }
+pub extern "C" fn joyce_begin(table: &[u8], state: &mut [u8], number: u32) -> u32
+    ensures { λ r. ⌜ BeginLeaves 1 (now (table .entry)) (now (state .entry)) number r (now (state .exit)) ⌝ }
 {
-    states::begin(table, state)
+    states::begin(table, state, number)
 }
 
 // One step for each process of the schedule, in order, with its answer; or refuses and changes nothing.

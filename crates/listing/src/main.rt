@@ -75,11 +75,11 @@ fn run_all(table: &[u8], state: &mut [u8], page: &mut [u8], fd: i32) {
     }
 }
 
-// Prints the steps of the schedule, from the state in which the table's run begins.
+// Prints the steps of the schedule, from the state in which the table's run begins: with 0, no variable having a value (02, g).
 fn list_steps(table: &[u8], fd: i32) {
-    let mut state = [0u8; 35328];
+    let mut state = [0u8; 37376];
     let mut page = [0u8; 8192];
-    states::begin(table, &mut state);
+    states::begin(table, &mut state, 0);
     run_all(table, &mut state, &mut page, fd);
 }
 

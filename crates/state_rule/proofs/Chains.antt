@@ -2,7 +2,7 @@
 use Prim.Native.Nat.{ℕ, zero, suc, _+_, _-_, _*_, _≤_, _<_}
 use mathlib.Core.Path.{_≡_, refl, sym, _∙_}
 use mathlib.Core.Bool.{Bool, true, false, not}
-use lib.Dec.{eqb, ltb}
+use lib.Dec.{eqb, ltb, leb}
 use native.Mathlib.Omega.{arith}
 use native.Mathlib.Nat.{add-zero}
 use mir.Val.{Fits}
@@ -18,10 +18,10 @@ use Rattle.table.specs.Entries.{blockCount, stmtCount, varType, owner, firstVar
 use Rattle.sizes.specs.Sizes.{wordsOf, varOffset, moduleWords}
 use Rattle.sizes.proofs.Judging.{var-none, var-more}
 use Rattle.machine.specs.Memory.{Memory}
-use Rattle.machine.specs.Layout.{location, linkAt, statusAt, moduleAt, statementAt, frameAt, topAt, worksAt, holderAt, depthAt, createdAt, failureAt, callerFrame, callStatement, callerWorks, calledBlock}
+use Rattle.machine.specs.Layout.{location, linkAt, statusAt, moduleAt, statementAt, frameAt, topAt, worksAt, holderAt, depthAt, createdAt, failureAt, numberAt, callerFrame, callStatement, callerWorks, calledBlock}
 use Rattle.machine.specs.Entries.{waits, Statement, statementOf, stmtAt}
 use Rattle.machine.specs.Variables.{varWords, firstWords, frameWords, isModule, isProcedure}
-use Rattle.machine.specs.Rule.{liesIn, calls, mayWait, isCreated, worked, holdsOn, worksBy, modulesHold, framesHold, frameOk, chain, moduleOk, startedOk, processOk, failureOk, rule}
+use Rattle.machine.specs.Rule.{liesIn, calls, mayWait, isCreated, worked, holdsOn, worksBy, modulesHold, framesHold, frameOk, chain, moduleOk, startedOk, processOk, failureOk, runOk, rule}
 use Rattle.machine.specs.Outcomes.{isFailure}
 use Rattle.values.specs.Walks.{Words}
 use Rattle.state_rule.specs.Chains.{Sum, Summed, startedOf, frameFits, calledOk, callMade, callOk, baseOk, Left, runningOk, processRow, processesHold}
@@ -459,6 +459,15 @@ module _ (m : Memory) (n : ℕ) (h : n ≡ m failureAt) where
   unfolding failureOk either
   failure-some r e g = rw (← h, ne-eqb n 0 e) g
 
+module _ (m : Memory) (x : Bool) (e : x ≡ failureOk m) where
+  pub run-failed : x ≡ false → false ≡ runOk m
+  unfolding runOk both
+  run-failed z = rw (← e, z)
+
+  pub run-number : (n : ℕ) → n ≡ m numberAt → x ≡ true → leb n 1 ≡ runOk m
+  unfolding runOk both
+  run-number n h z = rw (← e, z, h)
+
 -- all processes, and the rule
 pub few : (x n : ℕ) → n ≡ x → n ≤ 64 → x ≤ 64
 few x n e l = rw e at l
@@ -484,13 +493,13 @@ module _ (T : Table) (m : Memory) (n : ℕ) (h : n ≡ m createdAt) where
   unfolding rule between both
   rule-many l g = rw (← h, le-leb 1 n l, lt-leb n 64 g)
 
-  module _ (l : 1 ≤ n) (g : n ≤ 64) (x : Bool) (e : x ≡ failureOk m) where
-    pub rule-failure : x ≡ false → false ≡ rule T m
+  module _ (l : 1 ≤ n) (g : n ≤ 64) (x : Bool) (e : x ≡ runOk m) where
+    pub rule-run : x ≡ false → false ≡ rule T m
     unfolding rule between both
-    rule-failure z = rw (le-leb 1 (m createdAt) (rw h at l), le-leb (m createdAt) 64 (rw h at g), ← e, z)
+    rule-run z = rw (le-leb 1 (m createdAt) (rw h at l), le-leb (m createdAt) 64 (rw h at g), ← e, z)
 
     pub rule-processes : (r : Bool) → x ≡ true → r ≡ processesHold T m → r ≡ rule T m
     unfolding rule between both processesHold processRow
     rule-processes r z v = rw (le-leb 1 (m createdAt) (rw h at l), le-leb (m createdAt) 64 (rw h at g), ← e, z) v
 
-pub ruleset ruling = (rule-none, rule-many, rule-failure, rule-processes)
+pub ruleset ruling = (rule-none, rule-many, rule-run, rule-processes)

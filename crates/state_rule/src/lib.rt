@@ -17,7 +17,7 @@ ghost use Rattle.code.specs.Code.{decoded};
 ghost use Rattle.machine.specs.Memory.{memoryOf};
 ghost use Rattle.machine.specs.Layout.{createdAt};
 ghost use Rattle.machine.specs.Lent.{State};
-ghost use Rattle.machine.specs.Rule.{moduleOk, processOk, failureOk, rule};
+ghost use Rattle.machine.specs.Rule.{moduleOk, processOk, failureOk, runOk, rule};
 ghost use Rattle.values.specs.Heads.{Heads};
 ghost use Rattle.values.specs.Jumps.{Jumps};
 ghost use Rattle.state_rule.specs.Chains.{runningOk, processesHold};
@@ -108,6 +108,16 @@ fn failure_ok(state: &[u8]) -> bool
         return true;
     }
     machine::is_failure(n)
+}
+
+fn run_ok(state: &[u8]) -> bool
+    requires { ⌜ State (now state) ⌝ }
+    ensures { λ r. ⌜ r ≡ runOk (memoryOf (now (state .entry))) ⌝ }
+{
+    if failure_ok(state) {
+        return record_word(state, 1, machine::NUMBER) <= 1;
+    }
+    false
 }
 
 // Each created process.
@@ -214,7 +224,7 @@ pub fn rule_holds(c: &code::Slots, sizes: &[u16], state: &[u8]) -> bool
     let n = created(state);
     if 1 <= n {
         if n <= 64 {
-            if failure_ok(state) {
+            if run_ok(state) {
                 return all_hold(c, sizes, state);
             }
             return false;

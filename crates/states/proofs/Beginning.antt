@@ -1,15 +1,17 @@
 -- The state in which a run begins, as the code makes it. Assumes nothing.
 use Prim.Native.Nat.{ℕ, _+_, _*_, _≤_, _<_, min}
 use mathlib.Core.Path.{_≡_, refl, sym, ap, _∙_, fun-ext}
-use mathlib.Core.Bool.{true}
+use mathlib.Core.Bool.{Bool, true, false}
 use mathlib.Core.List.{List}
 use native.Mathlib.Omega.{arith}
-use lib.Dec.{eqb, ltb}
+use lib.Dec.{eqb, leb, ltb}
 use lib.ListN.{length, getD, set, length-set, List·getD-eq-default}
 use lib.Seq.{getD-set-same, getD-set-other}
 use borrow.Author.Needs.{needs}
-use borrow.Author.Tests.{eq-eqb, ne-eqb, eqb-true, eqb-false, ltb-true, ltb-false}
+use borrow.Author.Tests.{eq-eqb, ne-eqb, eqb-true, eqb-false, leb-true, ltb-true, ltb-false}
 use Rattle.basics.specs.Cases.{cases}
+use Rattle.basics.specs.Choice.{pick, both}
+use Rattle.basics.proofs.Bools.{no-true, both-l, both-r}
 use Rattle.table.specs.Table.{Table}
 use Rattle.table.specs.Entries.{firstStmt, vars}
 use Rattle.words.specs.Bytes.{Bytes}
@@ -23,13 +25,13 @@ use Rattle.verdict.specs.Verdict.{verdict}
 use Rattle.verdict.specs.Accepted.{Accepted}
 use Rattle.verdict.specs.Checked.{Checked}
 use Rattle.verdict.proofs.Promise.{promise}
-use Rattle.machine.specs.Memory.{update, zeros, memoryOf, bytesOf}
+use Rattle.machine.specs.Memory.{Memory, update, within, fill, zeros, memoryOf, bytesOf}
 use Rattle.machine.specs.Lent.{Lent, Changed, State, Becomes}
-use Rattle.machine.specs.Layout.{statusAt, statementAt, frameAt, topAt, worksAt, holderAt, depthAt, createdAt, stateWords, stateSize}
+use Rattle.machine.specs.Layout.{statusAt, statementAt, frameAt, topAt, worksAt, holderAt, depthAt, createdAt, numberAt, plainWords, markWords, stateWords, stateSize}
 use Rattle.machine.specs.Calls.{standing}
-use Rattle.machine.specs.Run.{begin}
+use Rattle.machine.specs.Run.{first, begin}
 use Rattle.machine.specs.Public.{begun, beginCall, beginRefusal}
-use Rattle.machine.proofs.Memories.{bytes-memory}
+use Rattle.machine.proofs.Memories.{within-yes, within-from, within-to, bytes-memory}
 use Rattle.states.specs.Parts.{Cleared, firstMade}
 
 -- ---- clearing
@@ -61,13 +63,14 @@ cleared-all n s₀ s i k l c e h = record { long = c .same ∙ l .long; is = fun
 
 -- ---- words set one after the other
 
-pub first-made : (s₀ s₁ s₂ s₃ : List ℕ)
+pub first-made : (s₀ s₁ s₂ s₃ s₄ : List ℕ) (n : ℕ)
     → Becomes s₁ (update (memoryOf s₀) (statusAt 1) 2)
     → Becomes s₂ (update (memoryOf s₁) (holderAt 1) 1)
     → Becomes s₃ (update (memoryOf s₂) createdAt 1)
-    → Becomes s₃ (firstMade (memoryOf s₀))
+    → Becomes s₄ (update (memoryOf s₃) numberAt n)
+    → Becomes s₄ (firstMade (memoryOf s₀) n)
 unfolding firstMade
-first-made s₀ s₁ s₂ s₃ a b c = rw (← (a .is), ← (b .is)) c
+first-made s₀ s₁ s₂ s₃ s₄ n a b c d = rw (← (a .is), ← (b .is), ← (c .is)) d
 
 pub first-stands : (s₀ s₁ s₂ s₃ s₄ s₅ : List ℕ) (c t : ℕ)
     → Becomes s₁ (update (memoryOf s₀) (statementAt 1) c)
@@ -78,6 +81,59 @@ pub first-stands : (s₀ s₁ s₂ s₃ s₄ s₅ : List ℕ) (c t : ℕ)
     → Becomes s₅ (standing (memoryOf s₀) 1 c 0 t 1 0)
 unfolding standing
 first-stands s₀ s₁ s₂ s₃ s₄ s₅ c t a b d e f = rw (← (a .is), ← (b .is), ← (d .is), ← (e .is)) f
+
+-- ---- marks
+
+-- the first k words of marks are w
+pub record Filling (m : Memory) (w : ℕ) (s : List ℕ) (k : ℕ) : Type 0 where
+  pub upto : k ≤ markWords
+  pub is : Becomes s (fill m plainWords k w)
+
+module _ (m : Memory) (w : ℕ) where
+  fill-none : fill m plainWords 0 w ≡ m
+  unfolding fill
+  fill-none = fun-ext λ j. cases (within plainWords 0 j)
+      (λ e. let a = within-from plainWords 0 j e in let b = within-to plainWords 0 j e in absurd (omega arith))
+      (λ e. rw e)
+
+  fill-more : (k : ℕ) → update (fill m plainWords k w) (plainWords + k) w ≡ fill m plainWords (k + 1) w
+  unfolding fill update
+  fill-more k = fun-ext λ j. cases (eqb j (plainWords + k))
+      (λ e. let q = eqb-true j (plainWords + k) e in rw (e, within-yes plainWords (k + 1) j (omega arith) (omega arith)))
+      (λ e.
+      let d = eqb-false j (plainWords + k) e in
+      cases (within plainWords k j)
+      (λ g.
+      let a = within-from plainWords k j g in
+      let b = within-to plainWords k j g in
+      rw (e, g, within-yes plainWords (k + 1) j a (omega arith)))
+      (λ g. rw (e, g, apart j d g)))
+    where
+      apart : (j : ℕ) → (j ≡ plainWords + k → ⊥) → within plainWords k j ≡ false → within plainWords (k + 1) j ≡ false
+      apart j d g = cases (within plainWords (k + 1) j)
+          (λ h.
+          let a = within-from plainWords (k + 1) j h in
+          let b = within-to plainWords (k + 1) j h in
+          absurd (no-true (sym g ∙ within-yes plainWords k j a (omega arith))))
+          (λ h. h)
+
+  pub fills-none : (s : List ℕ) → State s → m ≡ memoryOf s → Filling m w s 0
+  fills-none s l e = record { upto = omega arith; is = record { long = l .long; is = sym e ∙ sym fill-none } }
+
+  pub fills-lent : (s : List ℕ) (k : ℕ) → Filling m w s k → State s
+  fills-lent s k f = record { long = f .is .long }
+
+  pub fills-more : (s r : List ℕ) (k : ℕ) → Filling m w s k → k < markWords → Becomes r (update (memoryOf s) (plainWords + k) w) → Filling m w r (k + 1)
+  fills-more s r k f l b = record { upto = omega arith; is = record { long = b .long; is = b .is ∙ rw (f .is .is) (fill-more k) } }
+
+  pub fills-all : (s : List ℕ) (k : ℕ) → Filling m w s k → markWords ≤ k → Becomes s (fill m plainWords markWords w)
+  fills-all s k f l = let e : k ≡ markWords = omega (arith, f .upto) in rw e at (f .is)
+
+pub marks-all : (n : ℕ) → n ≡ 1 → _≡_ {A = ℕ} 65535 (pick (eqb n 1) 65535 0)
+marks-all n e = rw (eq-eqb n 1 e)
+
+pub marks-no : (n : ℕ) → (n ≡ 1 → ⊥) → _≡_ {A = ℕ} 0 (pick (eqb n 1) 65535 0)
+marks-no n d = rw (ne-eqb n 1 d)
 
 -- ---- the program's words
 
@@ -95,16 +151,17 @@ module _ (T : Table) (ok : Accepted T) where
 
 -- ---- all of it
 
-pub begin-bytes : (T : Table) (s₁ s₂ s₃ : List ℕ) (c t : ℕ)
-    → c ≡ firstStmt T 0 → t ≡ moduleWords T 0
+pub begin-bytes : (T : Table) (n : ℕ) (s₁ s₂ s₃ s₄ : List ℕ) (c t w : ℕ)
+    → c ≡ firstStmt T 0 → t ≡ moduleWords T 0 → w ≡ pick (eqb n 1) 65535 0
     → Becomes s₁ zeros
-    → Becomes s₂ (firstMade (memoryOf s₁))
+    → Becomes s₂ (firstMade (memoryOf s₁) n)
     → Becomes s₃ (standing (memoryOf s₂) 1 c 0 t 1 0)
-    → Bytes s₃
-    → s₃ ≡ bytesOf stateWords (begin T)
-unfolding begin firstMade
-begin-bytes T s₁ s₂ s₃ c t hc ht a b d bytes =
-    sym (bytes-memory stateWords s₃ bytes (d .long)) ∙ ap (bytesOf stateWords) (d .is ∙ rw (b .is, a .is, hc, ht))
+    → Becomes s₄ (fill (memoryOf s₃) plainWords markWords w)
+    → Bytes s₄
+    → s₄ ≡ bytesOf stateWords (begin T n)
+unfolding begin first firstMade
+begin-bytes T n s₁ s₂ s₃ s₄ c t w hc ht hw a b d f bytes =
+    sym (bytes-memory stateWords s₄ bytes (f .long)) ∙ ap (bytesOf stateWords) (f .is ∙ rw (d .is, b .is, a .is, hc, ht, hw))
 
 -- ---- the call
 
@@ -119,16 +176,32 @@ module _ (w : ℕ) (t c y z : List ℕ) (v : ℕ) (h : Checked w t v c y z) (o :
   pub check-sizes : Sizes (decoded c) z
   check-sizes = h .sizes o
 
-  pub begun-done : (s s₁ : List ℕ) → length s ≡ stateSize → s₁ ≡ bytesOf stateWords (begin (decoded c)) → begun 0 s₁ ≡ beginCall verdict w t s
+  pub begun-done : (s s₁ : List ℕ) (n k : ℕ) (b : Bool) → b ≡ both (eqb (length s) stateSize) (leb n 1) → b ≡ true → k ≡ n
+      → s₁ ≡ bytesOf stateWords (begin (decoded c) k) → begun 0 s₁ ≡ beginCall verdict w t s n
   unfolding beginCall beginRefusal
-  begun-done s s₁ l e = let g = rw (h .table o) at e in rw (eq-eqb (length s) stateSize l, ← (h .is), eq-eqb v 0 o, g)
+  begun-done s s₁ n k b l g i e = let g' = rw (h .table o, i) at e in rw (← l, g, ← (h .is), eq-eqb v 0 o, g')
 
-pub begun-refused : (w : ℕ) (t s c y z : List ℕ) (v : ℕ) → length s ≡ stateSize → Checked w t v c y z → (v ≡ 0 → ⊥) → begun v s ≡ beginCall verdict w t s
-unfolding beginCall beginRefusal
-begun-refused w t s c y z v l h n = rw (eq-eqb (length s) stateSize l, ← (h .is), ne-eqb v 0 n)
+module _ (s : List ℕ) (n : ℕ) (b : Bool) (l : b ≡ both (eqb (length s) stateSize) (leb n 1)) where
+  pub begun-lent : b ≡ true → State s
+  begun-lent g = lent-bytes s (eqb-true (length s) stateSize (both-l _ _ (sym l ∙ g)))
 
-pub begun-short : (w : ℕ) (t s : List ℕ) → (length s ≡ stateSize → ⊥) → begun 1 s ≡ beginCall verdict w t s
-unfolding beginCall beginRefusal
-begun-short w t s n = rw (ne-eqb (length s) stateSize n)
+  pub begun-word : b ≡ true → n < 65536
+  begun-word g = let h = leb-true n 1 (both-r _ _ (sym l ∙ g)) in omega arith
 
-pub ruleset begins = (new-blank, check-accepted, check-sizes, lent-bytes, begun-done, begun-refused, begun-short, needs)
+  pub begun-refused : (w : ℕ) (t c y z : List ℕ) (v : ℕ) → b ≡ true → Checked w t v c y z → (v ≡ 0 → ⊥) → begun v s ≡ beginCall verdict w t s n
+  unfolding beginCall beginRefusal
+  begun-refused w t c y z v g h d = rw (← l, g, ← (h .is), ne-eqb v 0 d)
+
+  pub begun-short : (w : ℕ) (t : List ℕ) → b ≡ false → begun 1 s ≡ beginCall verdict w t s n
+  unfolding beginCall beginRefusal
+  begun-short w t g = rw (← l, g)
+
+pub beginnable-long : (k n : ℕ) → k ≡ stateSize → leb n 1 ≡ both (eqb k stateSize) (leb n 1)
+unfolding both
+beginnable-long k n e = rw (eq-eqb k stateSize e)
+
+pub beginnable-short : (k n : ℕ) → (k ≡ stateSize → ⊥) → false ≡ both (eqb k stateSize) (leb n 1)
+unfolding both
+beginnable-short k n d = rw (ne-eqb k stateSize d)
+
+pub ruleset begins = (new-blank, check-accepted, check-sizes, begun-lent, begun-word, begun-done, begun-refused, begun-short, needs)

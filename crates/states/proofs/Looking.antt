@@ -22,10 +22,11 @@ use Rattle.typing.proofs.Promise.{module-param}
 use Rattle.verdict.specs.Verdict.{verdict}
 use Rattle.verdict.specs.Accepted.{Accepted}
 use Rattle.machine.specs.Memory.{Memory, within, memoryOf}
-use Rattle.machine.specs.Layout.{location, statusAt, moduleAt, createdAt, stateSize}
+use Rattle.machine.specs.Layout.{location, statusAt, moduleAt, createdAt, locations, stateSize}
+use Rattle.machine.specs.Marks.{marked}
 use Rattle.machine.specs.Variables.{varWords, firstWords, offsetOf, belongs, isModule}
 use Rattle.machine.specs.Rule.{moduleOk, processOk, rule}
-use Rattle.machine.specs.Public.{refusal, visible, look, lookRefusal, lookCall}
+use Rattle.machine.specs.Public.{refusal, visible, wordThere, look, lookRefusal, lookCall}
 use Rattle.states.specs.Parts.{shown, lookJudged}
 
 -- ---- what the state rule says of a created process
@@ -250,17 +251,27 @@ module _ (T : Table) (ok : Accepted T) (m : Memory) (p v k : ℕ) (h : rule T m 
       pub seen-area : (1 ≤ p) × ((p ≤ 64) × (o + k ≤ 255))
       seen-area = (seen-from, (omega (arith, seen-to, created-most T m h), seen-in))
 
-      pub seen-word : (r : ℕ) → r ≡ m (location p (o + k)) → r ≡ m (location p (offsetOf T (m (moduleAt p)) v + k))
-      seen-word r q = rw (block-is, ← eo) q
+      pub seen-at : (r : ℕ) → (r ≡ location p (o + k)) × (r < locations) → (r ≡ location p (offsetOf T (m (moduleAt p)) v + k)) × (r < locations)
+      seen-at r q = rw (block-is, ← eo) q
 
 module _ (T : Table) (m : Memory) (p v k : ℕ) (c : Bool) (ec : c ≡ visible T m p v k) where
   pub look-none : c ≡ false → 11 ≡ look T m p v k
   unfolding look
   look-none z = rw (← ec, z)
 
-  pub look-seen : c ≡ true → (r : ℕ) → r ≡ m (location p (offsetOf T (m (moduleAt p)) v + k)) → 65536 + r ≡ look T m p v k
+  pub look-seen : c ≡ true → (a r : ℕ) → a ≡ location p (offsetOf T (m (moduleAt p)) v + k) → r ≡ wordThere m a → r ≡ look T m p v k
   unfolding look
-  look-seen z r q = rw (← ec, z, ← q)
+  look-seen z a r q e = rw (← ec, z, ← q) e
+
+-- the word at a location
+module _ (m : Memory) (a : ℕ) (c : Bool) (ec : c ≡ marked m a) where
+  pub there-set : c ≡ true → (r : ℕ) → r ≡ m a → 65536 + r ≡ wordThere m a
+  unfolding wordThere
+  there-set z r q = rw (← ec, z, q)
+
+  pub there-unset : c ≡ false → 32 ≡ wordThere m a
+  unfolding wordThere
+  there-unset z = rw (← ec, z)
 
 -- ---- the call, where it is known whether the state meets its rule
 

@@ -9,7 +9,7 @@ use lib.ListN.{length, getD}
 use Rattle.basics.specs.Choice.{pick}
 use Rattle.table.specs.Table.{Table}
 use Rattle.machine.specs.Memory.{Memory, update}
-use Rattle.machine.specs.Layout.{statusAt, holderAt, createdAt}
+use Rattle.machine.specs.Layout.{statusAt, holderAt, createdAt, numberAt}
 use Rattle.machine.specs.Rule.{rule}
 use Rattle.machine.specs.Public.{look}
 
@@ -19,9 +19,9 @@ pub record Cleared (s₀ s : List ℕ) (i : ℕ) : Type 0 where
   pub upto : i ≤ length s
   pub is : (j : ℕ) → j < i → getD s j 0 ≡ 0
 
--- process 1 is started and holds its own variables; it is the one process created
-unfoldable pub firstMade : Memory → Memory
-firstMade m = update (update (update m (statusAt 1) 2) (holderAt 1) 1) createdAt 1
+-- process 1 is started and holds its own variables; it is the one process created, in a run begun with this number
+unfoldable pub firstMade : Memory → ℕ → Memory
+firstMade m number = update (update (update (update m (statusAt 1) 2) (holderAt 1) 1) createdAt 1) numberAt number
 
 -- process p is created, and is started or ended
 unfoldable pub shown : Memory → ℕ → Bool

@@ -3,6 +3,8 @@ use words::numbers::narrow;
 use words::numbers::wide;
 ghost use mathlib.Core.Path.{_≡_};
 ghost use mathlib.Core.Bool.{true};
+ghost use lib.Dec.{eqb, leb};
+ghost use Rattle.basics.specs.Choice.{pick, both};
 ghost use Prim.Native.Nat.{_≤_, _<_, _+_};
 ghost use Rattle.table.specs.Entries.{blockCount, blockKind};
 ghost use Rattle.code.specs.Code.{decoded};
@@ -10,14 +12,14 @@ ghost use Rattle.sizes.specs.Kept.{Sizes};
 ghost use Rattle.sizes.specs.Sizes.{moduleWords};
 ghost use Rattle.verdict.specs.Verdict.{verdict};
 ghost use Rattle.verdict.specs.Accepted.{Accepted};
-ghost use Rattle.machine.specs.Memory.{memoryOf, bytesOf, zeros};
+ghost use Rattle.machine.specs.Memory.{memoryOf, bytesOf, zeros, fill};
 ghost use Rattle.machine.specs.Lent.{State, Becomes};
-ghost use Rattle.machine.specs.Layout.{location, moduleAt, createdAt, stateWords};
+ghost use Rattle.machine.specs.Layout.{location, moduleAt, createdAt, locations, plainWords, markWords, stateWords, stateSize};
 ghost use Rattle.machine.specs.Calls.{standing};
 ghost use Rattle.machine.specs.Variables.{offsetOf, belongs};
 ghost use Rattle.machine.specs.Run as runs;
 ghost use Rattle.machine.specs.Rule.{rule};
-ghost use Rattle.machine.specs.Public.{visible, look, begun, beginCall};
+ghost use Rattle.machine.specs.Public.{visible, wordThere, look, begun, beginCall};
 ghost use Rattle.states.specs.Parts.{firstMade, shown, lookJudged};
 
 // Makes every word 0.
@@ -33,14 +35,37 @@ fn clear_all(state: &mut [u8])
     }
 }
 
-// Process 1 is started and holds its own variables; it is the one process created.
-fn make_first(state: &mut [u8])
+// Process 1 is started and holds its own variables; it is the one process created, in a run begun with this number.
+fn make_first(state: &mut [u8], number: u16)
     requires { ⌜ State (now state) ⌝ }
-    ensures { λ _. ⌜ Becomes (now (state .exit)) (firstMade (memoryOf (now (state .entry)))) ⌝ }
+    ensures { λ _. ⌜ Becomes (now (state .exit)) (firstMade (memoryOf (now (state .entry))) number) ⌝ }
 {
     machine::set_record_word(state, 1, machine::STATUS, 2);
     machine::set_record_word(state, 1, machine::HOLDER, 1);
     machine::set_record_word(state, 1, machine::CREATED, 1);
+    machine::set_record_word(state, 1, machine::NUMBER, number);
+}
+
+// Makes every word of marks w.
+fn fill_marks(state: &mut [u8], w: u16)
+    requires { ⌜ State (now state) ⌝ }
+    ensures { λ _. ⌜ Becomes (now (state .exit)) (fill (memoryOf (now (state .entry))) plainWords markWords w) ⌝ }
+{
+    let mut k: usize = 0;
+    while k < 1024 {
+        machine::set_word(state, 17664 + k, w);
+        k += 1;
+    }
+}
+
+// The words of marks at the start: all set under 1, none under 0.
+fn first_marks(number: u16) -> u16
+    ensures { λ r. ⌜ r ≡ pick (eqb number 1) 65535 0 ⌝ }
+{
+    if number == 1 {
+        return 65535;
+    }
+    0
 }
 
 // Where process 1 stands, in no call: its statement and the first free word of its area.
@@ -64,18 +89,19 @@ fn program_words(c: &code::Slots, sizes: &[u16]) -> usize
     sizes::var_offset(c, sizes, 0, code::block_vars(c, 0))
 }
 
-// Makes the lent bytes the state in which a run begins, whatever stood there.
-pub fn begin_state(c: &code::Slots, sizes: &[u16], state: &mut [u8])
+// Makes the lent bytes the state in which a run with this number begins, whatever stood there.
+pub fn begin_state(c: &code::Slots, sizes: &[u16], state: &mut [u8], number: u16)
     requires { ⌜ Sizes (decoded (now c)) (now sizes) ⌝ }
     requires { ⌜ Accepted (decoded (now c)) ⌝ }
     requires { ⌜ State (now state) ⌝ }
-    ensures { λ _. ⌜ now (state .exit) ≡ bytesOf stateWords (runs.begin (decoded (now (c .entry)))) ⌝ }
+    ensures { λ _. ⌜ now (state .exit) ≡ bytesOf stateWords (runs.begin (decoded (now (c .entry))) number) ⌝ }
 {
     let statement = narrow(code::first_stmt(c, 0));
     let top = narrow(program_words(c, sizes));
     clear_all(state);
-    make_first(state);
+    make_first(state, number);
     stand_first(state, statement, top);
+    fill_marks(state, first_marks(number));
 }
 
 // Process p is created, and is started or ended.
@@ -142,22 +168,34 @@ fn variable_offset(c: &code::Slots, sizes: &[u16], b: usize, v: usize) -> usize
     sizes::var_offset(c, sizes, b, v - first)
 }
 
-// The word that process p, variable v and place k name.
-fn visible_word(c: &code::Slots, sizes: &[u16], state: &[u8], p: usize, v: usize, k: usize) -> u16
+// Where the word stands that process p, variable v and place k name.
+fn visible_at(c: &code::Slots, sizes: &[u16], state: &[u8], p: usize, v: usize, k: usize) -> usize
     requires { ⌜ Sizes (decoded (now c)) (now sizes) ⌝ }
     requires { ⌜ Accepted (decoded (now c)) ⌝ }
     requires { ⌜ State (now state) ⌝ }
     requires { ⌜ rule (decoded (now c)) (memoryOf (now state)) ≡ true ⌝ }
     requires { ⌜ visible (decoded (now c)) (memoryOf (now state)) p v k ≡ true ⌝ }
     requires { ⌜ v < 65536 ⌝ }
-    ensures { λ r. ⌜ r ≡ memoryOf (now (state .entry)) (location p (offsetOf (decoded (now (c .entry))) (memoryOf (now (state .entry)) (moduleAt p)) v + k)) ⌝ }
+    ensures { λ r. ⌜ (r ≡ location p (offsetOf (decoded (now (c .entry))) (memoryOf (now (state .entry)) (moduleAt p)) v + k)) × (r < locations) ⌝ }
 {
     let b = wide(machine::record_word(state, p, machine::MODULE));
     let at = variable_offset(c, sizes, b, v);
-    machine::area_word(state, p, at + k)
+    machine::location_of(p, at + k)
 }
 
-// 65,536 and the word that process, variable and place name; 11 where they name none.
+// 65,536 and the word at location a; 32 where it is unmarked (02, g).
+fn word_there(state: &[u8], a: usize) -> u32
+    requires { ⌜ State (now state) ⌝ }
+    requires { ⌜ a < locations ⌝ }
+    ensures { λ r. ⌜ r ≡ wordThere (memoryOf (now (state .entry))) a ⌝ }
+{
+    if machine::marks::is_marked(state, a) {
+        return 65536 + machine::word_of(state, a) as u32;
+    }
+    32
+}
+
+// 65,536 and the word that process, variable and place name; 32 where it is unmarked, 11 where they name none.
 pub fn look_word(
     c: &code::Slots,
     sizes: &[u16],
@@ -176,7 +214,7 @@ pub fn look_word(
     let v = variable as usize;
     let k = place as usize;
     if is_visible(c, sizes, state, p, v, k) {
-        return 65536 + visible_word(c, sizes, state, p, v, k) as u32;
+        return word_there(state, visible_at(c, sizes, state, p, v, k));
     }
     11
 }
@@ -203,17 +241,27 @@ pub fn look_judged(
     10
 }
 
-// Makes the lent state that in which a run of the table begins, or refuses.
-pub fn begin(table: &[u8], state: &mut [u8]) -> u32
-    ensures { λ r. ⌜ begun r (now (state .exit)) ≡ beginCall verdict 1 (now (table .entry)) (now (state .entry)) ⌝ }
+// The state has its length, and the number is 0 or 1 (02, g).
+fn is_beginnable(state: usize, number: u32) -> bool
+    ensures { λ r. ⌜ r ≡ both (eqb state stateSize) (leb number 1) ⌝ }
 {
-    if state.len() == 35328 {
+    if state == 37376 {
+        return number <= 1;
+    }
+    false
+}
+
+// Makes the lent state that in which a run of the table with this number begins, or refuses.
+pub fn begin(table: &[u8], state: &mut [u8], number: u32) -> u32
+    ensures { λ r. ⌜ begun r (now (state .exit)) ≡ beginCall verdict 1 (now (table .entry)) (now (state .entry)) number ⌝ }
+{
+    if is_beginnable(state.len(), number) {
         let mut c = [0u16; 8256];
         let j = verdict::check_into(table, &mut c);
         let v = j.verdict;
         if v == 0 {
             let sizes = j.sizes;
-            begin_state(&c, &sizes[..], state);
+            begin_state(&c, &sizes[..], state, number as u16);
             return 0;
         }
         return v;

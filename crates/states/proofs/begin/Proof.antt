@@ -7,6 +7,8 @@ begin-spec =
     tie.close
     (tie.spec
     (λ c κs. search begins)
+    (λ c κs. search begins)
+    (λ c. search begins)
     (λ c. search begins)
     (λ c κs. search begins)
     (λ c. search begins)

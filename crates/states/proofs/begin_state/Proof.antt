@@ -16,5 +16,7 @@ begin-state-spec =
     (λ c κs. search needs)
     (λ c κs. search needs)
     (λ c κs. search needs)
+    (λ c κs. search needs)
+    (λ c κs. search needs)
     (λ c. search needs)
-    (λ c. let x = c .before .before in let y = x .before .before .before .before in let z = y .before .before .before .before in let n = z .before .before in let q = n .before in let k = q .before in begin-bytes _ _ _ _ _ _ (k .narrow .ensures ∙ k .before .first-stmt .ensures .is) (n .narrow2 .ensures ∙ q .program-words .ensures .0) (z .clear-all .ensures) (y .make-first .ensures) (x .stand-first .ensures) (record { small = λ i. omega (arith, c .slice-known4 .given i) })))
+    (λ c. let u = c .before .before in let d = u .before in let x = d .before .before .before .before in let y = x .before .before .before .before in let z = y .before .before .before .before in let n = z .before .before in let q = n .before in let k = q .before in begin-bytes _ _ _ _ _ _ _ _ _ (k .narrow .ensures ∙ k .before .first-stmt .ensures .is) (n .narrow2 .ensures ∙ q .program-words .ensures .0) (d .first-marks .ensures) (z .clear-all .ensures) (y .make-first .ensures) (x .stand-first .ensures) (u .fill-marks .ensures) (record { small = λ i. omega (arith, c .slice-known5 .given i) })))
