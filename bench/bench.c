@@ -12,13 +12,13 @@
 
 #include <stdbool.h>
 
-enum { STATE = 35328, PAGE = 8192, LONGEST = 7657, STEPS = 100000, FAILURE = 2 * (16384 + 9) };
-enum { CALLS = 200 };
+enum { STATE = 37376, PAGE = 8192, LONGEST = 7657, STEPS = 100000, FAILURE = 2 * (16384 + 9) };
+enum { CALLS = 200, ZEROS = 1 }; /* the boards are of version 1, and begin with zeros */
 
 struct calls {
     const char *name;
     uint32_t (*check)(const uint8_t *, size_t);
-    uint32_t (*begin)(const uint8_t *, size_t, uint8_t *, size_t);
+    uint32_t (*begin)(const uint8_t *, size_t, uint8_t *, size_t, uint32_t);
     uint32_t (*run)(const uint8_t *, size_t, uint8_t *, size_t, uint8_t *, size_t, const uint8_t *, size_t, uint8_t *, size_t);
 };
 
@@ -67,7 +67,7 @@ static void compare(struct board *b)
 {
     static uint8_t state[BOTH][STATE], page[BOTH][PAGE], answers[BOTH][STEPS];
     for (int k = 0; k < BOTH; k++) {
-        if (calls[k].check(b->table, b->length) != 0 || calls[k].begin(b->table, b->length, state[k], STATE) != 0)
+        if (calls[k].check(b->table, b->length) != 0 || calls[k].begin(b->table, b->length, state[k], STATE, ZEROS) != 0)
             stop(b->name, "the table is refused");
         memset(page[k], 0, PAGE);
         memcpy(b->state, state[k], STATE);
@@ -112,7 +112,7 @@ static double turn(const struct calls *c, struct board *b, int kind)
     for (int i = 0; i < n; i++)
         switch (kind) {
         case CHECK: result = c->check(b->table, b->length); break;
-        case BEGIN: result = c->begin(b->table, b->length, state, STATE); break;
+        case BEGIN: result = c->begin(b->table, b->length, state, STATE, ZEROS); break;
         case NOTHING: run(c, b, state, page, half, 0); break;
         case ONE: run(c, b, state, page, half + (size_t)i, 1); break;
         default: run(c, b, state, page, 0, b->steps); break;
@@ -153,7 +153,7 @@ static void count(struct board *b)
         calls[k].check(b->table, b->length);
         dump_call(b, k, CHECK);
         CALLGRIND_ZERO_STATS;
-        calls[k].begin(b->table, b->length, state, STATE);
+        calls[k].begin(b->table, b->length, state, STATE, ZEROS);
         dump_call(b, k, BEGIN);
         memcpy(page, b->page, PAGE);
         CALLGRIND_ZERO_STATS;

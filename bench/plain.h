@@ -9,7 +9,7 @@
 
 uint32_t plain_check(const uint8_t *table, size_t length);
 
-uint32_t plain_begin(const uint8_t *table, size_t table_length, uint8_t *state, size_t state_length);
+uint32_t plain_begin(const uint8_t *table, size_t table_length, uint8_t *state, size_t state_length, uint32_t number);
 
 uint32_t plain_run(const uint8_t *table, size_t table_length, uint8_t *state, size_t state_length, uint8_t *page, size_t page_length,
                    const uint8_t *schedule, size_t schedule_length, uint8_t *answers, size_t answers_length);

@@ -2,6 +2,8 @@
  * above it, in the report's grammar. The device addresses are constants of the whole text, in octal, for the grammar has no negative numerals:
  *
  *    const pads = #160000; film = #164000; sounds = #170000; clock = #174000; last = 31
+ *
+ * Every variable is given a value before it is retrieved, so the board is begun with JOYCE_START_UNSET.
  */
 #include "board.h"
 #include "builder.h"
@@ -26,6 +28,7 @@ static int frame_word(void)
  *    procedure play(pitch: integer)
  *    begin tone := pitch; rest := 3 end
  *  begin
+ *    tone := 0; rest := 0; frame := 0;
  *    cycle val clock <> frame do
  *      frame := val clock;
  *      if rest > 0 do write(sounds + 2 * frame, tone); rest := rest - 1
@@ -52,6 +55,9 @@ static void declare_sound(struct sound *s)
 static void write_sound(const struct sound *s)
 {
     begin_body(&b, s->module);
+    put_assign(&b, whole(&b, s->tone), integer(&b, 0));
+    put_assign(&b, whole(&b, s->rest), integer(&b, 0));
+    put_assign(&b, whole(&b, s->frame), integer(&b, 0));
     put_cycle(&b);
     put_arm(&b, binary(&b, '#', frame_word(), value(&b, s->frame)));
     {
@@ -91,7 +97,7 @@ static void write_sound(const struct sound *s)
  *      if (column = 0) and (speed < 0) do bell.play(440) end
  *    end
  *  begin
- *    column := 10;
+ *    column := 10; part := 0; moved := false;
  *    cycle moved do
  *      write(film + 2 * frame, column);
  *      moved := false
@@ -150,6 +156,8 @@ static void write_sprite(const struct sprite *s, const struct sound *sound)
 {
     begin_body(&b, s->module);
     put_assign(&b, whole(&b, s->column), integer(&b, START_COLUMN));
+    put_assign(&b, whole(&b, s->part), integer(&b, 0));
+    put_assign(&b, whole(&b, s->moved), boolean(&b, false));
     put_cycle(&b);
     put_arm(&b, value(&b, s->moved));
     {
@@ -217,6 +225,7 @@ static void write_pad(const struct pad *p, const struct sprite *sprite)
  *    create s; start s;
  *    create p; start p(s);
  *    create r; start r(p);
+ *    beat := 0;
  *    cycle true do
  *      beat := (beat + 1) mod 16384;
  *      write(clock, beat / 16)
@@ -233,6 +242,7 @@ static void write_program(int s, int p, int r, int beat)
     put_start(&b, whole(&b, p), 1, value(&b, s));
     put_create(&b, whole(&b, r));
     put_start(&b, whole(&b, r), 1, value(&b, p));
+    put_assign(&b, whole(&b, beat), integer(&b, 0));
     put_cycle(&b);
     put_arm(&b, boolean(&b, true));
     {

@@ -130,7 +130,7 @@ int main(int argc, char **argv)
     table_len = build_board(table, sizeof table, &variables);
     frame_turns(schedule, FRAMES);
     expect_ok("joyce_check", joyce_check(table, table_len));
-    expect_ok("joyce_begin", joyce_begin(table, table_len, state, sizeof state));
+    expect_ok("joyce_begin", joyce_begin(table, table_len, state, sizeof state, JOYCE_START_UNSET));
 
     if (argc == 1)
         play_by_frames();

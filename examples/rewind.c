@@ -52,7 +52,7 @@ int main(void)
     struct board_variables variables;
     table_len = build_board(table, sizeof table, &variables);
     frame_turns(turns, 1);
-    uint32_t result = joyce_begin(table, table_len, now.state, sizeof now.state);
+    uint32_t result = joyce_begin(table, table_len, now.state, sizeof now.state, JOYCE_START_UNSET);
     if (result != JOYCE_OK)
         stop("joyce_begin returned", (unsigned)result);
 

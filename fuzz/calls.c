@@ -1,11 +1,12 @@
 /* A fuzz target of the four calls that take tables, for libFuzzer (make fuzz) or AFL++, and for fuzz/short.c, which makes inputs of its own.
  *
- * An input: a byte of flags; a byte n, and n damages to the state, each a word (where) and a byte (what is flipped); a byte n, and n bytes of
- * schedule; three bytes, what to look at; and the rest, which is the table.
+ * An input: a byte of flags, one of which is the number that the run begins with; a byte n, and n damages to the state, each a word (where) and a
+ * byte (what is flipped); a byte n, and n bytes of schedule; three bytes, what to look at; and the rest, which is the table.
  *
  * What must hold of any input: nothing crashes or is touched beside a slice; a refusal changes no lent byte; begin, run and look give a table the
- * verdict of check; each answer is one of joyce.h, and after a failure all are the same; a state after a run is a state of its program; a run
- * cut into single steps is the same run. With -DPLAIN, also: the plain interpreter of bench/ leaves the same.
+ * verdict of check; begin refuses other numbers than 0 and 1; each answer is one of joyce.h, and after a failure all are the same; no step answers
+ * 31 and no look 32 where the run began with 1 and nothing is damaged; a state after a run is a state of its program; a run cut into single steps is
+ * the same run. With -DPLAIN, also: the plain interpreter of bench/ leaves the same.
  *
  * With -DCOUNT it says at its end what the inputs were: their verdicts, and how many made an accepted program step. */
 #include "joyce.h"
@@ -20,7 +21,7 @@
 
 int LLVMFuzzerTestOneInput(const uint8_t *data, size_t size);
 
-enum { WRONG_STATE = 1, WRONG_PAGE = 2, SHORT_ANSWERS = 4, LONG_ANSWERS = 8, WARM = 16, SINGLE_STEPS = 32 };
+enum { WRONG_STATE = 1, WRONG_PAGE = 2, SHORT_ANSWERS = 4, LONG_ANSWERS = 8, WARM = 16, SINGLE_STEPS = 32, ZEROS = 64 };
 enum { SCHEDULE_MAX = 255, TAIL = 64 };
 
 struct input {
@@ -180,12 +181,16 @@ static void count(const struct input *in, uint32_t verdict)
 
 static void try_begin(const struct input *in, struct lent *l, uint32_t verdict)
 {
+    static const uint32_t wrong[] = {2, 256, 65536, UINT32_MAX};
     struct lent before = copy_of(l);
-    uint32_t result = joyce_begin(in->table, in->table_len, l->state, l->state_len);
+    uint32_t number = in->flags & ZEROS ? JOYCE_START_ZEROS : JOYCE_START_UNSET;
+    uint32_t result = joyce_begin(in->table, in->table_len, l->state, l->state_len, wrong[in->turns % 4]);
+    expect(result == JOYCE_LENGTH && is_same(l, &before), "begin takes a wrong number, or changes the state");
+    result = joyce_begin(in->table, in->table_len, l->state, l->state_len, number);
     expect(result == (l->state_len != JOYCE_STATE_SIZE ? (uint32_t)JOYCE_LENGTH : verdict), "begin gives another verdict than check");
     expect(result == JOYCE_OK || is_same(l, &before), "begin refused and changed the state");
 #ifdef PLAIN
-    uint32_t plain = plain_begin(in->table, in->table_len, before.state, before.state_len);
+    uint32_t plain = plain_begin(in->table, in->table_len, before.state, before.state_len, number);
     expect(plain == result && is_same(l, &before), "begin is not that of the plain interpreter");
 #endif
     release(&before);
@@ -203,6 +208,12 @@ static void warm_up(const struct input *in, struct lent *l)
     count_steps(answers, in->turns);
 }
 
+/* All words are marked: the run began with 1, and nothing was damaged. */
+static bool is_all_set(const struct input *in)
+{
+    return in->flags & ZEROS && in->damages == 0;
+}
+
 /* ---- run */
 
 static void check_answers(const struct input *in, const struct lent *l)
@@ -210,7 +221,9 @@ static void check_answers(const struct input *in, const struct lent *l)
     unsigned failure = 0;
     for (size_t i = 0; i < in->turns; i++) {
         unsigned answer = l->answers[i];
-        expect(answer <= JOYCE_NO_PROCESS || (answer >= JOYCE_FAILURE && answer <= JOYCE_PROCESSES), "an answer that is none");
+        bool is_failure = (answer >= JOYCE_FAILURE && answer <= JOYCE_PROCESSES) || answer == JOYCE_UNSET;
+        expect(answer <= JOYCE_NO_PROCESS || is_failure, "an answer that is none");
+        expect(answer != JOYCE_UNSET || !is_all_set(in), "a step retrieves what is unset, and nothing is");
         expect(failure == 0 || answer == failure, "an answer after a failure");
         failure = answer >= JOYCE_FAILURE ? answer : 0;
     }
@@ -271,7 +284,9 @@ static void try_look(const struct input *in, const struct lent *l, uint32_t verd
     else if (joyce_run(in->table, in->table_len, before.state, before.state_len, page, sizeof page, NULL, 0, NULL, 0) != JOYCE_OK)
         expect(result == JOYCE_STATE, "look takes a state that run refuses");
     else
-        expect(result == JOYCE_ABSENT || (result >= JOYCE_WORD && result < 2 * JOYCE_WORD), "look returns what is no result");
+        expect(result == JOYCE_ABSENT || result == JOYCE_UNSET_WORD || (result >= JOYCE_WORD && result < 2 * JOYCE_WORD),
+               "look returns what is no result");
+    expect(result != JOYCE_UNSET_WORD || !is_all_set(in), "look finds a word unset, and none is");
 #ifdef PLAIN
     uint32_t plain = plain_look(in->table, in->table_len, l->state, l->state_len, process, variable, place);
     expect(plain == result, "look is not that of the plain interpreter");

@@ -756,11 +756,16 @@ static uint8_t some_process(void)
     return (uint8_t)(one_in(20) ? below(256) : 1 + below(one_in(2) ? 2 : 6));
 }
 
-/* Where damage tells most: the control records of the first processes, and the beginning of their areas. */
+/* Where damage tells most: the control records of the first processes, the beginning of their areas, and marks. */
 static uint32_t telling_place(void)
 {
     uint32_t process = below(below(3) ? 5 : 64);
-    return below(2) ? 32768 + 40 * process + below(20) : 512 * process + below(below(2) ? 24 : 512);
+    switch (below(5)) {
+    case 0: return 35328 + 32 * process + below(below(2) ? 4 : 32); /* marks */
+    case 1:
+    case 2: return 32768 + 40 * process + below(22);
+    default: return 512 * process + below(below(2) ? 24 : 512);
+    }
 }
 
 static void change_schedule(struct head *h)
@@ -783,7 +788,7 @@ static void change_head(struct head *h)
 {
     change_schedule(h);
     if (one_in(2))
-        h->flags = (uint8_t)((below(12) ? 0 : below(8)) | (below(3) ? 0 : 8) | (below(2) ? 16 : 0) | (below(4) ? 0 : 32));
+        h->flags = (uint8_t)((below(12) ? 0 : below(8)) | (below(3) ? 0 : 8) | (below(2) ? 16 : 0) | (below(4) ? 0 : 32) | (below(2) ? 64 : 0));
     if (one_in(2)) {
         h->damages = (uint8_t)(below(4) ? 0 : 1 + below(4));
         for (int i = 0; i < h->damages; i++) {

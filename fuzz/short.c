@@ -49,18 +49,23 @@ static void load(const char *name)
     fclose(file);
 }
 
-/* Where damage tells most: the control records of the first processes, and the beginning of their areas. */
+/* Where damage tells most: the control records of the first processes, the beginning of their areas, and marks. */
 static uint32_t telling_place(void)
 {
     uint32_t process = below(below(3) ? 5 : 64);
-    return below(2) ? 32768 + 40 * process + below(20) : 512 * process + below(below(2) ? 24 : 512);
+    switch (below(5)) {
+    case 0: return 35328 + 32 * process + below(below(2) ? 4 : 32); /* marks */
+    case 1:
+    case 2: return 32768 + 40 * process + below(22);
+    default: return 512 * process + below(below(2) ? 24 : 512);
+    }
 }
 
 static size_t put_head(uint8_t *input)
 {
     size_t at = 0;
     uint32_t damages = below(3) ? 0 : 1 + below(4), turns = below(8) ? below(64) : below(256);
-    input[at++] = (uint8_t)((below(8) ? 0 : below(8)) | (below(3) ? 0 : 8) | (below(4) ? 16 : 0) | (below(4) ? 0 : 32));
+    input[at++] = (uint8_t)((below(8) ? 0 : below(8)) | (below(3) ? 0 : 8) | (below(4) ? 16 : 0) | (below(4) ? 0 : 32) | (below(2) ? 64 : 0));
     input[at++] = (uint8_t)damages;
     for (uint32_t i = 0; i < damages; i++) {
         uint32_t place = telling_place();

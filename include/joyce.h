@@ -12,7 +12,7 @@
  *     static uint8_t state[JOYCE_STATE_SIZE], page[JOYCE_PAGE_SIZE];
  *     uint8_t turns[3] = {1, 2, 1}, answers[3];
  *
- *     if (joyce_begin(table, length, state, sizeof state) == JOYCE_OK &&
+ *     if (joyce_begin(table, length, state, sizeof state, JOYCE_START_UNSET) == JOYCE_OK &&
  *         joyce_run(table, length, state, sizeof state, page, sizeof page, turns, 3, answers, 3) == JOYCE_OK)
  *         printf("the first step answered %u\n", answers[0]);
  *
@@ -24,9 +24,9 @@
  * Any input. Any bytes of any lengths, and any numbers, have a result: each call returns, for every input, one of the numbers that its
  * comment lists. It needs no test before it.
  *
- * Refusals. A result of 1..11, or of 25, is a refusal, and a refusal changes no lent byte. The lowest number that applies is returned: lengths
- * come first, then the table, then the state, then what is looked at; or the text. All calls that take a table give it the same verdict:
- * begin, run and look refuse it with the number of joyce_check.
+ * Refusals. A result of 1..11, 25 or 32 is a refusal, and a refusal changes no lent byte. The lowest number that applies is returned: lengths and
+ * the number of joyce_begin come first, then the table, then the state, then what is looked at; or the text. All calls that take a table give it
+ * the same verdict: begin, run and look refuse it with the number of joyce_check.
  *
  * Pointers. A slice is a pointer and a number of bytes. The pointer may be null only where the number is 0; else it is the first of as many
  * bytes, and needs no alignment. Slices to const are read and not written. A call reads and writes no other byte of the caller's, and keeps no
@@ -44,6 +44,7 @@
  *
  * States across versions. Within one JOYCE_VERSION_MAJOR, a state that one release left is read by all others, with the same table, and
  * means the same. A new major number may refuse it, with JOYCE_LENGTH or JOYCE_STATE, and will say so here. Keep the number with what you store.
+ * Version 2 refuses the states of version 1, which had 35,328 bytes, with JOYCE_LENGTH; docs/ADOPT.md has how to carry them over.
  *
  * ---- Tables
  *
@@ -77,13 +78,13 @@ extern "C" {
 
 /* The version of this interface. The first number changes where a host must be changed, the second where something is added. There is no
  * function for it: the archive exports the five proved calls and nothing else, and is linked statically with the header that it came with. */
-#define JOYCE_VERSION_MAJOR 1
-#define JOYCE_VERSION_MINOR 3
+#define JOYCE_VERSION_MAJOR 2
+#define JOYCE_VERSION_MINOR 0
 #define JOYCE_VERSION_PATCH 0
-#define JOYCE_VERSION "1.3.0"
+#define JOYCE_VERSION "2.0.0"
 
 /* Sizes, in bytes. */
-#define JOYCE_STATE_SIZE 35328 /* a state: 64 areas of 512 bytes, then 64 control records of 40 */
+#define JOYCE_STATE_SIZE 37376 /* a state: 64 areas of 512 bytes, 64 control records of 40, then a mark for each word of the areas */
 #define JOYCE_PAGE_SIZE 8192   /* a device page */
 #define JOYCE_TABLE_MAX 7657   /* the longest seven sections; every longer table is refused with JOYCE_SECTIONS */
 #define JOYCE_ACCEPTED_MAX 6633 /* the longest table that can be accepted */
@@ -196,6 +197,16 @@ enum joyce_symbol {
     JOYCE_SYMBOL_STRING = 6     /* two or more */
 };
 
+/* ---- How variables begin
+ *
+ * Each word of a variable has a mark, which says that it was given a value: by an assignment, by a create, or as a parameter. A program can
+ * retrieve a value only if all its words are marked. The number that joyce_begin takes says how variables begin, in the whole run: those of block 0
+ * there, those of a process when it is created, those of a procedure at each call. */
+enum joyce_start {
+    JOYCE_START_UNSET = 0, /* unmarked: a step that retrieves one before it is given a value fails with JOYCE_UNSET. For new programs */
+    JOYCE_START_ZEROS = 1  /* marked, and 0: as in version 1. For programs that rely on it */
+};
+
 /* ---- Results and answers */
 
 /* What the calls return. Which call returns which stands at the call. */
@@ -203,7 +214,7 @@ enum joyce_result {
     /* done; of a table: accepted */
     JOYCE_OK = 0,
     JOYCE_ACCEPTED = 0,
-    /* a lent length is wrong */
+    /* a lent length is wrong, or the number of joyce_begin is */
     JOYCE_LENGTH = 1,
     /* the sections end early, or bytes are left over */
     JOYCE_SECTIONS = 2,
@@ -233,6 +244,8 @@ enum joyce_result {
     JOYCE_ABSENT = 11,
     /* at some place of the text neither a symbol nor a comment begins; a constant or a comment that is not closed is none */
     JOYCE_NO_SYMBOL = 25,
+    /* the word to look at has not been given a value */
+    JOYCE_UNSET_WORD = 32,
     /* joyce_look found the word: this number plus the word, 0..65,535 */
     JOYCE_WORD = 65536,
     /* joyce_symbols split the text: this number (that of JOYCE_WORD, of another call) plus the number of its symbols, 0..65,535 */
@@ -256,7 +269,7 @@ enum joyce_answer {
     JOYCE_DIVISOR = 17,
     /* an index lies outside the bounds of its array */
     JOYCE_INDEX = 18,
-    /* a call or start through an empty reference */
+    /* a call or start through an empty reference; one that was never given a value is unset, and fails with JOYCE_UNSET */
     JOYCE_EMPTY = 19,
     /* a process was started twice */
     JOYCE_TWICE = 20,
@@ -267,7 +280,10 @@ enum joyce_answer {
     /* a transferred word is no value of the type */
     JOYCE_TRANSFER = 23,
     /* a create while 64 processes exist */
-    JOYCE_PROCESSES = 24
+    JOYCE_PROCESSES = 24,
+    /* a value is retrieved of which a word was never given one, or a call or start tests such a reference; never in a run that began with
+     * JOYCE_START_ZEROS */
+    JOYCE_UNSET = 31
 };
 
 /* The first answer by which a run fails. */
@@ -280,17 +296,20 @@ enum joyce_answer {
  */
 uint32_t joyce_check(const uint8_t *table, size_t table_len);
 
-/* Fills a state in which process 1 is started and stands at the first statement of block 0, and no other process is created.
+/* Fills a state in which process 1 is started and stands at the first statement of block 0, and no other process is created. number is
+ * JOYCE_START_UNSET or JOYCE_START_ZEROS, and holds for the whole run: the state keeps it.
  *
  * Returns, the first that applies:
- *     JOYCE_LENGTH   state_len is not JOYCE_STATE_SIZE
+ *     JOYCE_LENGTH   state_len is not JOYCE_STATE_SIZE, or number is neither 0 nor 1
  *     2..9           the verdict on the table
  *     JOYCE_OK
  *
- * Afterwards, on JOYCE_OK, all JOYCE_STATE_SIZE bytes are written, and do not depend on what they were before; all variables are 0, and all
- * references empty. On a refusal the state is as it was.
+ * Afterwards, on JOYCE_OK, all JOYCE_STATE_SIZE bytes are written, and do not depend on what they were before. With JOYCE_START_UNSET no variable
+ * has been given a value; with JOYCE_START_ZEROS all variables are 0, and all references empty. On a refusal the state is as it was.
+ *
+ * With either number, on one schedule and page, the answers are the same up to the first JOYCE_UNSET of the run that began unset.
  */
-uint32_t joyce_begin(const uint8_t *table, size_t table_len, uint8_t *state, size_t state_len);
+uint32_t joyce_begin(const uint8_t *table, size_t table_len, uint8_t *state, size_t state_len, uint32_t number);
 
 /* Makes one step for each byte of the schedule, in order. The byte is the number of the process that takes the turn, and may be any.
  *
@@ -324,11 +343,13 @@ uint32_t joyce_run(const uint8_t *table, size_t table_len, uint8_t *state, size_
  * simple variable has place 0 only, a record or an array its words in order.
  *
  * Returns, the first that applies:
- *     JOYCE_LENGTH   state_len is not JOYCE_STATE_SIZE
- *     2..9           the verdict on the table
- *     JOYCE_STATE    the state breaks the state rule for this table
- *     JOYCE_ABSENT   the process is not started (an ended one counts as started), the variable is not of its module, or the place lies outside it
- *     JOYCE_WORD + w where w, 0..65,535, is the word
+ *     JOYCE_LENGTH       state_len is not JOYCE_STATE_SIZE
+ *     2..9               the verdict on the table
+ *     JOYCE_STATE        the state breaks the state rule for this table
+ *     JOYCE_ABSENT       the process is not started (an ended one counts as started), the variable is not of its module, or the place lies
+ *                        outside it
+ *     JOYCE_UNSET_WORD   the word has not been given a value; other words of the variable do not matter
+ *     JOYCE_WORD + w     where w, 0..65,535, is the word
  *
  * process, variable and place may be any numbers. Writes nothing. It answers after a failed run as before.
  *

@@ -1,7 +1,7 @@
 """The five calls of libjoyce, from Python by ctypes. One file: copy it, or put its folder into PYTHONPATH.
 
     import joyce
-    run = joyce.Run(table)                  # bytes; joyce.Refused where begin refuses
+    run = joyce.Run(table)                  # bytes; joyce.Refused where begin refuses. Variables begin unset; number=1: as zeros
     answers = run.run([1, 1, 2])            # one step each
     run.look(1, 0)                          # process 1, variable 0, place 0
     run.put(-8192, 5); run.get(-2)          # device words
@@ -24,7 +24,7 @@ import struct
 import subprocess
 import tempfile
 
-STATE_SIZE, PAGE_SIZE, TABLE_MAX = 35328, 8192, 7657
+STATE_SIZE, PAGE_SIZE, TABLE_MAX = 37376, 8192, 7657
 TEXT_MAX, SYMBOL_SIZE = 65535, 7
 ADDRESS_MIN, ADDRESS_MAX = -8192, -2
 WORD, SYMBOLS, FAILURE = 65536, 65536, 16
@@ -38,13 +38,14 @@ Unary = enum.IntEnum("Unary", "MINUS NOT VAL", start=1)
 Binary = enum.IntEnum("Binary", "EQUAL UNEQUAL LESS AT_MOST GREATER AT_LEAST ADD SUBTRACT MULTIPLY DIVIDE MOD AND OR", start=1)
 Statement = enum.IntEnum(
     "Statement", "SKIP ASSIGN CALL PROCESS_CALL CREATE START IF WHILE WHEN CYCLE ARM END WRITE BLOCK_END", start=0)
+Start = enum.IntEnum("Start", "UNSET ZEROS", start=0)
 Symbol = enum.IntEnum("Symbol", "SPECIAL WORD NAME NUMERAL CHARACTER STRING", start=1)
 Result = enum.IntEnum("Result", {
     "OK": 0, "LENGTH": 1, "SECTIONS": 2, "KINDS": 3, "NUMBERS": 4, "USES": 5, "NESTING": 6, "SIZES": 7, "SCOPES": 8, "TYPES": 9, "STATE": 10,
-    "ABSENT": 11, "NO_SYMBOL": 25})
+    "ABSENT": 11, "NO_SYMBOL": 25, "UNSET_WORD": 32})
 Answer = enum.IntEnum("Answer", {
     "DONE": 0, "WAITS": 1, "ENDED": 2, "NO_PROCESS": 3, "OVERFLOW": 16, "DIVISOR": 17, "INDEX": 18, "EMPTY": 19, "TWICE": 20,
-    "ADDRESS": 21, "AREA": 22, "TRANSFER": 23, "PROCESSES": 24})
+    "ADDRESS": 21, "AREA": 22, "TRANSFER": 23, "PROCESSES": 24, "UNSET": 31})
 
 # The sections of a table in order, each with the layout of an entry.
 SECTIONS = {"types": "<BBBHH", "fields": "<B", "variables": "<BB", "blocks": "<BBBBBBH", "arguments": "<B", "nodes": "<BBBH",
@@ -142,7 +143,7 @@ def _load():
 
 _library = _load()
 _slice = [ctypes.c_void_p, ctypes.c_size_t]
-for _name, _slices, _numbers in [("check", 1, 0), ("begin", 2, 0), ("run", 5, 0), ("look", 2, 3), ("symbols", 2, 0)]:
+for _name, _slices, _numbers in [("check", 1, 0), ("begin", 2, 1), ("run", 5, 0), ("look", 2, 3), ("symbols", 2, 0)]:
     _function = getattr(_library, f"joyce_{_name}")
     _function.argtypes = _slice * _slices + [ctypes.c_uint32] * _numbers
     _function.restype = ctypes.c_uint32
@@ -162,9 +163,9 @@ def check(table):
     return _library.joyce_check(*_lend(table))
 
 
-def begin(table, state):
-    """Fills the bytearray state; 0, or a refusal."""
-    return _library.joyce_begin(*_lend(table, state))
+def begin(table, state, number):
+    """Fills the bytearray state; 0, or a refusal. The number is one of Start."""
+    return _library.joyce_begin(*_lend(table, state), number)
 
 
 def run(table, state, page, schedule, answers):
@@ -198,12 +199,13 @@ def split(text):
 
 
 class Run:
-    """A run of a program: its table, state and page. Copy it to go on from there twice."""
+    """A run of a program: its table, state and page. Copy it to go on from there twice. The number, one of Start, says how variables begin; a
+    state that is given has its own."""
 
-    def __init__(self, table, state=None, page=None):
+    def __init__(self, table, state=None, page=None, number=Start.UNSET):
         self.table, self.page = bytes(table), bytearray(PAGE_SIZE if page is None else page)
         self.state = bytearray(STATE_SIZE if state is None else state)
-        refused = begin(self.table, self.state) if state is None else run(self.table, self.state, self.page, b"", bytearray())
+        refused = begin(self.table, self.state, number) if state is None else run(self.table, self.state, self.page, b"", bytearray())
         if refused:
             raise Refused(refused)
 
@@ -217,7 +219,7 @@ class Run:
         return bytes(answers)
 
     def look(self, process, variable, place=0):
-        """The word, as an integer."""
+        """The word, as an integer; Refused with Result.UNSET_WORD where it has no value."""
         word = look(self.table, self.state, process, variable, place)
         if word < WORD:
             raise Refused(word)

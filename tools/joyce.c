@@ -22,6 +22,7 @@ static const char usage[] =
     "options of run:\n"
     "  --times N            repeats the schedule N times\n"
     "  --skip N             begins after the first N turns of the schedule\n"
+    "  --zeros              begins with variables as zeros; else a variable has no value before it is given one\n"
     "  --state FILE         goes on from this state, not from the program's beginning\n"
     "  --page FILE          the device page before the first step, else all 0\n"
     "  --go-on              goes on after a failure; else the run ends there\n"
@@ -33,7 +34,7 @@ static const char usage[] =
     "  --save-state FILE    keeps the state afterwards\n"
     "  --save-page FILE     keeps the device page afterwards\n"
     "exit status: 0 done, 1 refused by the library, 2 a file or the command line, 3 the run failed, 4 the tool's explanation of a\n"
-    "table or a text is not the library's\n";
+    "table, a text or an answer 31 is not the library's\n";
 
 void print_usage(void)
 {

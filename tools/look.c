@@ -17,20 +17,31 @@ static uint32_t look_at(const struct program *p, const uint32_t number[3], bool 
         printf(found > JOYCE_INTEGER_MAX ? " (word %u)\n" : "\n", found);
     } else if (is_said)
         printf("refused with %u: %s\n", (unsigned)result, result_words(result));
+    else if (result == JOYCE_UNSET_WORD)
+        printf("process %u, variable %u, place %u: unset\n", (unsigned)number[0], (unsigned)number[1], (unsigned)number[2]);
     return result;
+}
+
+/* All words of a variable, unset ones too. */
+static int look_at_words(const struct program *p, uint32_t number[3])
+{
+    uint32_t result = look_at(p, number, false);
+    while (result >= JOYCE_WORD || result == JOYCE_UNSET_WORD) {
+        number[2]++;
+        result = look_at(p, number, false);
+    }
+    if (number[2] > 0)
+        return DONE;
+    look_at(p, number, true); /* says that there is no such word */
+    return REFUSED;
 }
 
 /* All words of a variable, or the one that is named. */
 static int look_at_variable(const struct program *p, uint32_t number[3], bool is_place_named)
 {
-    uint32_t result = look_at(p, number, true);
-    if (result < JOYCE_WORD)
-        return REFUSED;
-    while (!is_place_named && result >= JOYCE_WORD) {
-        number[2]++;
-        result = look_at(p, number, false);
-    }
-    return DONE;
+    if (!is_place_named)
+        return look_at_words(p, number);
+    return look_at(p, number, true) >= JOYCE_WORD ? DONE : REFUSED;
 }
 
 static int look_at_processes(const struct program *p, uint32_t process)
@@ -44,6 +55,8 @@ static int look_at_processes(const struct program *p, uint32_t process)
     }
     if (failure_of(state))
         printf("the run has failed, by %u: %s\n", failure_of(state), answer_words(failure_of(state)));
+    if (process == 0)
+        puts(begins_with_zeros(state) ? "variables begin as zeros" : "variables begin unset");
     for (unsigned i = 1; i <= created_of(state); i++)
         if (process == 0 || process == i)
             print_process(&view, i);

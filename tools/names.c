@@ -7,7 +7,7 @@ const char *result_words(uint32_t result)
 {
     switch (result) {
     case JOYCE_OK: return "accepted";
-    case JOYCE_LENGTH: return "a lent length is wrong";
+    case JOYCE_LENGTH: return "a lent length is wrong, or begin's number is neither 0 nor 1";
     case JOYCE_SECTIONS: return "the sections end early, or bytes are left over";
     case JOYCE_KINDS: return "an unknown kind, mode or operator, or an unused field that is not 0";
     case JOYCE_NUMBERS: return "a number out of range, of the wrong sort or out of order";
@@ -19,6 +19,7 @@ const char *result_words(uint32_t result)
     case JOYCE_STATE: return "the state is no state of this program";
     case JOYCE_ABSENT: return "no such word: the process is not started, the variable is not of its module, or the place lies outside it";
     case JOYCE_NO_SYMBOL: return "at some place of the text neither a symbol nor a comment begins";
+    case JOYCE_UNSET_WORD: return "the word has not been given a value";
     default: return "no result of the library";
     }
 }
@@ -39,6 +40,7 @@ const char *answer_words(unsigned answer)
     case JOYCE_AREA: return "failed: process area full";
     case JOYCE_TRANSFER: return "failed: transferred word is no value of the type";
     case JOYCE_PROCESSES: return "failed: create while 64 processes exist";
+    case JOYCE_UNSET: return "failed: a variable is retrieved that has not been given a value";
     default: return "no answer of the library";
     }
 }
@@ -49,8 +51,10 @@ void print_numbers(void)
     for (uint32_t result = JOYCE_OK; result <= JOYCE_ABSENT; result++)
         printf("  %2u  %s\n", (unsigned)result, result_words(result));
     printf("  %2u  %s\n", JOYCE_NO_SYMBOL, result_words(JOYCE_NO_SYMBOL));
+    printf("  %2u  %s\n", JOYCE_UNSET_WORD, result_words(JOYCE_UNSET_WORD));
     puts("answers of steps");
     for (unsigned answer = JOYCE_DONE; answer <= JOYCE_PROCESSES; answer++)
         if (answer <= JOYCE_NO_PROCESS || answer >= JOYCE_FAILURE)
             printf("  %2u  %s\n", answer, answer_words(answer));
+    printf("  %2u  %s\n", JOYCE_UNSET, answer_words(JOYCE_UNSET));
 }

@@ -4,7 +4,7 @@
 
 #include <stdint.h>
 
-/* a result of a call, 0..11 or 25 */
+/* a result of a call: 0..11, 25, 32 */
 const char *result_words(uint32_t result);
 
 /* the answer of a step */

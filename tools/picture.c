@@ -21,6 +21,7 @@ struct picture {
     bool has_lane[PROCESSES];
     uint64_t failed_at; /* the step of the picture that failed, from 1; 0 for none */
     unsigned failed_process, failure;
+    const char *why; /* or null */
     uint32_t counts[PROCESSES][COLUMNS_MAX][SORTS];
 };
 
@@ -76,8 +77,9 @@ void picture_step(struct picture *p, unsigned process, unsigned answer)
     p->done++;
 }
 
-void picture_failure(struct picture *p, unsigned process, unsigned answer)
+void picture_failure(struct picture *p, unsigned process, unsigned answer, const char *why)
 {
+    p->why = why;
     p->failed_at = p->done;
     p->failed_process = process;
     p->failure = answer;
@@ -255,6 +257,10 @@ static void draw_failure(const struct picture *p, FILE *file, int y)
     fprintf(file, "<text x=\"%d\" y=\"%d\" fill=\"#7f1d1d\">step %llu, process %u: %u, ", LEFT, y + 42,
             (unsigned long long)(p->before + p->failed_at), p->failed_process, p->failure);
     put_escaped(file, answer_words(p->failure));
+    if (p->why) {
+        fputs(": ", file);
+        put_escaped(file, p->why);
+    }
     fprintf(file, "</text>\n");
 }
 

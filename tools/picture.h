@@ -11,8 +11,8 @@ struct picture;
 struct picture *picture_new(uint64_t before);
 void picture_step(struct picture *picture, unsigned process, unsigned answer);
 
-/* Marks the last step as the one at which the run failed. */
-void picture_failure(struct picture *picture, unsigned process, unsigned answer);
+/* Marks the last step as the one at which the run failed; `why` says more, or is null. It is kept, not copied. */
+void picture_failure(struct picture *picture, unsigned process, unsigned answer, const char *why);
 
 /* The name of a process; kept, not copied. */
 void picture_name(struct picture *picture, unsigned process, const char *name);

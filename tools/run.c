@@ -4,6 +4,7 @@
 #include "joyce.h"
 #include "names.h"
 #include "picture.h"
+#include "unset.h"
 #include "view.h"
 
 #include <errno.h>
@@ -20,7 +21,7 @@ enum { PIECE = 65536, PROCESSES = 256, SORTS = 5 };
 struct options {
     const char *table, *schedule, *state, *page, *picture, *save_state, *save_page, *names, *breakpoint;
     uint64_t times, skip, from, to;
-    bool is_listed, is_traced, goes_on;
+    bool is_listed, is_traced, goes_on, begins_with_zeros;
     unsigned break_process, break_statement;
 };
 
@@ -50,12 +51,14 @@ static struct options read_options(int count, char **words)
         {.name = "--break", .text = &o.breakpoint}, {.name = "--times", .number = &o.times, .limit = UINT32_MAX},
         {.name = "--skip", .number = &o.skip, .limit = INT64_MAX}, {.name = "--from", .number = &o.from, .limit = INT64_MAX},
         {.name = "--to", .number = &o.to, .limit = INT64_MAX}, {.name = "--list", .flag = &o.is_listed}, {.name = "--trace", .flag = &o.is_traced},
-        {.name = "--go-on", .flag = &o.goes_on}};
+        {.name = "--go-on", .flag = &o.goes_on}, {.name = "--zeros", .flag = &o.begins_with_zeros}};
     if (take_options("run", count, words, options, sizeof options / sizeof *options) != 2)
         stop("run: a table and a schedule are needed; see joyce run --help");
     o.table = words[0];
     o.schedule = words[1];
     read_breakpoint(&o);
+    if (o.state && o.begins_with_zeros)
+        stop("run: --zeros is for a run from the program's beginning; the state has it from there");
     if (o.from < 1 || o.from > o.to)
         stop("run: steps are numbered from 1 on, and --from is not above --to");
     return o;
@@ -73,6 +76,7 @@ struct run {
     unsigned failed_before;          /* the number by which the run had failed before, or 0 */
     uint64_t failed_at;
     unsigned failed_process, failure;
+    char *unset;                     /* where it failed with 31: what has no value; null where the tool does not find it */
     bool is_broken_off;              /* at the breakpoint */
     struct picture *picture;
     struct view view;
@@ -87,8 +91,9 @@ static uint32_t make_steps(struct run *r, const uint8_t *turns, uint8_t *answers
 static int prepare_state(struct run *r)
 {
     static uint8_t none[1];
+    uint32_t number = r->o.begins_with_zeros ? JOYCE_START_ZEROS : JOYCE_START_UNSET;
     if (!r->o.state)
-        return joyce_begin(r->p.bytes.at, r->p.bytes.length, r->state, sizeof r->state) == JOYCE_OK ? DONE : REFUSED;
+        return joyce_begin(r->p.bytes.at, r->p.bytes.length, r->state, sizeof r->state, number) == JOYCE_OK ? DONE : REFUSED;
     read_exactly(r->o.state, r->state, sizeof r->state, "a state");
     uint32_t result = make_steps(r, none, none, 0);
     if (result != JOYCE_OK) {
@@ -179,13 +184,32 @@ static void trace_before(struct run *r, unsigned process)
     write_statement(&r->view.text, (int)record.statement);
 }
 
+/* What was retrieved unset, in words. A step that fails changes nothing, so that the state is still the one before it. */
+static char *unset_words(struct run *r, unsigned process)
+{
+    char *words = NULL;
+    size_t length;
+    FILE *out = open_memstream(&words, &length);
+    if (!out)
+        stop("no memory");
+    r->view.text.out = out;
+    bool is_found = write_unset(&r->view, r->page, process);
+    r->view.text.out = stdout;
+    fclose(out);
+    if (is_found)
+        return words;
+    free(words);
+    return NULL;
+}
+
 static void note_failure(struct run *r, unsigned process, unsigned answer)
 {
     r->failed_at = r->done;
     r->failed_process = process;
     r->failure = answer;
+    r->unset = answer == JOYCE_UNSET ? unset_words(r, process) : NULL;
     if (r->picture && is_in_range(r, r->done))
-        picture_failure(r->picture, process, answer);
+        picture_failure(r->picture, process, answer, r->unset);
 }
 
 static void note_step(struct run *r, unsigned process, unsigned answer)
@@ -313,6 +337,8 @@ static void print_ending(struct run *r)
     if (r->failed_at) {
         printf("the run failed at step %llu, process %u: %u, %s\n", (unsigned long long)r->failed_at, r->failed_process, r->failure,
                answer_words(r->failure));
+        if (r->unset)
+            printf("  %s\n", r->unset);
         print_process(&r->view, r->failed_process);
     }
     if (r->is_broken_off) {
@@ -359,7 +385,12 @@ int run_command(int count, char **words)
         print_ending(&r);
         save(&r);
         status = r.failed_at || r.failed_before ? FAILED : DONE;
+        if (r.failed_at && r.failure == JOYCE_UNSET && !r.unset) {
+            complain("the library says 31, and the tool finds no word there without a value: one of them is wrong. Please report it, with the files.");
+            status = CONTRADICTED;
+        }
     }
+    free(r.unset);
     picture_free(r.picture);
     close_program(&r.p);
     free(r.schedule.at);

@@ -3,12 +3,18 @@
 
 #include <string.h>
 
-enum { AREA = 256, RECORDS = 64 * AREA, RECORD_WORDS = 20, CREATED_WORD = 8, FAILURE_WORD = 9 };
+enum { AREA = 256, RECORDS = 64 * AREA, RECORD_WORDS = 20, CREATED_WORD = 8, FAILURE_WORD = 9, NUMBER_WORD = 10 };
+enum { MARKS = 2 * (RECORDS + 64 * RECORD_WORDS) }; /* the byte of the first mark */
 enum { CALLER_FRAME, CALL_STATEMENT, CALLER_WORKS, CALLED_BLOCK, LINKS };
 
-static unsigned word(const uint8_t *state, unsigned i)
+unsigned state_word(const uint8_t *state, unsigned i)
 {
     return state[2 * i] + 256u * state[2 * i + 1];
+}
+
+bool is_marked(const uint8_t *state, unsigned location)
+{
+    return state[MARKS + location / 8] >> location % 8 & 1;
 }
 
 static int at(const struct view *v, int section, unsigned entry, int field)
@@ -18,25 +24,30 @@ static int at(const struct view *v, int section, unsigned entry, int field)
 
 unsigned created_of(const uint8_t *state)
 {
-    return word(state, RECORDS + CREATED_WORD);
+    return state_word(state, RECORDS + CREATED_WORD);
 }
 
 unsigned failure_of(const uint8_t *state)
 {
-    return word(state, RECORDS + FAILURE_WORD);
+    return state_word(state, RECORDS + FAILURE_WORD);
+}
+
+bool begins_with_zeros(const uint8_t *state)
+{
+    return state_word(state, RECORDS + NUMBER_WORD) == 1;
 }
 
 struct record record_of(const uint8_t *state, unsigned process)
 {
     unsigned r = RECORDS + (process - 1) * RECORD_WORDS;
-    return (struct record){word(state, r),     word(state, r + 1), word(state, r + 2), word(state, r + 3),
-                           word(state, r + 4), word(state, r + 5), word(state, r + 6), word(state, r + 7)};
+    return (struct record){state_word(state, r),     state_word(state, r + 1), state_word(state, r + 2), state_word(state, r + 3),
+                           state_word(state, r + 4), state_word(state, r + 5), state_word(state, r + 6), state_word(state, r + 7)};
 }
 
 unsigned block_of(const uint8_t *state, unsigned process)
 {
     struct record r = record_of(state, process);
-    return r.status == STARTED && r.depth > 0 ? word(state, (process - 1) * AREA + r.frame + CALLED_BLOCK) : r.module;
+    return r.status == STARTED && r.depth > 0 ? state_word(state, (process - 1) * AREA + r.frame + CALLED_BLOCK) : r.module;
 }
 
 void view_prepare(struct view *v, const struct text *text, const uint8_t *state)
@@ -59,6 +70,15 @@ void view_prepare(struct view *v, const struct text *text, const uint8_t *state)
 
 static void print_value(struct view *v, unsigned location, unsigned type);
 
+/* How many of the words from a location on have been given a value. */
+static unsigned marked_words(const struct view *v, unsigned location, unsigned words)
+{
+    unsigned marked = 0;
+    for (unsigned i = 0; i < words; i++)
+        marked += is_marked(v->state, location + i);
+    return marked;
+}
+
 static void print_record(struct view *v, unsigned location, unsigned type)
 {
     unsigned first = (unsigned)at(v, TYPES, type - DECLARED, T_P), fields = (unsigned)at(v, TYPES, type - DECLARED, T_Q);
@@ -78,7 +98,7 @@ static void print_characters(struct view *v, unsigned location, unsigned count)
 {
     fputc('\'', v->text.out);
     for (unsigned i = 0; i < count; i++) {
-        unsigned c = word(v->state, location + i);
+        unsigned c = state_word(v->state, location + i);
         if (c >= 32 && c < 127 && c != '\'' && c != '@')
             fputc((int)c, v->text.out);
         else
@@ -91,7 +111,7 @@ static void print_array(struct view *v, unsigned location, unsigned type)
 {
     int low = at(v, TYPES, type - DECLARED, T_LOW), high = at(v, TYPES, type - DECLARED, T_HIGH);
     unsigned element = (unsigned)at(v, TYPES, type - DECLARED, T_Q);
-    if (element == CHARACTER) {
+    if (element == CHARACTER && marked_words(v, location, v->words[type]) == v->words[type]) {
         print_characters(v, location, (unsigned)(high - low + 1));
         return;
     }
@@ -106,8 +126,10 @@ static void print_array(struct view *v, unsigned location, unsigned type)
 
 static void print_value(struct view *v, unsigned location, unsigned type)
 {
-    unsigned w = word(v->state, location);
-    if (type < DECLARED)
+    unsigned w = state_word(v->state, location);
+    if (marked_words(v, location, v->words[type]) == 0)
+        fputs("unset", v->text.out);
+    else if (type < DECLARED)
         write_constant(&v->text, (int)type, joyce_integer(w));
     else if (at(v, TYPES, type - DECLARED, T_KIND) == RECORD)
         print_record(v, location, type);
@@ -121,7 +143,7 @@ static void print_value(struct view *v, unsigned location, unsigned type)
 
 /* ---- variables */
 
-static unsigned variable_words(const struct view *v, unsigned variable)
+unsigned variable_words(const struct view *v, unsigned variable)
 {
     return at(v, VARIABLES, variable, V_MODE) == VAR_PARAMETER ? 1 : v->words[at(v, VARIABLES, variable, V_TYPE)];
 }
@@ -132,7 +154,7 @@ static void print_variables(struct view *v, unsigned block, unsigned location)
     unsigned first = (unsigned)at(v, BLOCKS, block, B_FIRST), count = (unsigned)at(v, BLOCKS, block, B_VARIABLES);
     for (unsigned variable = first; variable < first + count; variable++) {
         bool is_bound = at(v, VARIABLES, variable, V_MODE) == VAR_PARAMETER;
-        unsigned place = is_bound ? word(v->state, location) : location;
+        unsigned place = is_bound ? state_word(v->state, location) : location;
         fputs("    ", v->text.out);
         write_variable_name(&v->text, (int)variable);
         if (label_of(v->text.labels, VARIABLE_LABEL, (int)variable))
@@ -162,14 +184,14 @@ static void print_calls(struct view *v, unsigned process, struct record r)
     unsigned area = (process - 1) * AREA;
     for (; r.depth > 0; r.depth--) {
         unsigned frame = area + r.frame;
-        print_standing(v, word(v->state, frame + CALLED_BLOCK), r.statement);
+        print_standing(v, state_word(v->state, frame + CALLED_BLOCK), r.statement);
         if (r.works != process)
             fprintf(v->text.out, ", on the variables of process %u", r.works);
         fputc('\n', v->text.out);
-        print_variables(v, word(v->state, frame + CALLED_BLOCK), frame + LINKS);
-        r.statement = word(v->state, frame + CALL_STATEMENT);
-        r.works = word(v->state, frame + CALLER_WORKS);
-        r.frame = word(v->state, frame + CALLER_FRAME);
+        print_variables(v, state_word(v->state, frame + CALLED_BLOCK), frame + LINKS);
+        r.statement = state_word(v->state, frame + CALL_STATEMENT);
+        r.works = state_word(v->state, frame + CALLER_WORKS);
+        r.frame = state_word(v->state, frame + CALLER_FRAME);
     }
     print_standing(v, r.module, r.statement);
     fputc('\n', v->text.out);

@@ -21,10 +21,21 @@ struct view {
 /* Fills the words of types. */
 void view_prepare(struct view *v, const struct text *text, const uint8_t *state);
 
+unsigned state_word(const uint8_t *state, unsigned i);
+
+/* The word at a location, which is a word of an area, was given a value. */
+bool is_marked(const uint8_t *state, unsigned location);
+
+/* The words that a variable takes in its area or frame. */
+unsigned variable_words(const struct view *v, unsigned variable);
+
 unsigned created_of(const uint8_t *state);
 
 /* 0, or the number by which the run failed. */
 unsigned failure_of(const uint8_t *state);
+
+/* The run was begun with 1: its variables begin as zeros. */
+bool begins_with_zeros(const uint8_t *state);
 
 /* The record of a process that is created. */
 struct record record_of(const uint8_t *state, unsigned process);
