@@ -36,9 +36,9 @@ FORCE:
 
 TOOL = tools/joyce.c tools/tool.c tools/check.c tools/run.c tools/look.c tools/explain.c tools/explain_form.c tools/explain_numbers.c \
 	tools/explain_types.c tools/show.c tools/view.c tools/text.c tools/table.c tools/labels.c tools/names.c tools/picture.c tools/symbols.c \
-	tools/scan.c
+	tools/scan.c tools/unset.c
 TOOL_HEADERS = tools/tool.h tools/check.h tools/explain.h tools/judge.h tools/show.h tools/view.h tools/text.h tools/table.h tools/labels.h tools/names.h \
-	tools/picture.h tools/scan.h
+	tools/picture.h tools/scan.h tools/unset.h
 
 target/joyce: $(LIBRARY) $(TOOL) $(TOOL_HEADERS) include/joyce.h
 	$(C99) $(TOOL) $(LIBRARY) $(LDFLAGS) -o $@
