@@ -408,7 +408,7 @@ static bool odd_places(void)
         memset(page, 0, sizeof page);
         if (!begin(&even, board) || !run_turns(&even, turns + shift, 256, given))
             return false;
-        if (joyce_begin(table + shift, board.length, state + shift, JOYCE_STATE_SIZE) != JOYCE_OK ||
+        if (joyce_begin(table + shift, board.length, state + shift, JOYCE_STATE_SIZE, JOYCE_START_ZEROS) != JOYCE_OK ||
             joyce_run(table + shift, board.length, state + shift, JOYCE_STATE_SIZE, page + shift, JOYCE_PAGE_SIZE, turns + shift, 256,
                       answers + shift, 256) != JOYCE_OK)
             return bad("slices at %zu bytes from an even place are refused", shift);

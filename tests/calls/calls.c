@@ -22,6 +22,7 @@ int main(int argc, char **argv)
     edge_tests();
     state_tests();
     forged_tests();
+    unset_tests();
     story_tests();
     return failures > 0;
 }

@@ -45,7 +45,7 @@ static bool one_program(void)
         for (int k = 0; k < SLOTS; k++) {
             uint8_t answers[5] = {77, 77, 77, 77, 77};
             memset(&now, 170, sizeof now);
-            uint32_t begun = joyce_begin(slots[i].bytes, slots[i].length, now.state, sizeof now.state);
+            uint32_t begun = joyce_begin(slots[i].bytes, slots[i].length, now.state, sizeof now.state, JOYCE_START_UNSET);
             uint32_t ran = joyce_run(slots[k].bytes, slots[k].length, now.state, sizeof now.state, now.page, sizeof now.page, turns, 4, answers, 5);
             if (begun != JOYCE_OK || ran != JOYCE_OK)
                 return bad("slots %d and %d: begin returned %u, run %u", i, k, (unsigned)begun, (unsigned)ran);
@@ -67,7 +67,8 @@ static bool refusals_stay(void)
         const uint8_t *t = slots[i].bytes;
         size_t n = slots[i].length;
         uint8_t turn = 1, answer = 0;
-        if (joyce_begin(t, n, r.state, sizeof r.state - 1) != JOYCE_LENGTH || joyce_begin(t, n, r.state, sizeof r.state) != JOYCE_OK)
+        if (joyce_begin(t, n, r.state, sizeof r.state - 1, 0) != JOYCE_LENGTH || joyce_begin(t, n, r.state, sizeof r.state, 2) != JOYCE_LENGTH ||
+            joyce_begin(t, n, r.state, sizeof r.state, (uint32_t)i % 2) != JOYCE_OK)
             return bad("slot %d: begin", i);
         if (joyce_look(t, n, r.state, sizeof r.state, 1, 0, 0) != JOYCE_ABSENT)
             return bad("slot %d: look", i);
@@ -85,7 +86,7 @@ static bool no_byte_read(void)
     static const uint8_t turns[2] = {1, 1};
     uint8_t answers[2];
     r.table = slots[2];
-    if (joyce_begin(NULL, 0, r.state, sizeof r.state) != JOYCE_OK)
+    if (joyce_begin(NULL, 0, r.state, sizeof r.state, JOYCE_START_UNSET) != JOYCE_OK)
         return bad("begin");
     struct lent lent = lend(&r, turns, 2, answers);
     return (call(CHECK, &lent, true) == JOYCE_OK && call(BEGIN, &lent, true) == JOYCE_OK && call(RUN, &lent, true) == JOYCE_OK &&

@@ -29,7 +29,7 @@ enum { MAIN, BUMP, STORE, ADD, PASS };                                   /* bloc
 enum { PROGRAM = 1, FIRST, SECOND, THIRD, OTHER };                       /* processes */
 enum { NEXT, N };                                                        /* words of a store's area */
 enum { Y = 4, FRAME = 5 };                                               /* of the program's: y, and the frame of its outermost call */
-enum { STATUS, MODULE, STATEMENT, FRAME_AT, TOP, WORKS, HOLDER, DEPTH }; /* words of a record */
+enum { STATUS, MODULE, STATEMENT, FRAME_AT, TOP, WORKS, HOLDER, DEPTH, NUMBER = 10 }; /* words of a record */
 enum { CREATED = 1, STARTED, ENDED };                                    /* status */
 
 static struct builder b;
@@ -197,7 +197,8 @@ static bool is_taken(const char *what)
     struct lent lent = lend(&forged, turns, sizeof turns, given);
     memcpy(state, forged.state, sizeof state);
     memcpy(page, forged.page, sizeof page);
-    if (call(LOOK, &lent, true) < JOYCE_WORD || call(RUN, &lent, true) != JOYCE_OK)
+    uint32_t looked = call(LOOK, &lent, true);
+    if ((looked < JOYCE_WORD && looked != JOYCE_UNSET_WORD) || call(RUN, &lent, true) != JOYCE_OK)
         return bad("refused: %s", what);
     if (plain_result(state, page, turns, answers) != JOYCE_OK)
         return bad("refused by the plain interpreter: %s", what);
@@ -372,6 +373,28 @@ static bool starting(void)
     return true;
 }
 
+/* ---- marks: the rule says nothing of them; the number that the run was begun with is 0 or 1 */
+
+static bool marking(void)
+{
+    seed = 31;
+    if (!reach(ADDING))
+        return false;
+    for (int round = 0; round < 400 / SHARE; round++) {
+        for (uint32_t changes = 1 + below(4); changes > 0; changes--)
+            change(17664 + 16 * below(OTHER) + below(below(2) ? 2 : 16), below(65536));
+        change(record(PROGRAM, NUMBER), below(2));
+        if (!is_taken("other marks"))
+            return false;
+    }
+    for (size_t number = 2; number < 65536; number = 2 * number + 1) {
+        change(record(PROGRAM, NUMBER), number);
+        if (!is_forged("begun with another number than 0 and 1"))
+            return false;
+    }
+    return true;
+}
+
 void forged_tests(void)
 {
     run_test("forged_holding", holding);
@@ -381,4 +404,5 @@ void forged_tests(void)
     run_test("forged_binding", binding);
     run_test("forged_working", working);
     run_test("forged_starting", starting);
+    run_test("forged_marking", marking);
 }

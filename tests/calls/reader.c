@@ -1,9 +1,10 @@
 #include "reader.h"
+#include "joyce.h"
 
 enum { TYPES, FIELDS, VARIABLES, BLOCKS };
 enum { RECORD = 1, ARRAY, PROCESS };
 enum { VAR_PARAMETER = 2 };
-enum { RECORDS = 16384, CREATED = RECORDS + 8 };
+enum { RECORDS = 16384, CREATED = RECORDS + 8, MARKS = RECORDS + 64 * 20 };
 
 static unsigned word(const uint8_t *bytes, size_t i)
 {
@@ -143,17 +144,22 @@ bool references_hold(const struct program *p, const uint8_t *state, unsigned *na
     return true;
 }
 
-long word_by_layout(const struct program *p, const uint8_t *state, uint32_t process, uint32_t variable, uint32_t place)
+bool is_marked(const uint8_t *state, size_t location)
+{
+    return word(state, MARKS + location / 16) >> location % 16 & 1u;
+}
+
+uint32_t look_by_layout(const struct program *p, const uint8_t *state, uint32_t process, uint32_t variable, uint32_t place)
 {
     if (process < 1 || process > word(state, CREATED) || word(state, record_of(process)) < 2)
-        return -1;
+        return JOYCE_ABSENT;
     int module = (int)word(state, record_of(process) + 1), first = first_variable(p, module);
     if (variable < (uint32_t)first || variable >= (uint32_t)(first + variable_count(p, module)))
-        return -1;
+        return JOYCE_ABSENT;
     if (place >= (uint32_t)p->words[variable_type(p, (int)variable)])
-        return -1;
+        return JOYCE_ABSENT;
     size_t at = (process - 1) * (size_t)256 + place;
     for (int i = first; i < (int)variable; i++)
         at += (size_t)p->words[variable_type(p, i)];
-    return (long)word(state, at);
+    return is_marked(state, at) ? JOYCE_WORD + word(state, at) : JOYCE_UNSET_WORD;
 }

@@ -24,7 +24,10 @@ int variable_type(const struct program *p, int variable);
  * process of its module. Counts the references that are not empty. */
 bool references_hold(const struct program *p, const uint8_t *state, unsigned *named);
 
-/* The word of a module variable by the layout; -1 where there is none. */
-long word_by_layout(const struct program *p, const uint8_t *state, uint32_t process, uint32_t variable, uint32_t place);
+/* What joyce_look returns, by the layout. */
+uint32_t look_by_layout(const struct program *p, const uint8_t *state, uint32_t process, uint32_t variable, uint32_t place);
+
+/* The mark of a location, which is a word of an area. */
+bool is_marked(const uint8_t *state, size_t location);
 
 #endif

@@ -14,7 +14,7 @@ static bool prepare(struct lent *lent)
         turns[i] = (uint8_t)(1 + i % 4);
         answers[i] = 0xee;
     }
-    if (!begin(&r, board) || !run_turns(&r, turns, 700, big))
+    if (!begin_with(&r, board, JOYCE_START_UNSET) || !run_turns(&r, turns, 700, big))
         return false;
     memset(big, 0x11, sizeof big);
     *lent = lend(&r, turns, 100, answers);
@@ -29,7 +29,7 @@ static void set(struct lent *lent, enum slice slice, const uint8_t *bytes, size_
 
 /* ---- 1: lengths */
 
-static const size_t wrong_states[] = {0, 1, 2, 35326, 35327, 35329, 35330, 65536};
+static const size_t wrong_states[] = {0, 1, 2, 35326, 35328, 35330, 37374, 37375, 37377, 37378, 65536}; /* 35,328: a state of version 1 */
 static const size_t wrong_pages[] = {0, 1, 8190, 8191, 8193, 8194, 16384, 65536};
 static const size_t wrong_answers[][2] = {{1, 0}, {2, 1}, {100, 99}, {4096, 4095}, {4096, 0}};
 
@@ -39,11 +39,47 @@ static bool state_lengths(void)
     if (!prepare(&lent))
         return false;
     for (size_t i = 0; i < sizeof wrong_states / sizeof *wrong_states; i++) {
+        lent.number = i % 2;
         set(&lent, STATE, big, wrong_states[i]);
         for (int which = BEGIN; which <= LOOK; which++)
             if (!is_refused((enum call)which, &lent, JOYCE_LENGTH))
                 return false;
     }
+    return true;
+}
+
+/* The beginning of a state that is fine, 35,328 bytes of it: what version 1 kept. */
+static bool version_1_states(void)
+{
+    struct lent lent;
+    if (!prepare(&lent) || call(RUN, &lent, true) != JOYCE_OK)
+        return bad("a state of this version is refused");
+    set(&lent, STATE, r.state, 35328);
+    return is_refused(BEGIN, &lent, JOYCE_LENGTH) && is_refused(RUN, &lent, JOYCE_LENGTH) && is_refused(LOOK, &lent, JOYCE_LENGTH);
+}
+
+/* Begin takes 0 and 1. The whole number counts, so that 256 and 65,536 are no 0; and it is judged before the table. */
+static bool begin_numbers(void)
+{
+    static const uint32_t wrong[] = {2, 3, 255, 256, 257, 65535, 65536, 65537, 0x7fffffff, 0x80000000u, 0x80000001u, 0xfffffffeu, 0xffffffffu};
+    struct lent lent, worse;
+    if (!prepare(&lent))
+        return false;
+    for (size_t i = 0; i < sizeof wrong / sizeof *wrong; i++) {
+        lent.number = wrong[i];
+        worse = lent;
+        if (!is_refused(BEGIN, &lent, JOYCE_LENGTH))
+            return bad("begin with the number %u", (unsigned)wrong[i]);
+        for (uint32_t verdict = JOYCE_SECTIONS; verdict <= JOYCE_TYPES; verdict++) {
+            struct table t = table_of(verdict, i);
+            set(&worse, TABLE, t.bytes, t.length);
+            if (!is_refused(BEGIN, &worse, JOYCE_LENGTH))
+                return bad("begin of a refused table with the number %u", (unsigned)wrong[i]);
+        }
+    }
+    for (lent.number = 0; lent.number <= 1; lent.number++)
+        if (call(BEGIN, &lent, true) != JOYCE_OK)
+            return bad("begin refuses the number %u", (unsigned)lent.number);
     return true;
 }
 
@@ -85,6 +121,7 @@ static bool refused_tables(void)
         for (size_t i = 0; i < 24; i++) {
             struct table t = table_of(verdict, i);
             set(&lent, TABLE, t.bytes, t.length);
+            lent.number = i % 2;
             for (int which = CHECK; which <= LOOK; which++)
                 if (!is_refused((enum call)which, &lent, verdict))
                     return false;
@@ -122,6 +159,12 @@ static const struct damage damages[] = {
     {"65 processes are created", 16384 + 8, 65},
     {"an unknown failure", 16384 + 9, 15},
     {"an unknown failure", 16384 + 9, 25},
+    {"an unknown failure", 16384 + 9, 30},
+    {"an unknown failure", 16384 + 9, 32},
+    {"an unknown failure", 16384 + 9, 31 + 256},
+    {"begun with 2", 16384 + 10, 2},
+    {"begun with 256", 16384 + 10, 256},
+    {"begun with 65,535", 16384 + 10, 65535},
     {"process 1 is not started", 16384, 1},
     {"an unknown status", 16384, 4},
     {"process 1 has another module", 16384 + 1, 1},
@@ -202,7 +245,7 @@ static bool unstarted_process(void)
 {
     static const uint8_t one[] = {1};
     struct lent lent;
-    if (!prepare(&lent) || !begin(&r, board) || !run_turns(&r, one, 1, answers))
+    if (!prepare(&lent) || !begin(&r, board) || !run_turns(&r, one, 1, answers)) /* with zeros: what is looked at has a value */
         return false;
     lent = lend(&r, turns, 0, answers);
     lent.process = 2;
@@ -252,7 +295,7 @@ static bool null_slices(void)
         return false;
     const uint8_t *t = board.bytes;
     size_t n = board.length;
-    bool is_so = joyce_begin(t, n, NULL, 0) == JOYCE_LENGTH && joyce_look(t, n, NULL, 0, 1, 0, 0) == JOYCE_LENGTH &&
+    bool is_so = joyce_begin(t, n, NULL, 0, JOYCE_START_UNSET) == JOYCE_LENGTH && joyce_look(t, n, NULL, 0, 1, 0, 0) == JOYCE_LENGTH &&
                  joyce_run(NULL, 0, NULL, 0, NULL, 0, NULL, 0, NULL, 0) == JOYCE_LENGTH &&
                  joyce_run(t, n, r.state, sizeof r.state, r.page, sizeof r.page, NULL, 0, NULL, 0) == JOYCE_OK;
     return is_so || bad("a call with a null slice");
@@ -261,6 +304,8 @@ static bool null_slices(void)
 void refusal_tests(void)
 {
     run_test("refusal_1_state", state_lengths);
+    run_test("refusal_1_version_1", version_1_states);
+    run_test("refusal_1_number", begin_numbers);
     run_test("refusal_1_page", page_lengths);
     run_test("refusal_1_answers", answer_lengths);
     run_test("refusals_2_to_9", refused_tables);

@@ -57,7 +57,7 @@ static bool anothers_state(void)
     refused = stepped = 0;
     for (int round = 0; round < 4000 / SHARE; round++) {
         struct table other = table_of(JOYCE_ACCEPTED, below(100000));
-        if (!begin(&r, table_of(JOYCE_ACCEPTED, below(100000))) || !advance(&r, below(60)))
+        if (!begin_with(&r, table_of(JOYCE_ACCEPTED, below(100000)), below(2)) || !advance(&r, below(60)))
             return false;
         odd_turns(turns);
         memset(answers, 0x5a, sizeof answers);
@@ -74,7 +74,12 @@ static bool anothers_state(void)
 static size_t telling_byte(void)
 {
     uint32_t process = below(below(3) ? 5 : 64);
-    return below(2) ? 32768 + 40 * process + below(20) : 512 * process + below(below(2) ? 24 : 512);
+    switch (below(5)) {
+    case 0: return 35328 + 32 * process + below(below(2) ? 4 : 32); /* marks */
+    case 1:
+    case 2: return 32768 + 40 * process + below(22);
+    default: return 512 * process + below(below(2) ? 24 : 512);
+    }
 }
 
 static bool flipped_bytes(void)
@@ -84,7 +89,7 @@ static bool flipped_bytes(void)
     seed = 1980;
     refused = stepped = 0;
     for (int round = 0; round < 6000 / SHARE; round++) {
-        if (!begin(&r, round % 3 ? table_of(JOYCE_ACCEPTED, below(100000)) : board) || !advance(&r, below(200)))
+        if (!begin_with(&r, round % 3 ? table_of(JOYCE_ACCEPTED, below(100000)) : board, below(2)) || !advance(&r, below(200)))
             return false;
         for (uint32_t flips = 1 + below(3); flips > 0; flips--)
             r.state[telling_byte()] ^= (uint8_t)(1u << below(8));
@@ -102,20 +107,22 @@ static bool looks_by_layout(void)
 {
     static struct run_state r;
     struct program program;
+    unsigned seen[3] = {0};
     seed = 11;
     for (int round = 0; round < 300 / SHARE; round++) {
-        if (!begin(&r, round % 10 ? table_of(JOYCE_ACCEPTED, below(100000)) : board) || !advance(&r, below(300)))
+        if (!begin_with(&r, round % 10 ? table_of(JOYCE_ACCEPTED, below(100000)) : board, below(2)) || !advance(&r, below(300)))
             return false;
         read_program(&program, r.table.bytes);
         for (int i = 0; i < 100; i++) {
             uint32_t process = below(6), variable = below(12), place = below(below(2) ? 2 : 12);
             uint32_t result = joyce_look(r.table.bytes, r.table.length, r.state, sizeof r.state, process, variable, place);
-            long word = word_by_layout(&program, r.state, process, variable, place);
-            if (result != (word < 0 ? (uint32_t)JOYCE_ABSENT : (uint32_t)(JOYCE_WORD + word)))
-                return bad("process %u, variable %u, place %u: %u, by the layout %ld", process, variable, place, (unsigned)result, word);
+            uint32_t expected = look_by_layout(&program, r.state, process, variable, place);
+            if (result != expected)
+                return bad("process %u, variable %u, place %u: %u, by the layout %u", process, variable, place, (unsigned)result, (unsigned)expected);
+            seen[result == JOYCE_ABSENT ? 0 : result == JOYCE_UNSET_WORD ? 1 : 2]++;
         }
     }
-    return true;
+    return (seen[0] && seen[1] && seen[2]) || bad("%u are absent, %u unset and %u words", seen[0], seen[1], seen[2]);
 }
 
 /* A state may be kept and put back: what follows is the same again. */
@@ -125,7 +132,7 @@ static bool kept_states(void)
     uint8_t turns[200], first[200], second[200];
     seed = 3;
     for (int round = 0; round < 300 / SHARE; round++) {
-        if (!begin(&r, table_of(JOYCE_ACCEPTED, below(100000))) || !advance(&r, below(100)))
+        if (!begin_with(&r, table_of(JOYCE_ACCEPTED, below(100000)), below(2)) || !advance(&r, below(100)))
             return false;
         again = r;
         for (size_t i = 0; i < sizeof turns; i++)
@@ -154,7 +161,7 @@ static void *play(void *argument)
     struct player *p = argument;
     for (int i = 0; i < FRAMES; i++)
         joyce_put(p->page, PAD_STRIP + 2 * i, i % 3);
-    if (joyce_begin(board.bytes, board.length, p->state, sizeof p->state) != JOYCE_OK)
+    if (joyce_begin(board.bytes, board.length, p->state, sizeof p->state, JOYCE_START_UNSET) != JOYCE_OK)
         return NULL;
     for (size_t at = 0; at < sizeof frames; at += FRAME_STEPS) {
         if (joyce_run(board.bytes, board.length, p->state, sizeof p->state, p->page, sizeof p->page, frames + at, FRAME_STEPS,

@@ -27,7 +27,7 @@ static bool start_film(struct film *film)
     build_board(bytes, sizeof bytes, &variables);
     frame_turns(turns, FRAMES);
     memset(film, 0, sizeof *film);
-    return begin(&film->run, board);
+    return begin_with(&film->run, board, JOYCE_START_UNSET);
 }
 
 static void hold(struct film *film, int frame, int buttons)
@@ -236,11 +236,11 @@ static uint8_t odd_turn(uint8_t last, uint32_t favour)
 }
 
 /* One order of turns, in calls of odd lengths; the rule is tried after each. */
-static bool try_order(struct run_state *r, const struct program *program, unsigned *named)
+static bool try_order(struct run_state *r, const struct program *program, uint32_t number, unsigned *named)
 {
     uint8_t schedule[64], answers[64], last = 1;
     uint32_t favour = 1 + below(14);
-    if (!begin(r, r->table))
+    if (!begin_with(r, r->table, number))
         return false;
     for (int call = 0; call < 24; call++) {
         size_t count = 1 + below(64);
@@ -257,7 +257,7 @@ static bool try_order(struct run_state *r, const struct program *program, unsign
     return true;
 }
 
-static bool references_of_their_module(struct table table, int orders)
+static bool references_of_their_module(struct table table, uint32_t number, int orders)
 {
     static struct run_state r;
     struct program program;
@@ -268,7 +268,7 @@ static bool references_of_their_module(struct table table, int orders)
     read_program(&program, table.bytes);
     for (int order = 0; order < orders; order++) {
         seed = (uint64_t)(order + 1) * 1000003u;
-        if (!try_order(&r, &program, &named))
+        if (!try_order(&r, &program, number, &named))
             return false;
     }
     return named > (unsigned)orders || bad("only %u references were met", named);
@@ -276,12 +276,12 @@ static bool references_of_their_module(struct table table, int orders)
 
 static bool odd_orders_of_the_chips(void)
 {
-    return references_of_their_module(board, 4000 / SHARE);
+    return references_of_their_module(board, JOYCE_START_UNSET, 4000 / SHARE);
 }
 
 static bool odd_orders_of_chips_that_hand_references_on(void)
 {
-    return references_of_their_module(reference_board(), 4000 / SHARE);
+    return references_of_their_module(reference_board(), JOYCE_START_ZEROS, 4000 / SHARE); /* it counts from 0 */
 }
 
 void story_tests(void)

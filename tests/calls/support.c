@@ -185,7 +185,7 @@ uint32_t call(enum call which, const struct lent *lent, bool at_end)
     }
     switch (which) {
     case CHECK: return joyce_check(at[TABLE], n[TABLE]);
-    case BEGIN: return joyce_begin(at[TABLE], n[TABLE], at[STATE], n[STATE]);
+    case BEGIN: return joyce_begin(at[TABLE], n[TABLE], at[STATE], n[STATE], lent->number);
     case RUN:
         return joyce_run(at[TABLE], n[TABLE], at[STATE], n[STATE], at[PAGE], n[PAGE], at[SCHEDULE], n[SCHEDULE], at[ANSWERS], n[ANSWERS]);
     default: return joyce_look(at[TABLE], n[TABLE], at[STATE], n[STATE], lent->process, lent->variable, lent->place);
@@ -228,10 +228,15 @@ bool is_refused(enum call which, const struct lent *lent, uint32_t refusal)
 
 bool begin(struct run_state *r, struct table table)
 {
+    return begin_with(r, table, JOYCE_START_ZEROS);
+}
+
+bool begin_with(struct run_state *r, struct table table, uint32_t number)
+{
     r->table = table;
     memset(r->page, 0, sizeof r->page);
     memset(r->state, FILL, sizeof r->state);
-    uint32_t result = joyce_begin(table.bytes, table.length, r->state, sizeof r->state);
+    uint32_t result = joyce_begin(table.bytes, table.length, r->state, sizeof r->state, number);
     return result == JOYCE_OK || bad("begin returned %u", (unsigned)result);
 }
 
@@ -248,12 +253,13 @@ struct lent lend(struct run_state *r, const uint8_t *schedule, size_t length, co
         .bytes = {r->table.bytes, r->state, r->page, schedule, answers},
         .lengths = {r->table.length, sizeof r->state, sizeof r->page, length, length},
         .process = 1,
+        .number = JOYCE_START_ZEROS,
     };
 }
 
 bool is_answer(unsigned answer)
 {
-    return answer <= JOYCE_NO_PROCESS || (answer >= JOYCE_FAILURE && answer <= JOYCE_PROCESSES);
+    return answer <= JOYCE_NO_PROCESS || (answer >= JOYCE_FAILURE && answer <= JOYCE_PROCESSES) || answer == JOYCE_UNSET;
 }
 
 bool advance(struct run_state *r, unsigned turns)

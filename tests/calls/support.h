@@ -47,7 +47,8 @@ enum slice { TABLE, STATE, PAGE, SCHEDULE, ANSWERS, SLICES };
 struct lent {
     const uint8_t *bytes[SLICES];
     size_t lengths[SLICES];
-    uint32_t process, variable, place;
+    uint32_t process, variable, place; /* of look */
+    uint32_t number;                   /* of begin */
 };
 
 /* Makes a call on copies of the slices. Each copy stands with its last byte before a page that may not be touched (or its first byte after
@@ -68,12 +69,13 @@ struct run_state {
     uint8_t state[JOYCE_STATE_SIZE], page[JOYCE_PAGE_SIZE];
 };
 
-bool begin(struct run_state *r, struct table table);
+bool begin(struct run_state *r, struct table table); /* with zeros, as in version 1 */
+bool begin_with(struct run_state *r, struct table table, uint32_t number);
 bool run_turns(struct run_state *r, const uint8_t *schedule, size_t length, uint8_t *answers);
 struct lent lend(struct run_state *r, const uint8_t *schedule, size_t length, const uint8_t *answers);
 bool is_answer(unsigned answer);
 
-/* A few states of a table: as begun (0), and after more and more turns, at random from the seed as it stands. */
+/* So many turns more, at random from the seed as it stands. */
 bool advance(struct run_state *r, unsigned turns);
 
 #endif

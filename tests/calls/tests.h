@@ -8,6 +8,7 @@ void empty_tests(void);   /* empty.c: zero bytes of table, an empty cartridge sl
 void edge_tests(void);    /* edges.c: the edges of 01, each by its numbers */
 void state_tests(void);   /* states.c: states that are stale or damaged, looks, threads */
 void forged_tests(void);  /* forged.c: states that no run reaches, each with one fact of the rule broken */
+void unset_tests(void);   /* unset.c: variables that begin unset, or as zeros */
 void story_tests(void);   /* stories.c: the three tests that a user asked for */
 
 #endif

@@ -80,7 +80,7 @@ bool begin_both(struct both *r, const uint8_t *table, size_t length)
         return bad("check refuses the table with %u", (unsigned)verdict);
     if (!find_copies(r))
         return false;
-    uint32_t ours = joyce_begin(table, length, r->state[OURS], STATE), plain = plain_begin(table, length, r->state[PLAIN_ONE], STATE);
+    uint32_t ours = joyce_begin(table, length, r->state[OURS], STATE, 1), plain = plain_begin(table, length, r->state[PLAIN_ONE], STATE, 1);
     if (ours || plain)
         return bad("begin returns %u, the plain one %u", (unsigned)ours, (unsigned)plain);
     return memcmp(r->state[OURS], r->state[PLAIN_ONE], STATE) == 0 || bad("the states differ at the beginning");

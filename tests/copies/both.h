@@ -13,7 +13,7 @@
 #define SHARE 1
 #endif
 
-enum { STATE = 35328, PAGE = 8192, AREA = 256, PROCESSES = 64, STATEMENTS = 256 };
+enum { STATE = 37376, PAGE = 8192, AREA = 256, PROCESSES = 64, STATEMENTS = 256 };
 enum { OURS, PLAIN_ONE, TWO };
 enum { ADVANCED, WAITS, HAS_ENDED, FAILED = 16 };
 
@@ -30,7 +30,7 @@ struct both {
 bool bad(const char *format, ...);
 extern char why[500];
 
-/* The table must be accepted. */
+/* The table must be accepted. It begins with zeros. */
 bool begin_both(struct both *r, const uint8_t *table, size_t length);
 
 bool step_both(struct both *r, int process);

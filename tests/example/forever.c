@@ -69,7 +69,7 @@ int main(int argc, char **argv)
     size_t length = build_board(table, sizeof table, &variables);
     long frames = argc > 1 ? atol(argv[1]) : 100000;
     frame_turns(schedule, 1);
-    if (joyce_begin(table, length, state, sizeof state) != JOYCE_OK)
+    if (joyce_begin(table, length, state, sizeof state, JOYCE_START_UNSET) != JOYCE_OK)
         return 1;
     for (long frame = 0; frame < frames; frame++) {
         int buttons = next_buttons();

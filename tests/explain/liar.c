@@ -1,9 +1,14 @@
 /* A library that refuses everything with the number REFUSAL, 4 if none is given: the tool must notice that its own explanation, of a table or a text,
- * is another. */
+ * is another. Where REFUSAL is 0 all steps answer ANSWER. */
 #include "joyce.h"
+
+#include <string.h>
 
 #ifndef REFUSAL
 #define REFUSAL JOYCE_NUMBERS
+#endif
+#ifndef ANSWER
+#define ANSWER JOYCE_DONE
 #endif
 
 uint32_t joyce_check(const uint8_t *table, size_t table_len)
@@ -12,16 +17,17 @@ uint32_t joyce_check(const uint8_t *table, size_t table_len)
     return REFUSAL;
 }
 
-uint32_t joyce_begin(const uint8_t *table, size_t table_len, uint8_t *state, size_t state_len)
+uint32_t joyce_begin(const uint8_t *table, size_t table_len, uint8_t *state, size_t state_len, uint32_t number)
 {
-    (void)state, (void)state_len;
+    (void)state, (void)state_len, (void)number;
     return joyce_check(table, table_len);
 }
 
 uint32_t joyce_run(const uint8_t *table, size_t table_len, uint8_t *state, size_t state_len, uint8_t *page, size_t page_len, const uint8_t *schedule,
                    size_t schedule_len, uint8_t *answers, size_t answers_len)
 {
-    (void)state, (void)state_len, (void)page, (void)page_len, (void)schedule, (void)schedule_len, (void)answers, (void)answers_len;
+    (void)state, (void)state_len, (void)page, (void)page_len, (void)schedule, (void)answers_len;
+    memset(answers, ANSWER, REFUSAL == 0 ? schedule_len : 0);
     return joyce_check(table, table_len);
 }
 

@@ -7,6 +7,7 @@
 
 static uint8_t table[JOYCE_TABLE_MAX], state[JOYCE_STATE_SIZE], page[JOYCE_PAGE_SIZE];
 static size_t length;
+static uint32_t start = JOYCE_START_UNSET;
 static int failures;
 
 static void report(const char *name, int is_right)
@@ -56,7 +57,7 @@ static int steps(const uint8_t *schedule, size_t count, const uint8_t *wanted)
 {
     uint8_t answers[64];
     int right = 0;
-    uint32_t refused = joyce_begin(table, length, state, sizeof state);
+    uint32_t refused = joyce_begin(table, length, state, sizeof state, start);
     memset(page, 0, sizeof page);
     if (refused == JOYCE_OK)
         refused = joyce_run(table, length, state, sizeof state, page, sizeof page, schedule, count, answers, count);
@@ -138,7 +139,7 @@ static void operators(void)
     right = gives(0);
     joyce_put(page, JOYCE_ADDRESS_MIN, 1979);
     static uint8_t answers[1];
-    joyce_begin(table, length, state, sizeof state);
+    joyce_begin(table, length, state, sizeof state, JOYCE_START_UNSET);
     joyce_run(table, length, state, sizeof state, page, sizeof page, turn, 1, answers, 1);
     report("val", right && joyce_get(page, -2) == 1979);
 
@@ -159,7 +160,9 @@ static void operators(void)
  *       begin open := true; cycle false do skip end end
  *     var s: server; r: row; n: integer
  *     procedure mark begin if n > 0 do write(-2, n) end end
- *     begin create s; start s(5); while n < 1 do n := n + 1 end; s.ask(r[2].v, n); n := r[2].v; mark; skip end */
+ *     begin create s; start s(5); while n < 1 do n := n + 1 end; s.ask(r[2].v, n); n := r[2].v; mark; skip end
+ *
+ * It counts from 0, and so begins with zeros. */
 
 enum { PAIR = JOYCE_DECLARED, ROW, SERVER };
 enum { TYPES_AT = 1, FIELDS_AT = TYPES_AT + 3 * 7 + 1, VARIABLES_AT = FIELDS_AT + 2 + 1, BLOCKS_AT = VARIABLES_AT + 7 * 2 + 1,
@@ -275,7 +278,10 @@ static void entries(void)
 {
     static const uint8_t turns[22] = {1, 1, 1, 1, 1, 1, 1, 2, 2, 1, 1, 1, 1, 1, 1, 1, 1, 1, 1, 1, 1, 1};
     static const uint8_t wanted[22] = {0, 0, 0, 0, 0, 0, JOYCE_WAITS, 0, JOYCE_WAITS, 0, 0, 0, 0, 0, 0, 0, 0, 0, 0, 0, 0, JOYCE_ENDED};
+    static const uint8_t unset[4] = {0, 0, JOYCE_UNSET, JOYCE_UNSET}; /* while n < 1 */
     whole_program();
+    report("unset", steps(turns, 4, unset) == 4 && joyce_look(table, length, state, sizeof state, 1, 2, 0) == JOYCE_UNSET_WORD);
+    start = JOYCE_START_ZEROS;
     report("every_kind", joyce_check(table, length) == JOYCE_ACCEPTED && steps(turns, 22, wanted) == 22 && joyce_get(page, -2) == 6);
     report("places", joyce_look(table, length, state, sizeof state, 1, 1, 3) == JOYCE_WORD + 6);
     report("no_type", unknown(TYPES_AT, JOYCE_TYPE_PROCESS + 1) && unknown(TYPES_AT, JOYCE_TYPE_RECORD - 1));

@@ -29,8 +29,16 @@ def numbers(text):
     return [int(word) for word in text.split()]
 
 
+def looked(run, *place):
+    """The word as the guide writes it."""
+    try:
+        return str(run.look(*place))
+    except joyce.Refused as refused:
+        return "unset" if refused.number == joyce.Result.UNSET_WORD else str(refused)
+
+
 def try_run(table, lines):
-    """Each line in order; the first is the verdict."""
+    """Each line in order; the first is the verdict. The run begins unset, unless a line begins it with another number."""
     run = None
     for line in lines:
         word, _, rest = line.partition(" ")
@@ -38,12 +46,14 @@ def try_run(table, lines):
         if word == "verdict":
             expect(joyce.check(table), int(rest), line)
             run = joyce.Run(table)
+        elif word == "begin":
+            run = joyce.Run(table, number=int(rest))
         elif word == "steps":
             before = run.copy()
             expect(list(run.run(numbers(left))), numbers(right), line)
             expect([before.run([p])[0] for p in numbers(left)], numbers(right), line + ", step by step")
         elif word == "look":
-            expect(run.look(*numbers(left)), int(right), line)
+            expect(looked(run, *numbers(left)), right, line)
         elif word == "word":
             expect(run.get(int(left)), int(right), line)
         elif word == "put":

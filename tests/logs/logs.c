@@ -1,15 +1,20 @@
 /* Replays step logs of an independent interpreter. A line 'ok NAME' or 'FAIL NAME: why' a test.
  *
- *     logs RUNS [EVERY]
+ *     logs zeros RUNS [EVERY]
+ *     logs numbered RUNS [EVERY]
+ *     logs begins BEGINS
  *
  * Where EVERY is given, only every so manyth record is replayed. RUNS holds records one after the other, each a program and a run of it. Words are two bytes, low first:
  *
  *     word L; L bytes of table
+ *     numbered: one byte, the number that the run is begun with, 0 or 1. The others are older, and begun with 1
  *     word number of calls; for each call
  *         word number of pokes; each: word byte position in the page, word value; they are done before the call
  *         word n; n bytes of schedule; n bytes of answers
  *         word number of device words that the call changed; each: word byte position, word value
- *     word number of looks after the last call; each: word process, word variable, word place, 4 bytes result
+ *     word number of looks after the last call; each: word process, word variable, word place (numbered: 4 bytes each), 4 bytes result
+ *
+ * and BEGINS, one after the other: word L; L bytes of table; 4 bytes each: a number, the length of the lent state, what begin returns.
  *
  * The calls are those of joyce.h or, built with -DPLAIN, those of bench/plain.h. */
 #include "plain.h"
@@ -23,12 +28,13 @@
 #include <stdlib.h>
 #include <string.h>
 
-enum { STATE = 35328, PAGE = 8192, LONGEST = 7657 }; /* the longest seven sections */
+enum { STATE = 37376, PAGE = 8192, LONGEST = 7657 }; /* the longest seven sections */
+enum { UNSET = 31, UNSET_WORD = 32 };
 
 struct calls {
     const char *name;
     uint32_t (*check)(const uint8_t *, size_t);
-    uint32_t (*begin)(const uint8_t *, size_t, uint8_t *, size_t);
+    uint32_t (*begin)(const uint8_t *, size_t, uint8_t *, size_t, uint32_t);
     uint32_t (*run)(const uint8_t *, size_t, uint8_t *, size_t, uint8_t *, size_t, const uint8_t *, size_t, uint8_t *, size_t);
     uint32_t (*look)(const uint8_t *, size_t, const uint8_t *, size_t, uint32_t, uint32_t, uint32_t);
 };
@@ -73,10 +79,14 @@ struct call {
     const uint8_t *poke, *schedule, *answer, *change;
 };
 
+enum { PROCESS, VARIABLE, PLACE, RESULT, LOOK };
+
 struct record {
     size_t length, calls, looks;
-    const uint8_t *table, *look;
+    uint32_t number; /* begin's */
+    const uint8_t *table;
     struct call *call;
+    uint32_t (*look)[LOOK];
 };
 
 static struct record *records;
@@ -105,6 +115,12 @@ static size_t take_word(struct reader *r)
     return word(take(r, 2));
 }
 
+static uint32_t take_long(struct reader *r)
+{
+    const uint8_t *p = take(r, 4);
+    return (uint32_t)(word(p) | word(p + 2) << 16);
+}
+
 static void *room(size_t n)
 {
     void *p = malloc(n ? n : 1);
@@ -128,40 +144,55 @@ static struct call read_call(struct reader *r)
     return c;
 }
 
-static struct record read_record(struct reader *r)
+static struct record read_record(struct reader *r, bool is_numbered)
 {
     struct record d;
     d.length = take_word(r);
     d.table = take(r, d.length);
+    d.number = is_numbered ? *take(r, 1) : 1;
     d.calls = take_word(r);
     d.call = room(d.calls * sizeof *d.call);
     for (size_t i = 0; i < d.calls; i++)
         d.call[i] = read_call(r);
     d.looks = take_word(r);
-    d.look = take(r, 10 * d.looks);
+    d.look = room(d.looks * sizeof *d.look);
+    for (size_t i = 0; i < d.looks; i++)
+        for (int k = 0; k < LOOK; k++)
+            d.look[i][k] = is_numbered || k == RESULT ? take_long(r) : (uint32_t)take_word(r);
     return d;
 }
 
-static bool load(const char *name, size_t every)
+static uint8_t *bytes; /* what the file holds: records point into it */
+
+static bool read_file(const char *name, struct reader *r)
 {
     FILE *file = fopen(name, "rb");
     if (!file || fseek(file, 0, SEEK_END))
         return false;
     size_t length = (size_t)ftell(file);
-    uint8_t *bytes = room(length);
+    bytes = room(length);
     rewind(file);
-    if (fread(bytes, 1, length, file) != length)
-        return false;
+    *r = (struct reader){bytes, bytes + length};
+    bool is_read = fread(bytes, 1, length, file) == length;
     fclose(file);
-    struct reader r = {bytes, bytes + length};
+    return is_read;
+}
+
+static bool load(const char *name, bool is_numbered, size_t every)
+{
+    struct reader r;
+    if (!read_file(name, &r))
+        return false;
     for (size_t i = 0; r.at < r.end; i++) {
         if ((count & (count + 1)) == 0 && !(records = realloc(records, (2 * count + 2) * sizeof *records)))
             return false;
-        records[count] = read_record(&r);
-        if (i % every == 0)
+        records[count] = read_record(&r, is_numbered);
+        if (i % every == 0) {
             count++;
-        else
+        } else {
             free(records[count].call);
+            free(records[count].look);
+        }
     }
     return count > 0;
 }
@@ -192,7 +223,7 @@ static bool begin(struct run *x, const struct record *d)
     uint32_t r = x->calls->check(d->table, d->length);
     if (r != 0)
         return bad("check returns %u", r);
-    r = x->calls->begin(d->table, d->length, x->state, STATE);
+    r = x->calls->begin(d->table, d->length, x->state, STATE, d->number);
     return r == 0 || bad("begin returns %u", r);
 }
 
@@ -240,12 +271,10 @@ static bool replay_call(struct run *x, const struct record *d, const struct call
 static bool replay_looks(const struct run *x, const struct record *d)
 {
     for (size_t i = 0; i < d->looks; i++) {
-        const uint8_t *p = d->look + 10 * i;
-        uint32_t expected = (uint32_t)(word(p + 6) | word(p + 8) << 16);
-        uint32_t process = (uint32_t)word(p), variable = (uint32_t)word(p + 2), place = (uint32_t)word(p + 4);
-        uint32_t r = x->calls->look(d->table, d->length, x->state, STATE, process, variable, place);
-        if (r != expected)
-            return bad("look at %u, %u, %u returns %u, not %u", process, variable, place, r, expected);
+        const uint32_t *p = d->look[i];
+        uint32_t r = x->calls->look(d->table, d->length, x->state, STATE, p[PROCESS], p[VARIABLE], p[PLACE]);
+        if (r != p[RESULT])
+            return bad("look at %u, %u, %u returns %u, not %u", p[PROCESS], p[VARIABLE], p[PLACE], r, p[RESULT]);
     }
     return true;
 }
@@ -275,6 +304,68 @@ static bool agree(void)
     }
     free_run(&x);
     return is_ok;
+}
+
+/* A record under either number: the answers are the same up to the first 31 of the run that begins unset, and 31 from there on; up to there the
+ * page is the same too, and so are the words that are looked at in the end, unless they are unset. Begun with 1 no step answers 31. */
+struct pair {
+    struct run zeros, unset;
+    bool has_failed; /* the one that began unset, with 31 */
+};
+
+static bool both_step(struct pair *x, const struct record *d, const uint8_t *process)
+{
+    uint8_t old, new;
+    uint32_t r = ours->run(d->table, d->length, x->zeros.state, STATE, x->zeros.page, PAGE, process, 1, &old, 1);
+    uint32_t s = ours->run(d->table, d->length, x->unset.state, STATE, x->unset.page, PAGE, process, 1, &new, 1);
+    if (r != 0 || s != 0)
+        return bad("run returns %u begun with 1, and %u begun with 0", r, s);
+    x->has_failed = x->has_failed || new == UNSET;
+    if (old == UNSET || new != (x->has_failed ? UNSET : old))
+        return bad("a step of process %u answers %u begun with 1, and %u begun with 0", *process, old, new);
+    return x->has_failed || memcmp(x->zeros.page, x->unset.page, PAGE) == 0 || bad("the pages differ after a step of process %u", *process);
+}
+
+static bool both_look(const struct pair *x, const struct record *d, const uint32_t *at)
+{
+    uint32_t r = ours->look(d->table, d->length, x->zeros.state, STATE, at[PROCESS], at[VARIABLE], at[PLACE]);
+    uint32_t s = ours->look(d->table, d->length, x->unset.state, STATE, at[PROCESS], at[VARIABLE], at[PLACE]);
+    if (r != UNSET_WORD && (s == r || (s == UNSET_WORD && r == 65536)))
+        return true;
+    return bad("look at %u, %u, %u returns %u begun with 1, and %u begun with 0", at[PROCESS], at[VARIABLE], at[PLACE], r, s);
+}
+
+static bool both_begin(struct pair *x, const struct record *d)
+{
+    struct record a = *d, b = *d;
+    bool is_ok;
+    a.number = 1;
+    b.number = 0;
+    x->has_failed = false;
+    is_ok = begin(&x->zeros, &a) && begin(&x->unset, &b);
+    for (size_t k = 0; is_ok && k < d->calls; k++) {
+        const struct call *c = &d->call[k];
+        put(x->zeros.page, c->poke, c->pokes);
+        put(x->unset.page, c->poke, c->pokes);
+        for (size_t i = 0; is_ok && i < c->steps; i++)
+            is_ok = both_step(x, d, c->schedule + i);
+    }
+    for (size_t i = 0; is_ok && i < d->looks && !x->has_failed; i++)
+        is_ok = both_look(x, d, d->look[i]);
+    return is_ok;
+}
+
+static bool either_number(size_t *unset_runs)
+{
+    struct pair x = {make_run(ours, 1), make_run(ours, 1), false};
+    bool is_ok = true;
+    for (size_t i = 0; is_ok && i < count; i++) {
+        is_ok = both_begin(&x, &records[i]) || in_record(i, 0);
+        *unset_runs += is_ok && x.has_failed;
+    }
+    free_run(&x.zeros);
+    free_run(&x.unset);
+    return is_ok && ((*unset_runs > 0 && *unset_runs < count) || bad("%zu of %zu runs fail with 31", *unset_runs, count));
 }
 
 /* Two runs of each record, which must leave the same states. */
@@ -382,10 +473,13 @@ static uint32_t run_lengths(size_t table, size_t state, size_t page, size_t sche
 
 static bool lengths_refused(size_t n)
 {
-    static const size_t states[] = {0, STATE - 1, STATE + 1}, pages[] = {0, PAGE - 1, PAGE + 1};
+    static const size_t states[] = {0, STATE - 1, STATE + 1, 35328}, pages[] = {0, PAGE - 1, PAGE + 1, STATE}; /* version 1's states too */
+    static const uint32_t wrong[] = {2, 256, 65536, UINT32_MAX};
     bool is_ok = true;
-    for (size_t i = 0; is_ok && i < 3; i++) {
-        is_ok = refused("begin of a wrong state", ours->begin(now.table, n, now.state, states[i]), 1)
+    for (size_t i = 0; is_ok && i < 4; i++) {
+        is_ok = refused("begin of a wrong state", ours->begin(now.table, n, now.state, states[i], (uint32_t)i % 2), 1)
+            && refused("begin with a wrong number", ours->begin(now.table, n, now.state, STATE, wrong[i]), 1)
+            && refused("begin of a wrong table with a wrong number", ours->begin(now.table, n + 1, now.state, STATE, wrong[i]), 1)
             && refused("look at a wrong state", ours->look(now.table, n, now.state, states[i], 1, 0, 0), 1)
             && refused("run of a wrong state", run_lengths(n, states[i], PAGE, ROOM, ROOM), 1)
             && refused("run with a wrong page", run_lengths(n, STATE, pages[i], ROOM, ROOM), 1)
@@ -401,7 +495,8 @@ static bool table_refused(size_t n)
     uint32_t verdict = ours->check(now.table, n);
     if (verdict == 0)
         return true;
-    return refused("begin", ours->begin(now.table, n, now.state, STATE), verdict)
+    return refused("begin", ours->begin(now.table, n, now.state, STATE, 0), verdict)
+        && refused("begin", ours->begin(now.table, n, now.state, STATE, 1), verdict)
         && refused("run", run_lengths(n, STATE, PAGE, ROOM, ROOM), verdict)
         && refused("run of nothing", run_lengths(n, STATE, PAGE, 0, 0), verdict)
         && refused("look", ours->look(now.table, n, now.state, STATE, 1, 0, 0), verdict);
@@ -493,11 +588,17 @@ static void set_word(size_t i, uint32_t new)
     now.state[2 * i + 1] = (uint8_t)(new >> 8);
 }
 
-/* A word that the state rule reads, as a rule. */
+/* A word that the state rule reads, as a rule, or marks of words in use. */
 static size_t pick_word(void)
 {
     size_t p = below((uint32_t)word_at(16384 + 8)), record = 16384 + 20 * p, top = word_at(record + 4);
-    return below(2) ? record + below(10) : 256 * p + below(top ? (uint32_t)top : 8);
+    size_t at = below(top ? (uint32_t)top : 8);
+    switch (below(5)) {
+    case 0:
+    case 1: return record + below(11);
+    case 2: return 17664 + 16 * p + at / 16;
+    default: return 256 * p + at;
+    }
 }
 
 static void damage(void)
@@ -585,14 +686,48 @@ static bool damaged(size_t *done, void (*how)(void))
     return is_ok && ((seen[0] > 0 && seen[1] > 0) || bad("%zu states meet the rule and %zu do not", seen[0], seen[1]));
 }
 
-int main(int argc, char **argv)
+/* ---- begins */
+
+/* The state is lent in as many bytes as the record says, full of others; a refusal changes none, and else all are written. */
+static bool begins_alike(struct reader *r, uint32_t *expected)
+{
+    size_t n = take_word(r);
+    const uint8_t *table = take(r, n);
+    uint32_t number = take_long(r), length = take_long(r);
+    *expected = take_long(r);
+    uint8_t *state = room(length), *again = room(length);
+    bool is_ok = true;
+    memset(state, 0xA5, length);
+    memset(again, 0x5A, length);
+    uint32_t got = ours->begin(table, n, state, length, number), second = ours->begin(table, n, again, length, number);
+    if (got != *expected || second != got)
+        is_ok = bad("begin with number %u and %u bytes of state returns %u, not %u", number, length, got, *expected);
+    for (uint32_t i = 0; is_ok && i < length; i++)
+        if (*expected == 0 ? state[i] != again[i] : state[i] != 0xA5 || again[i] != 0x5A)
+            is_ok = bad("byte %u of the state is %u and %u", i, state[i], again[i]);
+    free(state);
+    free(again);
+    return is_ok;
+}
+
+static bool begins(const char *name, size_t *done)
+{
+    struct reader r;
+    size_t seen[10] = {0};
+    if (!read_file(name, &r))
+        return bad("%s cannot be read", name);
+    for (; r.at < r.end; ++*done) {
+        uint32_t expected;
+        if (!begins_alike(&r, &expected))
+            return in_record(*done, 0);
+        seen[expected < 10 ? expected : 9]++;
+    }
+    return (seen[0] > 0 && seen[1] > 0 && *done > seen[0] + seen[1]) || bad("%zu done, %zu wrong, %zu begins", seen[0], seen[1], *done);
+}
+
+static void replay(void)
 {
     static const size_t cuts[] = {1, 2, 3, 5, 7, 11, 64};
-    size_t every = argc == 3 ? strtoul(argv[2], NULL, 10) : 1;
-    if (argc < 2 || argc > 3 || every == 0 || !load(argv[1], every)) {
-        fprintf(stderr, "usage: logs RUNS [EVERY]\n");
-        return 2;
-    }
     report("agree", agree(), count, "runs");
     size_t done = 0;
     bool is_ok;
@@ -611,11 +746,30 @@ int main(int argc, char **argv)
         is_ok = same_states(&plain, 1, &done);
         report("second_opinion", is_ok, done, "steps");
     }
+    done = 0;
+    is_ok = either_number(&done);
+    report("either_number", is_ok, done, "runs that fail with 31 where they begin unset");
     report("refusals", refusals(), count, "runs");
     done = 0;
     is_ok = damaged(&done, damage);
     report("damaged", is_ok, done, "states");
     is_ok = damaged(&done, forge);
     report("forged", is_ok, done, "states");
+}
+
+int main(int argc, char **argv)
+{
+    size_t every = argc == 4 ? strtoul(argv[3], NULL, 10) : 1;
+    bool is_numbered = argc > 1 && !strcmp(argv[1], "numbered"), is_runs = is_numbered || (argc > 1 && !strcmp(argv[1], "zeros"));
+    if (argc == 3 && !strcmp(argv[1], "begins")) {
+        size_t done = 0;
+        bool is_ok = begins(argv[2], &done);
+        report("begins", is_ok, done, "begins");
+    } else if (argc < 3 || argc > 4 || every == 0 || !is_runs || !load(argv[2], is_numbered, every)) {
+        fprintf(stderr, "usage: logs zeros|numbered RUNS [EVERY] | logs begins BEGINS\n");
+        return 2;
+    } else {
+        replay();
+    }
     return failures > 0;
 }

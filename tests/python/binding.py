@@ -40,7 +40,7 @@ def numbers():
     compared = 0
     for name, kind in [("standard", joyce.Standard), ("type", joyce.Type), ("mode", joyce.Mode), ("block", joyce.Block), ("node", joyce.Node),
                        ("unary", joyce.Unary), ("binary", joyce.Binary), ("statement", joyce.Statement), ("symbol", joyce.Symbol),
-                       ("result", joyce.Result), ("answer", joyce.Answer)]:
+                       ("start", joyce.Start), ("result", joyce.Result), ("answer", joyce.Answer)]:
         body = re.search(rf"enum joyce_{name} {{(.*?)}};", header, re.S)[1]
         listed = {n: int(v) for n, v in re.findall(rf"JOYCE_(?:{name.upper()}_)?(\w+) = (\d+)", body)}
         for other in ["ACCEPTED", "WORD", "SYMBOLS"] if name == "result" else []:
@@ -81,7 +81,7 @@ def tables_both_ways():
 def cut_anywhere():
     """One call and single steps leave the same; a copy goes on by itself."""
     table, schedule = pathlib.Path("bench/boards/calls.tab").read_bytes(), pathlib.Path("bench/boards/calls.sch").read_bytes()[:600]
-    once, single = joyce.Run(table), joyce.Run(table)
+    once, single = joyce.Run(table, number=1), joyce.Run(table, number=1)
     answers = once.run(schedule)
     assert b"".join(single.run([p]) for p in schedule) == answers
     assert single.state == once.state and single.page == once.page
@@ -90,23 +90,51 @@ def cut_anywhere():
     assert single.state == once.state != copy.state
 
 
-# The state of bench/boards/calls after 600 steps, as 1.0.0 left it, and what 600 more steps leave: answers, state and page. A release that cannot
-# read it needs another JOYCE_VERSION_MAJOR.
+# The state of bench/boards/calls after 600 steps, as 1.0.0 left it, and what 600 more steps leave in version 2: answers, state and page. A release
+# that cannot read the state that 2.0.0 makes of it needs another JOYCE_VERSION_MAJOR.
 STORED = (
     "eNrt3cFqhDAUBdBnNEZbcFEGZtH//8/GaLsojHZZyDkiIjwykquJ4yYpxpgixxwllljrTl9yvQPoVYrhzP/RRoIxUtIrPeX/Hfd2pB/JcNBV/mOd"
     "+1PLf58J6h0w6ZWe8hd33/nn+tZf2vNf6tOfI816paf855/5fznmgqJXesq/nP/5tzoOjPUs+QQAAAAAAAAAAAAAAAAAAAAAAAAAAAAAAAAAAAAA"
     "v+yLPa9tH9r5+rJuiPd2vF4xdl9PeqvHqa0lfF33WaveWnvDZd1Hay/X7S+/O8d8U3e0V6Lc1D3P61turu/R2ltf9h0AwH/yBWbDArY=")
-AFTER = "f301a12759460d7c45db618588f6d58a8bfc3e0f4b2799444bbbf7f1b73cea25"
+AFTER = "c6d9184a4d3914837ae7c113f5e4e63f3da9159ceff273995ece2a8bfa4929ae"
+
+
+def carried_over(state):
+    """A state of version 1 as one of version 2, by docs/ADOPT.md: it began with zeros, and all its words are marked."""
+    return state[:32788] + b"\1\0" + state[32790:] + b"\xff" * 2048
 
 
 @test
 def stored_state():
-    """A state that was stored by another release with the same major number is read, and goes on."""
+    """A state that was stored by another release with the same major number is read, and goes on; one of version 1 is refused, and can be carried
+    over: it is then the state that version 2 reaches."""
     table, schedule = pathlib.Path("bench/boards/calls.tab").read_bytes(), pathlib.Path("bench/boards/calls.sch").read_bytes()
-    run = joyce.Run(table, zlib.decompress(base64.b64decode(STORED)))
+    old = zlib.decompress(base64.b64decode(STORED))
+    assert len(old) == 35328 and refused(joyce.Run, table, old) == joyce.Result.LENGTH
+    reached = joyce.Run(table, number=joyce.Start.ZEROS)
+    reached.run(schedule[:600])
+    assert reached.state == carried_over(old)
+    run = joyce.Run(table, carried_over(old))
     answers = run.run(schedule[600:1200])
     assert hashlib.sha256(answers + run.state + run.page).hexdigest() == AFTER
-    assert re.search(r"#define JOYCE_VERSION_MAJOR 1$", pathlib.Path("include/joyce.h").read_text(encoding="utf-8"), re.M)
+    assert re.search(r"#define JOYCE_VERSION_MAJOR 2$", pathlib.Path("include/joyce.h").read_text(encoding="utf-8"), re.M)
+
+
+@test
+def start_values():
+    """n := n + 1: without a value, and from 0."""
+    table = joyce.pack(
+        variables=[(joyce.Mode.LOCAL, joyce.Standard.INTEGER)], blocks=[(0, 0, 0, 0, 1)],
+        nodes=[joyce.Node.WHOLE, joyce.Node.WHOLE, (joyce.Node.VALUE, 1), (0, 0, 0, 1), (joyce.Node.BINARY, 2, 3, joyce.Binary.ADD)],
+        statements=[(joyce.Statement.ASSIGN, 0, 4), joyce.Statement.BLOCK_END])
+    run = joyce.Run(table)
+    assert list(run.run([1, 2])) == [joyce.Answer.UNSET] * 2 and refused(run.look, 1, 0) == joyce.Result.UNSET_WORD
+    assert refused(run.look, 1, 1) == joyce.Result.ABSENT and str(joyce.Refused(32)) == "refused with 32: unset_word"
+    zeros = joyce.Run(table, number=joyce.Start.ZEROS)
+    assert zeros.look(1, 0) == 0 and list(zeros.run([1, 1])) == [0, 2] and zeros.look(1, 0) == 1
+    for number in [2, 256, 65536, 2**32 - 1]:
+        state = bytearray(b"?" * joyce.STATE_SIZE)
+        assert joyce.begin(table, state, number) == joyce.begin(b"?", state, number) == joyce.Result.LENGTH and state == b"?" * joyce.STATE_SIZE
 
 
 @test
@@ -134,8 +162,8 @@ def words():
 def refusals():
     """Wrong lengths, tables and states."""
     state, page = bytearray(joyce.STATE_SIZE), bytearray(joyce.PAGE_SIZE)
-    assert joyce.begin(SMALLEST, bytearray(5)) == joyce.Result.LENGTH
-    assert joyce.begin(SMALLEST, state) == 0 and any(state)
+    assert joyce.begin(SMALLEST, bytearray(5), 0) == joyce.Result.LENGTH
+    assert joyce.begin(SMALLEST, state, 0) == 0 and any(state)
     assert joyce.run(SMALLEST, state, page, b"\1\1", bytearray(1)) == joyce.Result.LENGTH
     assert joyce.look(SMALLEST, state, 1, 0, 0) == joyce.Result.ABSENT
     assert refused(joyce.Run, SMALLEST[:1]) == joyce.Result.SECTIONS
@@ -143,7 +171,7 @@ def refusals():
     assert refused(joyce.Run, SMALLEST, bytes(joyce.STATE_SIZE)) == joyce.Result.STATE
     assert str(joyce.Refused(10)) == "refused with 10: state"
     kept = bytes(state)
-    assert joyce.begin(SMALLEST, kept) == 0     # bytes are lent as a copy
+    assert joyce.begin(SMALLEST, kept, 0) == 0  # bytes are lent as a copy
     for error, sections in [(TypeError, {"type": []}), (ValueError, {"fields": [(0, 0)]})]:
         try:
             joyce.pack(**sections)

@@ -1,11 +1,14 @@
 /* States in words, against joyce_look:
  *
- *     views RUNS
+ *     views zeros RUNS
+ *     views numbered RUNS
  *
  * RUNS are step logs as tests/logs has them. After each call every process is printed, and each word of its module's simple variables is that of
- * joyce_look. Every statement that a process stands at is written too. A line 'ok tool/views' or 'FAIL tool/views: why'. */
+ * joyce_look. Every statement that a process stands at is written too. Where a step answers 31 the word that the tool names has no mark, and with
+ * all marks but that one the step answers 31 again. A line 'ok tool/views_FORMAT' or 'FAIL tool/views_FORMAT: why'. */
 #define _POSIX_C_SOURCE 200809L
 #include "joyce.h"
+#include "unset.h"
 #include "view.h"
 
 #include <stdlib.h>
@@ -15,7 +18,8 @@ struct reader {
     const uint8_t *at, *end;
 };
 
-static long compared, in_calls;
+static long compared, in_calls, unset_values, unset_steps;
+static const char *format;
 
 static unsigned take_word(struct reader *r)
 {
@@ -32,9 +36,12 @@ static const uint8_t *take(struct reader *r, size_t count)
 }
 
 /* The line of a simple variable of the process's module. */
-static void expected_line(char line[64], int variable, int type, int number)
+static void expected_line(char line[64], int variable, int type, uint32_t looked)
 {
-    if (type == BOOLEAN)
+    int number = joyce_integer(looked);
+    if (looked == JOYCE_UNSET_WORD)
+        snprintf(line, 64, "    v%d = unset\n", variable);
+    else if (type == BOOLEAN)
         snprintf(line, 64, "    v%d = %s\n", variable, number ? "true" : "false");
     else if (type == CHARACTER && number >= 32 && number < 127 && number != '\'' && number != '@')
         snprintf(line, 64, "    v%d = '%c'\n", variable, number);
@@ -48,12 +55,13 @@ static bool is_process_right(const struct table *t, const uint8_t *state, unsign
     for (int variable = 0; variable < t->count[VARIABLES]; variable++) {
         int type = get(t, VARIABLES, variable, V_TYPE);
         uint32_t word = joyce_look(t->bytes, t->length, state, JOYCE_STATE_SIZE, process, (uint32_t)variable, 0);
-        if (word < JOYCE_WORD || type >= DECLARED || get(t, VARIABLES, variable, V_MODE) == VAR_PARAMETER)
+        if ((word < JOYCE_WORD && word != JOYCE_UNSET_WORD) || type >= DECLARED || get(t, VARIABLES, variable, V_MODE) == VAR_PARAMETER)
             continue;
-        expected_line(line, variable, type, joyce_integer(word));
+        expected_line(line, variable, type, word);
         compared++;
+        unset_values += word == JOYCE_UNSET_WORD;
         if (!strstr(text, line)) {
-            printf("FAIL tool/views: no line '%s' in:\n%s", line, text);
+            printf("FAIL tool/views_%s: no line '%s' in:\n%s", format, line, text);
             return false;
         }
     }
@@ -81,17 +89,82 @@ static bool are_processes_right(const struct table *t, const uint8_t *state)
     return true;
 }
 
-/* One program and its run. */
-static bool replay(struct reader *r)
+/* ---- steps that answer 31 */
+
+enum { FAILURE_BYTE = 2 * (16384 + 9), MARKS = 35328 };
+
+/* The step again, from a state that has not failed, with all marks but that of one location; or with all, where it is none. */
+static unsigned answer_without(const struct table *t, const uint8_t *state, const uint8_t *page, uint8_t process, unsigned location)
 {
-    static uint8_t state[JOYCE_STATE_SIZE], page[JOYCE_PAGE_SIZE], answers[65536];
+    static uint8_t again[JOYCE_STATE_SIZE], again_page[JOYCE_PAGE_SIZE];
+    uint8_t answer = 0;
+    memcpy(again, state, sizeof again);
+    memcpy(again_page, page, sizeof again_page);
+    memset(again + FAILURE_BYTE, 0, 2);
+    memset(again + MARKS, 255, sizeof again - MARKS);
+    if (location < 16384)
+        again[MARKS + location / 8] ^= (uint8_t)(1 << location % 8);
+    uint32_t result = joyce_run(t->bytes, t->length, again, sizeof again, again_page, sizeof again_page, &process, 1, &answer, 1);
+    return result == JOYCE_OK ? answer : 255;
+}
+
+static bool is_unset_right(const struct table *t, const uint8_t *state, const uint8_t *page, uint8_t process)
+{
+    static struct view view;
+    char *text = NULL, *place;
+    size_t length = 0;
+    unsigned word, owner, location;
+    FILE *out = open_memstream(&text, &length);
+    if (!out)
+        return false;
+    view_prepare(&view, &(struct text){t, NULL, out, 0}, state);
+    bool is_found = write_unset(&view, page, process);
+    fclose(out);
+    place = strrchr(text, '(');
+    if (!is_found || !strstr(text, " has no value") || !place || sscanf(place, "(word %u of process %u)", &word, &owner) != 2) {
+        printf("FAIL tool/views_%s: a step answers 31, and the tool says '%s'\n", format, text);
+        return false;
+    }
+    location = (owner - 1) * 256 + word;
+    unsigned without = answer_without(t, state, page, process, location), with = answer_without(t, state, page, process, 16384);
+    bool is_right = without == JOYCE_UNSET && with != JOYCE_UNSET && with != 255 && !(state[MARKS + location / 8] >> location % 8 & 1);
+    if (!is_right)
+        printf("FAIL tool/views_%s: '%s', but without it the step answers %u, and with it %u\n", format, text, without, with);
+    free(text);
+    unset_steps++;
+    return is_right;
+}
+
+/* Each step by itself, until one answers 31. */
+static bool are_steps_right(const struct table *t, uint8_t *state, uint8_t *page, const uint8_t *schedule, const uint8_t *answers, unsigned count)
+{
+    bool has_failed = state[FAILURE_BYTE] != 0;
+    for (unsigned i = 0; i < count; i++) {
+        uint8_t answer = 255;
+        if (joyce_run(t->bytes, t->length, state, JOYCE_STATE_SIZE, page, JOYCE_PAGE_SIZE, schedule + i, 1, &answer, 1) != JOYCE_OK ||
+            answer != answers[i]) {
+            printf("FAIL tool/views_%s: a step answers %u, not %u\n", format, answer, answers[i]);
+            return false;
+        }
+        if (answer == JOYCE_UNSET && !has_failed && !is_unset_right(t, state, page, schedule[i]))
+            return false;
+        has_failed = answer >= JOYCE_FAILURE;
+    }
+    return true;
+}
+
+/* One program and its run. */
+static bool replay(struct reader *r, bool is_numbered)
+{
+    static uint8_t state[JOYCE_STATE_SIZE], page[JOYCE_PAGE_SIZE];
     struct table t;
     int broken;
     bool is_right = true;
     size_t length = take_word(r);
     const uint8_t *table = take(r, length);
+    uint32_t number = is_numbered ? *take(r, 1) : JOYCE_START_ZEROS;
     memset(page, 0, sizeof page);
-    if (!read_sections(&t, table, length, &broken) || joyce_begin(table, length, state, sizeof state) != JOYCE_OK)
+    if (!read_sections(&t, table, length, &broken) || joyce_begin(table, length, state, sizeof state, number) != JOYCE_OK)
         return false;
     for (unsigned calls = take_word(r); calls > 0; calls--) {
         for (unsigned pokes = take_word(r); pokes > 0; pokes--) {
@@ -99,33 +172,38 @@ static bool replay(struct reader *r)
             memcpy(page + place, take(r, 2), 2);
         }
         unsigned steps = take_word(r);
-        const uint8_t *schedule = take(r, steps);
-        take(r, steps);
+        const uint8_t *schedule = take(r, steps), *answers = take(r, steps);
         for (unsigned done = 0; is_right && done < steps; done += 64) { /* some states on the way too */
             unsigned count = steps - done < 64 ? steps - done : 64;
-            is_right = joyce_run(table, length, state, sizeof state, page, sizeof page, schedule + done, count, answers, count) == JOYCE_OK &&
-                       are_processes_right(&t, state);
+            is_right = are_steps_right(&t, state, page, schedule + done, answers + done, count) && are_processes_right(&t, state);
         }
         take(r, 4 * (size_t)take_word(r));
     }
-    take(r, 10 * (size_t)take_word(r));
+    take(r, (is_numbered ? 16 : 10) * (size_t)take_word(r));
     return is_right;
 }
 
 int main(int argc, char **argv)
 {
-    FILE *file = argc == 2 ? fopen(argv[1], "rb") : NULL;
+    FILE *file = argc == 3 ? fopen(argv[2], "rb") : NULL;
     static uint8_t bytes[1 << 22];
     long runs = 0;
     if (!file)
         return 2;
+    format = argv[1];
+    bool is_numbered = strcmp(format, "numbered") == 0;
     struct reader r = {bytes, bytes + fread(bytes, 1, sizeof bytes, file)};
     fclose(file);
     while (r.at < r.end) {
-        if (!replay(&r))
+        if (!replay(&r, is_numbered))
             return 1;
         runs++;
     }
-    printf("ok tool/views: %ld runs, %ld values, %ld processes in calls\n", runs, compared, in_calls);
-    return !(runs && compared && in_calls);
+    if (!runs || !compared || !in_calls || (is_numbered && (!unset_values || !unset_steps))) {
+        printf("FAIL tool/views_%s: %ld runs, %ld values, %ld unset, %ld steps\n", format, runs, compared, unset_values, unset_steps);
+        return 1;
+    }
+    printf("ok tool/views_%s: %ld runs, %ld values, %ld unset, %ld processes in calls, %ld steps that answer 31\n", format, runs, compared,
+           unset_values, in_calls, unset_steps);
+    return 0;
 }

@@ -17,6 +17,7 @@ THEOREMS = {
     "crates/nesting/proofs/Complete.antt": ["sound", "complete"],
     "crates/words/proofs/BitLaws.antt": ["and-bit", "or-bit", "not-word-bit"],
     "crates/sound/proofs/StepsDemand.antt": ["demand3"],
+    "crates/sound/proofs/TestedDemand.antt": ["tested-alike"],
     "crates/sound/proofs/CutsAgree.antt": ["cuts", "cuts-one-each", "cuts-anywhere"],
     "crates/sound/proofs/RefusalsHold.antt": ["results"],
     "crates/sound/proofs/StateRuleHolds.antt": ["state-rule"],
