@@ -5,7 +5,7 @@
  *     int program = add_program(&b);
  *     int n = add_local(&b, program, INTEGER);
  *     begin_body(&b, program);
- *     put_assign(&b, whole(&b, n), binary(&b, '+', value(&b, n), integer(&b, 1)));      n := n + 1
+ *     put_assign(&b, whole(&b, n), binary(&b, '+', integer(&b, 1), integer(&b, 2)));      n := 1 + 2
  *     end_body(&b);
  *     size_t length = finish_table(&b, bytes, sizeof bytes);
  *     if (length == 0)

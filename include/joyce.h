@@ -199,7 +199,7 @@ enum joyce_symbol {
 
 /* ---- How variables begin
  *
- * Each word of a variable has a mark, which says that it was given a value: by an assignment, by a create, or as a parameter. A program can
+ * Each word of a variable has a mark, which says that it was given a value: by an assignment, by a create, or as a value parameter. A program can
  * retrieve a value only if all its words are marked. The number that joyce_begin takes says how variables begin, in the whole run: those of block 0
  * there, those of a process when it is created, those of a procedure at each call. */
 enum joyce_start {
@@ -269,7 +269,8 @@ enum joyce_answer {
     JOYCE_DIVISOR = 17,
     /* an index lies outside the bounds of its array */
     JOYCE_INDEX = 18,
-    /* a call or start through an empty reference; one that was never given a value is unset, and fails with JOYCE_UNSET */
+    /* a call or start through an empty reference; in a run that began with JOYCE_START_UNSET, one that was never given a value fails with
+     * JOYCE_UNSET instead */
     JOYCE_EMPTY = 19,
     /* a process was started twice */
     JOYCE_TWICE = 20,

@@ -29,7 +29,7 @@
 #include <string.h>
 
 enum { STATE = 37376, PAGE = 8192, LONGEST = 7657 }; /* the longest seven sections */
-enum { UNSET = 31, UNSET_WORD = 32 };
+enum { EMPTY = 19, UNSET = 31, UNSET_WORD = 32 };
 
 struct calls {
     const char *name;
@@ -321,7 +321,7 @@ static bool both_step(struct pair *x, const struct record *d, const uint8_t *pro
     if (r != 0 || s != 0)
         return bad("run returns %u begun with 1, and %u begun with 0", r, s);
     x->has_failed = x->has_failed || new == UNSET;
-    if (old == UNSET || new != (x->has_failed ? UNSET : old))
+    if (old == UNSET || new == EMPTY || new != (x->has_failed ? UNSET : old))
         return bad("a step of process %u answers %u begun with 1, and %u begun with 0", *process, old, new);
     return x->has_failed || memcmp(x->zeros.page, x->unset.page, PAGE) == 0 || bad("the pages differ after a step of process %u", *process);
 }

@@ -102,7 +102,7 @@ module _ (T : Table) (m : Memory) where
   worksBy p d f w blockEnd = false
   worksBy p d f w noStatement = false
 
-  -- the words in use hold values of their types: the variables of process p's module, at the beginning of its area
+  -- the words in use hold values of their types, marked or not: the variables of process p's module, at the beginning of its area
   unfoldable pub moduleHolds : ℕ → ℕ → ℕ → Bool
   moduleHolds p b v = holds T m (varType T v) (location p (offsetOf T b v))
 

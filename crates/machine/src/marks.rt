@@ -9,7 +9,7 @@ ghost use Rattle.machine.specs.Marks.{bitOf, marked, setMarks, allMarked
 ghost use Rattle.machine.specs.MarkRuns.{maskOf, putRun, fullRun, Part};
 
 // The word where the marks begin.
-const MARKS: usize = 17664;
+pub const MARKS: usize = 17664;
 
 // Bits k .. k + c - 1.
 fn mask(k: usize, c: usize) -> u16

@@ -24,7 +24,7 @@ pub data Checked (v : ℕ) : Type 0 where
   accepts : v ≡ 0 → Checked v
   refuses : 2 ≤ v → v ≤ 9 → Checked v
 
--- ---- the rows, for a result r: are the lengths right, the verdict v on the table, does the state meet its rule
+-- ---- the rows, for a result r: are the lengths, and begin's number, right, the verdict v on the table, does the state meet its rule
 module _ (lengths : Bool) (v : ℕ) (state : Bool) where
   -- nothing is refused
   abbrev pub AllRight : Type 0

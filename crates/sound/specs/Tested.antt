@@ -1,5 +1,5 @@
 -- Trusted: public promises are said with these definitions.
--- A board tested under 0 behaves alike under 1 (02, g). Assumes nothing.
+-- A board tested under 0 gives the same answers and device words under 1 (02, g). Assumes nothing.
 use Prim.Native.Nat.{ℕ}
 use mathlib.Core.Path.{_≡_}
 use mathlib.Core.List.{List}

@@ -53,7 +53,7 @@ fn fill_marks(state: &mut [u8], w: u16)
 {
     let mut k: usize = 0;
     while k < 1024 {
-        machine::set_word(state, 17664 + k, w);
+        machine::set_word(state, machine::marks::MARKS + k, w);
         k += 1;
     }
 }
