@@ -56,8 +56,8 @@ pub record Fits (t : List ℕ) (c : Call) : Type 0 where
   pub same : c .result ≡ 0 → c .ask .table ≡ t
   pub bytes : Bytes (c .ask .page)
 
--- A LOG: joyce_begin, which returned 0, with its table, the slice lent to it, its number and the state in it afterwards; then any calls of joyce_run,
--- refused ones among them
+-- A LOG: joyce_begin, which returned 0, with its table, the slice lent to it, its number and the state in it afterwards; then any calls
+-- of joyce_run, refused ones among them
 pub record Log (w : ℕ) : Type 0 where
   pub table : List ℕ
   pub slice : List ℕ
@@ -118,7 +118,7 @@ pub record LogHolds (w : ℕ) (g : Log w) : Type 0 where
   pub number : run .number ≡ g .number
   pub lent : run .calls ≡ asks (g .calls)
   pub demand3 : Demand3 verdict w run
-  -- and one tested under 0 behaves alike under 1
+  -- and one tested under 0 gives the same answers and device words under 1
   pub tested : TestedAlike verdict w run
   -- which begins with the state that begin left, and has the steps that the calls made
   pub begins : first verdict w run ≡ g .state
@@ -128,8 +128,8 @@ pub record LogHolds (w : ℕ) (g : Log w) : Type 0 where
   pub answers : answers (made w (g .calls)) ≡ answered (g .calls)
   pub last : finally (g .state) (made w (g .calls)) ≡ leaves (g .state) (g .calls)
   pub calls : Each (CallHolds w (g .table)) (g .calls)
-  -- a log begun alike, with one table and one number, begins with the same state; as far as its calls name the same order and see the same device words, they give the same
-  -- answers, states and device words, wherever the calls of the two begin and end
+  -- a log begun alike, with one table and one number, begins with the same state; as far as its calls name the same order and see the same
+  -- device words, they give the same answers, states and device words, wherever the calls of the two begin and end
   pub alike : (k : Log w) → k .table ≡ g .table → k .number ≡ g .number → k .state ≡ g .state
   pub agrees : (k : Log w) → k .table ≡ g .table → k .number ≡ g .number → (n : ℕ) → take n (asked (made w (k .calls))) ≡ take n (asked (made w (g .calls)))
       → take n (told (made w (k .calls))) ≡ take n (told (made w (g .calls)))

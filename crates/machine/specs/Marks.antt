@@ -1,12 +1,13 @@
 -- Trusted: public promises are said with these definitions.
 -- The marks of a state (02, g): each location has one, which says that its word has been given a value. Sixteen stand in a word, from the
 -- word after the control records on: that of location a is bit a % 16 of word a / 16 of them. Assumes nothing.
-use Prim.Native.Nat.{ℕ, zero, suc, _+_, _-_, _*_, _/_, _%_, _^_}
+use Prim.Native.Nat.{ℕ, zero, suc, _+_, _-_, _*_, _/_, _%_, _^_, _<_}
+use mathlib.Core.Path.{_≡_}
 use mathlib.Core.Bool.{Bool, true}
 use lib.Dec.{eqb}
 use Rattle.basics.specs.Choice.{pick, both}
 use Rattle.machine.specs.Memory.{Memory, update}
-use Rattle.machine.specs.Layout.{plainWords, numberAt}
+use Rattle.machine.specs.Layout.{locations, plainWords, numberAt}
 
 -- ---- one word
 
@@ -44,7 +45,11 @@ unfoldable pub allMarked : Memory → ℕ → ℕ → Bool
 allMarked m a zero = true
 allMarked m a (suc n) = both (allMarked m a n) (marked m (a + n))
 
--- they have been given values
+-- every location is marked
+abbrev pub AllSet : Memory → Type 0
+AllSet m = (a : ℕ) → a < locations → marked m a ≡ true
+
+-- the n locations from a on have been given values
 abbrev pub mark : Memory → ℕ → ℕ → Memory
 mark m a n = setMarks m a n true
 

@@ -31,7 +31,8 @@ use Rattle.sound.proofs.HistoriesCreated.{CreatedIn, step-created, crea
 use Rattle.sound.proofs.HistoriesSized.{step-numbered}
 use Rattle.sound.proofs.HistoriesValues.{rule-values}
 use Rattle.sound.proofs.NumbersKept.{begin-set, row-set, look-set, NumberedIn, number-kept}
-use Rattle.sound.proofs.NumbersMarks.{AllSet, Numbered}
+use Rattle.machine.specs.Marks.{AllSet}
+use Rattle.sound.proofs.NumbersMarks.{Numbered}
 use Rattle.sound.proofs.OpenCallsKept.{step-calls}
 use Rattle.sound.proofs.OpenCallsListed.{calls-listed, calls-made, begin-none}
 use Rattle.sound.proofs.Ruled.{ruled}

@@ -13,7 +13,7 @@ use Rattle.table.specs.Entries.{varType, firstVar, vars}
 use Rattle.sizes.specs.Sizes.{wordsOf}
 use Rattle.machine.specs.Memory.{Memory, memoryOf, within, fill}
 use Rattle.machine.specs.Layout.{location, moduleAt, locations, plainWords, markWords}
-use Rattle.machine.specs.Marks.{markWord, marked, allMarked}
+use Rattle.machine.specs.Marks.{AllSet, markWord, marked, allMarked}
 use Rattle.machine.specs.Entries.{Statement}
 use Rattle.machine.specs.Variables.{offsetOf, belongs, fits}
 use Rattle.machine.specs.Context.{Context, contextOf}
@@ -29,7 +29,7 @@ use Rattle.sound.specs.Rows.{Row, row0, row1, row2, row3, row16}
 use Rattle.sound.specs.Ruled.{Ruled}
 use Rattle.sound.proofs.HistoriesOperands.{place-fits, place-area}
 use Rattle.sound.proofs.HistoriesRecords.{location-end}
-use Rattle.sound.proofs.NumbersMarks.{AllSet, Numbered, numbered, numbered-on}
+use Rattle.sound.proofs.NumbersMarks.{Numbered, numbered, numbered-on}
 use Rattle.sound.proofs.Ruled.{block-there, block-kind, in-created}
 use Rattle.sound.proofs.StoresBlocks.{module-plain, module-fits}
 use Rattle.sound.proofs.ValueBlocks.{variable-in, words-value}

@@ -9,17 +9,13 @@ use lib.ListN.{length}
 use borrow.Author.Tests.{eq-eqb}
 use Rattle.machine.specs.Memory.{Memory, update, store, clear}
 use Rattle.machine.specs.Layout.{location, recordAt, numberAt, locations, plainWords}
-use Rattle.machine.specs.Marks.{markWord, marked, setMarks, mark, fresh}
+use Rattle.machine.specs.Marks.{markWord, marked, AllSet, setMarks, mark, fresh}
 use Rattle.machine.specs.Calls.{standing}
 use Rattle.machine.specs.Processes.{created}
 use Rattle.machine.proofs.Memories.{update-other, store-above, clear-below, clear-above}
 use Rattle.machine.proofs.MarkLaws.{marks-kept, marks-word, marked-update, record-plain}
 use Rattle.sound.proofs.HistoriesRecords.{location-end, unlike-words}
 use Rattle.sound.proofs.StoresMemory.{record-high, store-record}
-
--- every location is marked
-abbrev pub AllSet : Memory → Type 0
-AllSet m = (a : ℕ) → a < locations → marked m a ≡ true
 
 -- s has the number of m, and where that is 1 and m has every mark, s has
 pub record Numbered (m s : Memory) : Type 0 where

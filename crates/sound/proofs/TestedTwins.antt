@@ -10,7 +10,7 @@ use borrow.Author.Tests.{eq-eqb}
 use Rattle.basics.specs.Choice.{pick}
 use Rattle.machine.specs.Memory.{Memory, update, store, clear, wordsAt}
 use Rattle.machine.specs.Layout.{plainWords, locations, location, recordAt, numberAt}
-use Rattle.machine.specs.Marks.{markWord, marked, setMarks, allMarked, fresh}
+use Rattle.machine.specs.Marks.{markWord, marked, AllSet, setMarks, allMarked, fresh}
 use Rattle.machine.specs.Calls.{standing}
 use Rattle.machine.proofs.Memories.{update-other, store-above, clear-above, clear-below}
 use Rattle.machine.proofs.MarkLaws.{marks-word, marks-kept, each-all}
@@ -19,7 +19,7 @@ use Rattle.sound.proofs.HistoriesRecords.{location-end}
 pub record Twin (m s : Memory) : Type 0 where
   pub plain : (i : ℕ) → i < plainWords → (i ≡ numberAt → ⊥) → s i ≡ m i
   pub number : s numberAt ≡ 1
-  pub set : (a : ℕ) → a < locations → marked s a ≡ true
+  pub set : AllSet s
 
 -- ---- indices
 

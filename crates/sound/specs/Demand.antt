@@ -7,8 +7,8 @@ use mathlib.Core.List.{List, [], _++_}
 use lib.ListN.{take}
 use Rattle.table.specs.Table.{Table, tableOf}
 use Rattle.machine.specs.Memory.{memoryOf}
-use Rattle.machine.specs.Layout.{locations, moduleAt, createdAt, failureAt, numberAt}
-use Rattle.machine.specs.Marks.{marked}
+use Rattle.machine.specs.Layout.{moduleAt, createdAt, failureAt, numberAt}
+use Rattle.machine.specs.Marks.{AllSet}
 use Rattle.machine.specs.Public.{look}
 use Rattle.machine.specs.Step.{done, step}
 use Rattle.machine.specs.Rule.{rule}
@@ -79,8 +79,7 @@ module _ (verdict : ℕ → List ℕ → ℕ) (w : ℕ) where
     -- the number that it was begun with stays. Begun with 1, every word is marked after any steps, es: no step answers 31 and no look 32
     -- (02, g)
     pub number : (es fs : List Seen) → es ++ fs ≡ steps verdict w h → memoryOf (finally (first verdict w h) es) numberAt ≡ h .number
-    pub set : h .number ≡ 1 → (es fs : List Seen) → es ++ fs ≡ steps verdict w h → (a : ℕ) → a < locations
-        → marked (memoryOf (finally (first verdict w h) es)) a ≡ true
+    pub set : h .number ≡ 1 → (es fs : List Seen) → es ++ fs ≡ steps verdict w h → AllSet (memoryOf (finally (first verdict w h) es))
     pub neverUnset : h .number ≡ 1 → Every (λ e. e .answer ≡ 31 → ⊥) (steps verdict w h)
     pub looks : h .number ≡ 1 → (es fs : List Seen) → es ++ fs ≡ steps verdict w h → (p v k : ℕ)
         → look (tableOf w (h .table)) (memoryOf (finally (first verdict w h) es)) p v k ≡ 32 → ⊥
