@@ -38,6 +38,8 @@ pub const BINARY: usize = 6;
 
 pub const TRANSFER: usize = 7;
 
+pub const STRING: usize = 8;
+
 // Statements.
 pub const SKIP: usize = 0;
 

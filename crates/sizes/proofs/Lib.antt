@@ -1,5 +1,6 @@
 pub mod Sums
 pub mod Counting
+pub mod Strings
 pub mod Judging
 pub mod Promise
 pub mod Examples

@@ -4,15 +4,15 @@ use mathlib.Core.Path.{_≡_, refl}
 use mathlib.Core.Bool.{Bool, true, false}
 use mathlib.Core.List.{List}
 use lib.ListN.{getD}
-use lib.Dec.{leb, ltb}
+use lib.Dec.{leb}
 use native.Mathlib.Omega.{arith}
-use borrow.Author.Tests.{le-leb, leb-true, eqb-true, ltb-false}
+use borrow.Author.Tests.{le-leb, leb-true, eqb-true}
 use Rattle.basics.specs.Choice.{pick}
-use Rattle.basics.specs.Cases.{cases}
 use Rattle.basics.proofs.Bools.{all-at, no-true}
 use Rattle.table.specs.Table.{Table}
-use Rattle.table.specs.Entries.{declared, typeCount, blockCount, typeKind, typeP, typeQ, typeLow, typeHigh, blockKind, vars}
+use Rattle.table.specs.Entries.{typeCount, blockCount, typeKind, typeP, typeQ, typeLow, typeHigh, blockKind, vars}
 use Rattle.types.specs.Match.{offset, span, elements, isString, inStandard}
+use Rattle.types.proofs.Matching.{declared-from}
 use Rattle.sizes.specs.Sizes.{wordsOf, offsetIn, boundsOk, evenString, typesSized, varOffset, moduleWords, blockSized, blocksSized, sized}
 use Rattle.sizes.specs.Kept.{kept, Sizes}
 use Rattle.sizes.proofs.Counting.{offset-in}
@@ -50,16 +50,9 @@ module _ (T : Table) (h : sized T ≡ true) where
 
   -- an array's bounds
   module _ (τ : ℕ) (l : τ < 3 + typeCount T) (k : typeKind T τ ≡ 2) where
-    declares : 3 ≤ τ
-    unfolding declared
-    declares =
-        cases (ltb τ 3)
-        (λ e. let q : 0 ≡ 2 = rw e at k in absurd (omega arith))
-        (λ e. ltb-false τ 3 e)
-
     in-order : pick (leb (offset (typeLow T τ)) (offset (typeHigh T τ))) (pick (inStandard (typeP T τ) (typeLow T τ)) (inStandard (typeP T τ) (typeHigh T τ)) false) false ≡ true
     unfolding boundsOk
-    in-order = rw k at (ok-bounds T τ (type-passes T types-pass τ declares l))
+    in-order = rw k at (ok-bounds T τ (type-passes T types-pass τ (declared-from T τ 2 k (omega arith)) l))
 
     in-type : pick (inStandard (typeP T τ) (typeLow T τ)) (inStandard (typeP T τ) (typeHigh T τ)) false ≡ true
     in-type = second (leb (offset (typeLow T τ)) (offset (typeHigh T τ))) _ in-order
@@ -79,7 +72,7 @@ module _ (T : Table) (h : sized T ≡ true) where
 
     pub string-even : typeQ T τ ≡ 2 → elements T τ % 2 ≡ 0
     unfolding evenString isString
-    string-even e = eqb-true (elements T τ % 2) 0 (rw (k, e) at (ok-even T τ (type-passes T types-pass τ declares l)))
+    string-even e = eqb-true (elements T τ % 2) 0 (rw (k, e) at (ok-even T τ (type-passes T types-pass τ (declared-from T τ 2 k (omega arith)) l)))
 
   -- what is kept of a field's place is all of it
   pub offset-exact : (τ i r : ℕ) → τ < 3 + typeCount T → typeKind T τ ≡ 1 → i ≤ typeQ T τ → r ≡ min (offsetIn T τ i) 201 → r ≡ offsetIn T τ i

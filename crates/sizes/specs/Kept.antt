@@ -1,5 +1,5 @@
 -- Inner: for code and proofs only; no public promise is said with these definitions.
--- The words of types as an array keeps them. Assumes nothing.
+-- The words of types, and as an array keeps them. Assumes nothing.
 use Prim.Native.Nat.{ℕ, _+_, _≤_, min}
 use mathlib.Core.Path.{_≡_}
 use mathlib.Core.List.{List}
@@ -7,7 +7,13 @@ use lib.ListN.{length}
 use Rattle.basics.specs.Holds.{Holds}
 use Rattle.table.specs.Table.{Table}
 use Rattle.table.specs.Entries.{typeCount, typeKind}
+use Rattle.types.specs.Types.{NodeType, numbered, string}
 use Rattle.sizes.specs.Sizes.{wordsOf}
+
+-- the words of a type, of a number or of a string constant
+unfoldable pub wordsIn : Table → NodeType → ℕ
+wordsIn T (numbered τ) = wordsOf T τ
+wordsIn T (string n) = n
 
 -- the words of a type as they are kept: all that is above 200 is 201
 unfoldable pub kept : Table → ℕ → ℕ

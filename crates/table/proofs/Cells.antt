@@ -16,7 +16,7 @@ use Rattle.table.specs.declared.Sections.{Sections}
 use Rattle.table.proofs.Shapes.{short-at, short-width, short-in, word-at, word-width, word-in}
 
 -- the count of section k
-pub count-is : (t : List ℕ) (s : Sections) (o : Of t s) (k : ℕ) → k < 7 → Field (tableAt (s .w) t .count k) (getD (s .counts) k 0)
+pub count-is : (t : List ℕ) (s : Sections) (o : Of t s) (k : ℕ) → k < 8 → Field (tableAt (s .w) t .count k) (getD (s .counts) k 0)
 unfolding tableAt
 count-is t s o k h = record { is = o .section k h .count; small = o .section k h .small }
 
@@ -31,7 +31,7 @@ pub field-some : (w k f : ℕ) → 1 ≤ w → 1 ≤ fieldWidth w k f
 unfolding fieldWidth
 field-some w k f h = cases (ltb f (shorts k)) (λ e. rw e h) (λ e. rw e (omega arith))
 
-module _ (t : List ℕ) (s : Sections) (o : Of t s) (k n z : ℕ) (hk : k < 7) (hn : Field (tableAt (s .w) t .count k) n) (hz : z ≡ rowSize (s .w) k) (i : ℕ) (h : i < n) where
+module _ (t : List ℕ) (s : Sections) (o : Of t s) (k n z : ℕ) (hk : k < 8) (hn : Field (tableAt (s .w) t .count k) n) (hz : z ≡ rowSize (s .w) k) (i : ℕ) (h : i < n) where
   l : i < getD (s .counts) k 0
   unfolding tableAt
   l = omega (arith, hn .is, o .section k hk .count)
@@ -55,7 +55,7 @@ module _ (t : List ℕ) (s : Sections) (o : Of t s) (k n z : ℕ) (hk : k < 7) (
     pub cell-here : num t (getD (s .starts) k 0 + i * z + a) d ≡ tableAt (s .w) t .cell k i f
     unfolding tableAt cellAt
     cell-here =
-        let e : begins (s .w) t k + s .w ≡ getD (s .starts) k 0 = sym (o .section k hk .start) in
+        let e : begins (s .w) t k + s .w ≡ getD (s .starts) k 0 = sym (o .section k hk .start (λ q. omega (arith, l))) in
         rw (lt-ltb f (fields k) hf, ← o .section k hk .count, lt-ltb i (getD (s .counts) k 0) l, e, ← hz, ← ha, ← hd)
 
 -- a declared type's field

@@ -12,16 +12,17 @@ type-kinds P p0 p1 p2 p3 r (suc (suc (suc (suc k)))) = r k
 
 -- nodes
 pub node-kinds :
-    (P : ℕ → Type 0) → P 0 → P 1 → P 2 → P 3 → P 4 → P 5 → P 6 → P 7 → ((k : ℕ) → P (suc (suc (suc (suc (suc (suc (suc (suc k))))))))) → (k : ℕ) → P k
-node-kinds P p0 p1 p2 p3 p4 p5 p6 p7 r zero = p0
-node-kinds P p0 p1 p2 p3 p4 p5 p6 p7 r (suc zero) = p1
-node-kinds P p0 p1 p2 p3 p4 p5 p6 p7 r (suc (suc zero)) = p2
-node-kinds P p0 p1 p2 p3 p4 p5 p6 p7 r (suc (suc (suc zero))) = p3
-node-kinds P p0 p1 p2 p3 p4 p5 p6 p7 r (suc (suc (suc (suc zero)))) = p4
-node-kinds P p0 p1 p2 p3 p4 p5 p6 p7 r (suc (suc (suc (suc (suc zero))))) = p5
-node-kinds P p0 p1 p2 p3 p4 p5 p6 p7 r (suc (suc (suc (suc (suc (suc zero)))))) = p6
-node-kinds P p0 p1 p2 p3 p4 p5 p6 p7 r (suc (suc (suc (suc (suc (suc (suc zero))))))) = p7
-node-kinds P p0 p1 p2 p3 p4 p5 p6 p7 r (suc (suc (suc (suc (suc (suc (suc (suc k)))))))) = r k
+    (P : ℕ → Type 0) → P 0 → P 1 → P 2 → P 3 → P 4 → P 5 → P 6 → P 7 → P 8 → ((k : ℕ) → P (suc (suc (suc (suc (suc (suc (suc (suc (suc k)))))))))) → (k : ℕ) → P k
+node-kinds P p0 p1 p2 p3 p4 p5 p6 p7 p8 r zero = p0
+node-kinds P p0 p1 p2 p3 p4 p5 p6 p7 p8 r (suc zero) = p1
+node-kinds P p0 p1 p2 p3 p4 p5 p6 p7 p8 r (suc (suc zero)) = p2
+node-kinds P p0 p1 p2 p3 p4 p5 p6 p7 p8 r (suc (suc (suc zero))) = p3
+node-kinds P p0 p1 p2 p3 p4 p5 p6 p7 p8 r (suc (suc (suc (suc zero)))) = p4
+node-kinds P p0 p1 p2 p3 p4 p5 p6 p7 p8 r (suc (suc (suc (suc (suc zero))))) = p5
+node-kinds P p0 p1 p2 p3 p4 p5 p6 p7 p8 r (suc (suc (suc (suc (suc (suc zero)))))) = p6
+node-kinds P p0 p1 p2 p3 p4 p5 p6 p7 p8 r (suc (suc (suc (suc (suc (suc (suc zero))))))) = p7
+node-kinds P p0 p1 p2 p3 p4 p5 p6 p7 p8 r (suc (suc (suc (suc (suc (suc (suc (suc zero)))))))) = p8
+node-kinds P p0 p1 p2 p3 p4 p5 p6 p7 p8 r (suc (suc (suc (suc (suc (suc (suc (suc (suc k))))))))) = r k
 
 -- statements
 pub stmt-kinds :

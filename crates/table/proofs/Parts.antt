@@ -67,7 +67,7 @@ module _ (t : List ℕ) (s : Sections) (o : Of t s) (first f : ℕ) (hf : f ≡ 
         ≡ argumentPart (s .w) t first count
     unfolding argumentPart argumentFrom argumentsLeft
     part-is =
-        rw (← o .section 4 (omega arith) .count, ← o .section 4 (omega arith) .start, ← hf, ← hc)
+        rw (← o .section 4 (omega arith) .count, ← o .section 4 (omega arith) .start (λ e. absurd (omega arith)), ← hf, ← hc)
         (rw add-sub-cancel-left)
 
 -- reading in a part
@@ -151,7 +151,7 @@ module _ (t : List ℕ) (s : Sections) (o : Of t s) (first count k : ℕ) (l : k
   rows-4 : begins (s .w) t 4 + s .w + countAt (s .w) t 4 * s .w ≤ length t
   rows-4 =
       let h : getD (s .starts) 4 0 + getD (s .counts) 4 0 * s .w ≤ length t = rw (size-4 (s .w)) at (o .section 4 (omega arith) .room) in
-      rw (o .section 4 (omega arith) .start, o .section 4 (omega arith) .count) at h
+      rw (o .section 4 (omega arith) .start (λ e. absurd (omega arith)), o .section 4 (omega arith) .count) at h
 
   found-in : first + k < countAt (s .w) t 4 → found
   unfolding argumentPart argumentFrom argumentsLeft

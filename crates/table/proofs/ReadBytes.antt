@@ -63,4 +63,4 @@ read-bytes w (b ∷ t) h = h
 
 pub count-byte : (t : List ℕ) → ((i : ℕ) → getD t i 0 < 256) → (k : ℕ) → tableAt 1 t .count k < 256
 unfolding tableAt countAt
-count-byte t bytes k = cases (ltb k 7) (λ e. rw e (bytes (begins 1 t k))) (λ e. rw e (omega arith))
+count-byte t bytes k = cases (ltb k 8) (λ e. rw e (bytes (begins 1 t k))) (λ e. rw e (omega arith))

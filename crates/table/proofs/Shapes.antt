@@ -15,7 +15,8 @@ shorts-small (suc (suc (suc zero))) = omega arith
 shorts-small (suc (suc (suc (suc zero)))) = omega arith
 shorts-small (suc (suc (suc (suc (suc zero))))) = omega arith
 shorts-small (suc (suc (suc (suc (suc (suc zero)))))) = omega arith
-shorts-small (suc (suc (suc (suc (suc (suc (suc k))))))) = omega arith
+shorts-small (suc (suc (suc (suc (suc (suc (suc zero))))))) = omega arith
+shorts-small (suc (suc (suc (suc (suc (suc (suc (suc k)))))))) = omega arith
 
 pub words-small : (k : ℕ) → words k ≤ 2
 unfolding words
@@ -26,7 +27,8 @@ words-small (suc (suc (suc zero))) = omega arith
 words-small (suc (suc (suc (suc zero)))) = omega arith
 words-small (suc (suc (suc (suc (suc zero))))) = omega arith
 words-small (suc (suc (suc (suc (suc (suc zero)))))) = omega arith
-words-small (suc (suc (suc (suc (suc (suc (suc k))))))) = omega arith
+words-small (suc (suc (suc (suc (suc (suc (suc zero))))))) = omega arith
+words-small (suc (suc (suc (suc (suc (suc (suc (suc k)))))))) = omega arith
 
 pub fields-is : (k : ℕ) → fields k ≡ shorts k + words k
 unfolding shorts words
@@ -37,7 +39,8 @@ fields-is (suc (suc (suc zero))) = refl
 fields-is (suc (suc (suc (suc zero)))) = refl
 fields-is (suc (suc (suc (suc (suc zero))))) = refl
 fields-is (suc (suc (suc (suc (suc (suc zero)))))) = refl
-fields-is (suc (suc (suc (suc (suc (suc (suc k))))))) = refl
+fields-is (suc (suc (suc (suc (suc (suc (suc zero))))))) = refl
+fields-is (suc (suc (suc (suc (suc (suc (suc (suc k)))))))) = refl
 
 pub product : (a w : ℕ) → a ≤ 6 → w ≤ 2 → a * w ≤ 12
 product a w h l = mul-le-mul h l
@@ -111,4 +114,17 @@ words-none (suc (suc (suc zero))) a b c = absurd (b refl)
 words-none (suc (suc (suc (suc zero)))) a b c = (refl, omega arith)
 words-none (suc (suc (suc (suc (suc zero))))) a b c = absurd (c refl)
 words-none (suc (suc (suc (suc (suc (suc zero)))))) a b c = (refl, omega arith)
-words-none (suc (suc (suc (suc (suc (suc (suc k))))))) a b c = (refl, omega arith)
+words-none (suc (suc (suc (suc (suc (suc (suc zero))))))) a b c = (refl, omega arith)
+words-none (suc (suc (suc (suc (suc (suc (suc (suc k)))))))) a b c = (refl, omega arith)
+
+pub shorts-one : (k : ℕ) → k < 8 → (k ≡ 0 → ⊥) → (k ≡ 2 → ⊥) → (k ≡ 3 → ⊥) → (k ≡ 5 → ⊥) → (k ≡ 6 → ⊥) → (1 ≡ shorts k) × (1 ≤ 6)
+unfolding shorts
+shorts-one zero h a b c d e = absurd (a refl)
+shorts-one (suc zero) h a b c d e = (refl, omega arith)
+shorts-one (suc (suc zero)) h a b c d e = absurd (b refl)
+shorts-one (suc (suc (suc zero))) h a b c d e = absurd (c refl)
+shorts-one (suc (suc (suc (suc zero)))) h a b c d e = (refl, omega arith)
+shorts-one (suc (suc (suc (suc (suc zero))))) h a b c d e = absurd (d refl)
+shorts-one (suc (suc (suc (suc (suc (suc zero)))))) h a b c d e = absurd (e refl)
+shorts-one (suc (suc (suc (suc (suc (suc (suc zero))))))) h a b c d e = (refl, omega arith)
+shorts-one (suc (suc (suc (suc (suc (suc (suc (suc k)))))))) h a b c d e = absurd (omega arith)

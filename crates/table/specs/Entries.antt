@@ -26,6 +26,9 @@ nodeCount T = T .count 5
 abbrev pub stmtCount : Table → ℕ
 stmtCount T = T .count 6
 
+abbrev pub charCount : Table → ℕ
+charCount T = T .count 7
+
 -- declared types are numbered from 3; the standard types 0..2 and numbers that no type has give 0
 unfoldable pub declared : Table → ℕ → ℕ → ℕ
 declared T τ f = pick (ltb τ 3) 0 (T .cell 0 (τ - 3) f)
@@ -107,6 +110,9 @@ stmtD T i = T .cell 6 i 4
 
 abbrev pub stmtLink : Table → ℕ → ℕ
 stmtLink T i = T .cell 6 i 5
+
+abbrev pub character : Table → ℕ → ℕ
+character T i = T .cell 7 i 0
 
 -- the number after the last statement of block b: they run to the next block's first, or to the end
 unfoldable pub stmtLimit : Table → ℕ → ℕ

@@ -1,5 +1,5 @@
 -- Trusted: public promises are said with these definitions.
--- What the fields of each kind of entry hold: 01, The table, a row a kind. Refusals 3, 4, 5 and 8 are said by it. Assumes nothing.
+-- What the fields of each kind of entry hold: 01, The table, and 02, b, a row a kind. Refusals 3, 4, 5 and 8 are said by it. Assumes nothing.
 use Prim.Native.Nat.{ℕ}
 use mathlib.Core.Bool.{Bool, true, false}
 use mathlib.Core.List.{List, [], _∷_}
@@ -23,7 +23,7 @@ unfoldable pub variableKind : ℕ → Bool
 variableKind k = between 1 3 k
 
 unfoldable pub expressionKind : ℕ → Bool
-expressionKind k = pick (eqb k 0) true (between 4 7 k)
+expressionKind k = pick (eqb k 0) true (between 4 8 k)
 
 abbrev pub type : Content
 type = entry 0 always
@@ -80,7 +80,8 @@ kinds =
     ∷ (number ∷ variableNode ∷ unused ∷ unused ∷ [])  -- 4 value
     ∷ (number ∷ expressionNode ∷ choice 1 3 ∷ unused ∷ [])  -- 5 unary
     ∷ (number ∷ expressionNode ∷ expressionNode ∷ choice 1 13 ∷ [])  -- 6 binary
-    ∷ (number ∷ expressionNode ∷ standard ∷ unused ∷ []) ∷ [])  -- 7 transfer
+    ∷ (number ∷ expressionNode ∷ standard ∷ unused ∷ [])  -- 7 transfer
+    ∷ (number ∷ first 7 ∷ number ∷ unused ∷ []) ∷ [])  -- 8 string: first character, length (02, b)
     -- Statement: kind, a, b, c, d, link
     ∷ (bare  -- 0 skip
     ∷ (number ∷ variableNode ∷ expressionNode ∷ unused ∷ unused ∷ unused ∷ [])  -- 1 assign
@@ -93,6 +94,8 @@ kinds =
     ∷ (number ∷ unused ∷ unused ∷ unused ∷ unused ∷ statement ∷ [])  -- 11 end
     ∷ (number ∷ expressionNode ∷ expressionNode ∷ unused ∷ unused ∷ unused ∷ [])  -- 12 write
     ∷ (number ∷ block ∷ unused ∷ unused ∷ unused ∷ unused ∷ []) ∷ [])  -- 13 block end
+    -- Character: what it is, 0..127
+    ∷ ((number ∷ []) ∷ [])
     ∷ []
 
 unfoldable pub rows : ℕ → List (List Content)

@@ -1,10 +1,10 @@
 -- Trusted: public promises are said with these definitions.
--- The table of a program: seven sections of rows of numbers. All above this layer speaks of it and not of bytes. Assumes nothing.
+-- The table of a program: eight sections of rows of numbers. All above this layer speaks of it and not of bytes. Assumes nothing.
 use Prim.Native.Nat.{ℕ, _+_, _*_}
 use mathlib.Core.List.{List}
 use lib.Dec.{ltb}
 use Rattle.basics.specs.Choice.{pick}
-use Rattle.table.specs.Bytes.{num, fields, rowSize, fieldAt, fieldWidth, begins}
+use Rattle.table.specs.Bytes.{num, sections, fields, rowSize, fieldAt, fieldWidth, begins}
 use Rattle.table.specs.Empty.{bytesRead}
 
 pub record Table : Type 0 where
@@ -13,9 +13,9 @@ pub record Table : Type 0 where
   -- section, row, field: the number there, 0 where the section has no such row or its rows have no such field
   pub cell : ℕ → ℕ → ℕ → ℕ
 
--- the table that bytes hold, in the edition of width w
+-- the table that bytes hold, in the edition of width w; bytes that end before the eighth section hold none of its rows
 unfoldable pub countAt : ℕ → List ℕ → ℕ → ℕ
-countAt w t k = pick (ltb k 7) (num t (begins w t k) w) 0
+countAt w t k = pick (ltb k sections) (num t (begins w t k) w) 0
 
 unfoldable pub cellAt : ℕ → List ℕ → ℕ → ℕ → ℕ → ℕ
 cellAt w t k i f =

@@ -3,6 +3,8 @@
 ghost use mathlib.Core.Path.{_≡_};
 ghost use Prim.Native.Nat.{_+_, _-_, _*_, _≤_, _<_, min};
 ghost use lib.ListN.{length};
+ghost use lib.Dec.{eqb};
+ghost use Rattle.basics.specs.Choice.{both};
 ghost use Rattle.table.specs.Bytes.{num, shorts, words, fields, rowSize, fieldAt, fieldWidth};
 ghost use Rattle.table.specs.Table.{tableAt};
 ghost use Rattle.table.specs.Reading.{sectionAt, Of, Answers, Field};
@@ -10,16 +12,20 @@ ghost use Rattle.table.specs.Parts.{argumentPart, argumentIn};
 
 pub struct Sections {
     pub w: usize,
-    pub counts: [usize; 7],
-    pub starts: [usize; 7],
+    pub counts: [usize; 8],
+    pub starts: [usize; 8],
 }
 
 pub enum Section {
-    Whole { count: usize, next: usize },
+    Whole {
+        count: usize,
+        start: usize,
+        next: usize,
+    },
     Early,
 }
 
-// Whether the bytes are seven whole sections, and then which. (An enum that holds arrays has no covered proof.)
+// Whether the bytes are whole sections, and then which. (An enum that holds arrays has no covered proof.)
 pub struct Read {
     pub found: bool,
     pub sections: Sections,
@@ -45,23 +51,22 @@ pub fn number(t: &[u8], p: usize, k: usize) -> usize
 
 // Fields of the edition's width in a row of section k. (By cases: an array of constants would be made anew each time that it is read.)
 fn shorts_of(k: usize) -> usize
-    requires { ⌜ k < 7 ⌝ }
+    requires { ⌜ k < 8 ⌝ }
     ensures { λ r. ⌜ (r ≡ shorts k) × (r ≤ 6) ⌝ }
 {
     match k {
         0 => 3,
-        1 => 1,
         2 => 2,
         3 => 6,
-        4 => 1,
         5 => 3,
-        _ => 6,
+        6 => 6,
+        _ => 1,
     }
 }
 
 // Words after them.
 fn words_of(k: usize) -> usize
-    requires { ⌜ k < 7 ⌝ }
+    requires { ⌜ k < 8 ⌝ }
     ensures { λ r. ⌜ (r ≡ words k) × (r ≤ 2) ⌝ }
 {
     match k {
@@ -74,17 +79,34 @@ fn words_of(k: usize) -> usize
 
 // The bytes of a row of section k.
 pub fn row_size(w: usize, k: usize) -> usize
-    requires { ⌜ (w ≤ 2) × (k < 7) ⌝ }
+    requires { ⌜ (w ≤ 2) × (k < 8) ⌝ }
     ensures { λ r. ⌜ (r ≡ rowSize w k) × (r ≤ 16) ⌝ }
 {
     shorts_of(k) * w + words_of(k) * 2
 }
 
+// The eighth section may be left out (02, b): n bytes are left.
+fn is_left_out(n: usize, k: usize) -> bool
+    ensures { λ r. ⌜ r ≡ both (eqb k 7) (eqb 0 n) ⌝ }
+{
+    if k == 7 {
+        return 0 == n;
+    }
+    false
+}
+
 // Section k, which begins at the start of `part`.
 fn read_section(part: &[u8], w: usize, k: usize) -> Section
-    requires { ⌜ (1 ≤ w) × (w ≤ 2) × (k < 7) ⌝ }
+    requires { ⌜ (1 ≤ w) × (w ≤ 2) × (k < 8) ⌝ }
     ensures { λ r. ⌜ r ≡ sectionAt (now (part .entry)) w k ⌝ }
 {
+    if is_left_out(part.len(), k) {
+        return Section::Whole {
+            count: 0,
+            start: 0,
+            next: 0,
+        };
+    }
     if part.len() < w {
         return Section::Early;
     }
@@ -95,6 +117,7 @@ fn read_section(part: &[u8], w: usize, k: usize) -> Section
     }
     Section::Whole {
         count,
+        start: w,
         next: w + rows,
     }
 }
@@ -104,19 +127,19 @@ pub fn read_sections(t: &[u8], w: usize) -> Read
     requires { ⌜ (1 ≤ w) × (w ≤ 2) ⌝ }
     ensures { λ r. ⌜ Answers (now (t .entry)) w r ⌝ }
 {
-    let mut counts = [0usize; 7];
-    let mut starts = [0usize; 7];
+    let mut counts = [0usize; 8];
+    let mut starts = [0usize; 8];
     let mut p = 0;
     let mut k = 0;
-    while k < 7 {
-        let Section::Whole { count, next } = read_section(&t[p..], w, k) else {
+    while k < 8 {
+        let Section::Whole { count, start, next } = read_section(&t[p..], w, k) else {
             return Read {
                 found: false,
                 sections: Sections { w, counts, starts },
             };
         };
         counts[k] = count;
-        starts[k] = p + w;
+        starts[k] = p + start;
         p += next;
         k += 1;
     }
@@ -129,7 +152,7 @@ pub fn read_sections(t: &[u8], w: usize) -> Read
 // How many rows section k has.
 pub fn rows(t: &[u8], s: Sections, k: usize) -> usize
     requires { ⌜ Of (now t) s ⌝ }
-    requires { ⌜ k < 7 ⌝ }
+    requires { ⌜ k < 8 ⌝ }
     ensures { λ r. ⌜ Field (tableAt (s .w) (now (t .entry)) .count k) r ⌝ }
 {
     s.counts[k]
@@ -137,7 +160,7 @@ pub fn rows(t: &[u8], s: Sections, k: usize) -> usize
 
 // Where field f begins in a row of section k.
 pub fn field_at(w: usize, k: usize, f: usize) -> usize
-    requires { ⌜ (w ≤ 2) × (k < 7) × (f < fields k) ⌝ }
+    requires { ⌜ (w ≤ 2) × (k < 8) × (f < fields k) ⌝ }
     ensures { λ r. ⌜ (r ≡ fieldAt w k f) × (r ≤ 16) ⌝ }
 {
     let n = shorts_of(k);
@@ -149,7 +172,7 @@ pub fn field_at(w: usize, k: usize, f: usize) -> usize
 
 // Its bytes.
 pub fn field_width(w: usize, k: usize, f: usize) -> usize
-    requires { ⌜ k < 7 ⌝ }
+    requires { ⌜ k < 8 ⌝ }
     ensures { λ r. ⌜ r ≡ fieldWidth w k f ⌝ }
 {
     if f < shorts_of(k) {

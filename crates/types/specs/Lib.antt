@@ -1,3 +1,4 @@
 pub mod Types
 pub mod Kept
 pub mod Match
+pub mod Numbered

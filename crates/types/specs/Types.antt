@@ -1,6 +1,6 @@
 -- Trusted: public promises are said with these definitions.
 -- The type of a node, read off the table with no rule tested (report 5: every constant, variable or expression is of one and only one type). Assumes nothing.
-use Prim.Native.Nat.{ℕ, _+_}
+use Prim.Native.Nat.{ℕ, _+_, _%_}
 use lib.Dec.{eqb, leb, ltb}
 use Rattle.basics.specs.Choice.{pick}
 use Rattle.basics.specs.Course.{course}
@@ -46,6 +46,24 @@ nodeType T n r =
     (operandType T n (r (nodeP T n))))))
     noType
 
--- THE TYPE of node n; an operand that does not stand before its node has none
+-- the number of the type of node n; a string constant, and a node whose operand does not stand before it, has none
 unfoldable pub typeOf : Table → ℕ → ℕ
 typeOf T n = course noType (nodeType T) n
+
+-- THE TYPE of a node: one of the table, by its number, or that of a string constant (node kind 8), a string of so many characters, which
+-- stands in no table (02, b)
+pub data NodeType : Type 0 where
+  numbered : ℕ → NodeType
+  string : ℕ → NodeType
+
+-- its number, where it has one; else one that no rule asks for
+unfoldable pub numberOf : NodeType → ℕ
+numberOf (numbered τ) = τ
+numberOf (string n) = noType
+
+-- an odd string gains character 0
+unfoldable pub evened : ℕ → ℕ
+evened n = n + n % 2
+
+unfoldable pub typeOfNode : Table → ℕ → NodeType
+typeOfNode T n = pick (eqb (nodeKind T n) 8) (string (evened (nodeQ T n))) (numbered (typeOf T n))

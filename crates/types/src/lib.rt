@@ -2,13 +2,15 @@
 use code::kinds;
 ghost use mathlib.Core.Path.{_≡_};
 ghost use Prim.Native.Nat.{_+_, _-_, _≤_, _<_};
+ghost use lib.Dec.{eqb};
 ghost use Rattle.basics.specs.Course.{upto};
 ghost use Rattle.basics.specs.Holds.{Holds};
 ghost use Rattle.code.specs.Code.{decoded};
+ghost use Rattle.table.specs.Entries.{nodeKind};
 ghost use Rattle.table.specs.Reading.{Field};
-ghost use Rattle.types.specs.Types.{fieldOf, elementOf, unaryType, binaryType, operandType, nodeType, typeOf, noType};
+ghost use Rattle.types.specs.Types.{fieldOf, elementOf, unaryType, binaryType, operandType, nodeType, typeOf, noType, numbered, evened, typeOfNode};
 ghost use Rattle.types.specs.Kept.{Room, Types};
-ghost use Rattle.types.specs.Match.{offset, span, elements, isString, matches};
+ghost use Rattle.types.specs.Match.{offset, span, elements, isString, isText, characters, sameNumber, matching, isEqual, isFit};
 
 fn wide(x: u16) -> usize
     ensures { λ r. ⌜ Field x r ⌝ }
@@ -189,18 +191,92 @@ pub fn is_string(c: &code::Slots, x: usize) -> bool
     false
 }
 
-// The types x and y match.
-pub fn matching(c: &code::Slots, x: usize, y: usize) -> bool
-    ensures { λ r. ⌜ r ≡ matches (decoded (now (c .entry))) x y ⌝ }
+// Node n is a string constant.
+fn is_constant(c: &code::Slots, n: usize) -> bool
+    ensures { λ r. ⌜ r ≡ eqb (nodeKind (decoded (now (c .entry))) n) 8 ⌝ }
 {
-    if x == y {
+    code::node_kind(c, n) == kinds::STRING
+}
+
+// An odd string gains character 0.
+pub fn evened_of(n: usize) -> usize
+    requires { ⌜ n < 65536 ⌝ }
+    ensures { λ r. ⌜ (r ≡ evened n) × (r ≤ 65536) ⌝ }
+{
+    n + n % 2
+}
+
+// The type of node n is a string type.
+fn is_text(c: &code::Slots, types: &[u16], n: usize) -> bool
+    requires { ⌜ Types (decoded (now c)) (now types) ⌝ }
+    ensures { λ r. ⌜ r ≡ isText (decoded (now (c .entry))) (typeOfNode (decoded (now (c .entry))) n) ⌝ }
+{
+    if is_constant(c, n) {
         return true;
     }
-    if is_string(c, x) {
-        if is_string(c, y) {
-            return elements_of(c, x) == elements_of(c, y);
+    is_string(c, type_of(c, types, n))
+}
+
+// Its characters.
+fn characters_of(c: &code::Slots, types: &[u16], n: usize) -> usize
+    requires { ⌜ Types (decoded (now c)) (now types) ⌝ }
+    ensures { λ r. ⌜ r ≡ characters (decoded (now (c .entry))) (typeOfNode (decoded (now (c .entry))) n) ⌝ }
+{
+    if is_constant(c, n) {
+        return evened_of(code::node_q(c, n));
+    }
+    elements_of(c, type_of(c, types, n))
+}
+
+// The type of node n is the one of number y.
+fn is_numbered(c: &code::Slots, types: &[u16], n: usize, y: usize) -> bool
+    requires { ⌜ Types (decoded (now c)) (now types) ⌝ }
+    ensures { λ r. ⌜ r ≡ sameNumber (typeOfNode (decoded (now (c .entry))) n) (numbered y) ⌝ }
+{
+    if is_constant(c, n) {
+        return false;
+    }
+    type_of(c, types, n) == y
+}
+
+// The types of nodes p and q are one of one number.
+fn same_number(c: &code::Slots, types: &[u16], p: usize, q: usize) -> bool
+    requires { ⌜ Types (decoded (now c)) (now types) ⌝ }
+    ensures { λ r. ⌜ r ≡ sameNumber (typeOfNode (decoded (now (c .entry))) p) (typeOfNode (decoded (now (c .entry))) q) ⌝ }
+{
+    if is_constant(c, q) {
+        return false;
+    }
+    is_numbered(c, types, p, type_of(c, types, q))
+}
+
+// The types of nodes p and q are equal.
+pub fn are_equal(c: &code::Slots, types: &[u16], p: usize, q: usize) -> bool
+    requires { ⌜ Types (decoded (now c)) (now types) ⌝ }
+    ensures { λ r. ⌜ r ≡ isEqual (matching (decoded (now (c .entry))) (typeOfNode (decoded (now (c .entry))) p) (typeOfNode (decoded (now (c .entry))) q)) ⌝ }
+{
+    if same_number(c, types, p, q) {
+        return true;
+    }
+    if is_text(c, types, p) {
+        if is_text(c, types, q) {
+            return characters_of(c, types, p) == characters_of(c, types, q);
         }
         return false;
+    }
+    false
+}
+
+// The type of node n is equal to, or fitted to, the one of number y.
+pub fn is_fit(c: &code::Slots, types: &[u16], n: usize, y: usize) -> bool
+    requires { ⌜ Types (decoded (now c)) (now types) ⌝ }
+    ensures { λ r. ⌜ r ≡ isFit (matching (decoded (now (c .entry))) (typeOfNode (decoded (now (c .entry))) n) (numbered y)) ⌝ }
+{
+    if is_numbered(c, types, n, y) {
+        return true;
+    }
+    if is_text(c, types, n) {
+        return is_string(c, y);
     }
     false
 }

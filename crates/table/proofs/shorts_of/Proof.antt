@@ -1,5 +1,5 @@
 use Rattle.table.specs.Bytes.{shorts}
-use Rattle.table.proofs.Shapes.{shorts-at}
+use Rattle.table.proofs.Shapes.{shorts-at, shorts-one}
 use native.Mathlib.Omega.{arith}
 use mathlib.Core.Path.{refl}
 use Rattle.table.proofs.shorts_of.Statement.{statement}
@@ -11,9 +11,8 @@ shorts-of-spec =
     tie.close
     (tie.spec
     (λ c. shorts-at 0 _ (c .before .args .k) (omega arith) refl)
-    (λ c. shorts-at 1 _ (c .before .args .k) (omega arith) refl)
     (λ c. shorts-at 2 _ (c .before .args .k) (omega arith) refl)
     (λ c. shorts-at 3 _ (c .before .args .k) (omega arith) refl)
-    (λ c. shorts-at 4 _ (c .before .args .k) (omega arith) refl)
     (λ c. shorts-at 5 _ (c .before .args .k) (omega arith) refl)
-    (λ c. shorts-at 6 _ (c .before .args .k) (omega arith) refl))
+    (λ c. shorts-at 6 _ (c .before .args .k) (omega arith) refl)
+    (λ c. shorts-one (c .before .args .k) (omega arith) (λ e. omega arith) (λ e. omega arith) (λ e. omega arith) (λ e. omega arith) (λ e. omega arith)))
