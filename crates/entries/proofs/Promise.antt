@@ -51,9 +51,9 @@ module _ (T : Table) (h : known T ≡ true) where
   unfolding blockKnown
   block-kind i l = leb-true (blockKind T i) 2 (blocks i l)
 
-  pub node-kind : (i : ℕ) → i < nodeCount T → nodeKind T i ≤ 7
+  pub node-kind : (i : ℕ) → i < nodeCount T → nodeKind T i ≤ 8
   unfolding nodeKnown
-  node-kind i l = leb-true (nodeKind T i) 7 (both-l _ _ (nodes i l))
+  node-kind i l = leb-true (nodeKind T i) 8 (both-l _ _ (nodes i l))
 
   operators : (i : ℕ) → i < nodeCount T → operatorKnown T i ≡ true
   unfolding nodeKnown

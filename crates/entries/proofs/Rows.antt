@@ -1,18 +1,17 @@
 -- The table of kinds asks of each entry what the code tests. Assumes nothing.
-use Prim.Native.Nat.{ℕ, zero, suc, _+_}
-use mathlib.Core.Path.{_≡_, refl, sym, ap, _∙_}
+use Prim.Native.Nat.{ℕ, suc}
+use mathlib.Core.Path.{_≡_, refl, ap, _∙_}
 use mathlib.Core.Bool.{Bool, true, false}
 use native.Mathlib.Omega.{arith}
-use lib.Dec.{eqb, leb, ltb}
-use lib.ListN.{length}
+use lib.Dec.{eqb, leb}
 use borrow.Author.Tests.{le-leb, lt-leb}
-use Rattle.basics.specs.Choice.{pick, both, between, allBelow}
+use Rattle.basics.specs.Choice.{both, between, allBelow}
 use Rattle.basics.proofs.Bools.{all-i}
 use Rattle.table.specs.Table.{Table}
-use Rattle.table.specs.Entries.{declared, typeKind, typeQ, typeLow, typeHigh, varMode, blockKind, nodeKind, nodeQ, nodeV, stmtKind, stmtA, stmtB, stmtC, stmtD, stmtLink, typeCount, fieldCount, varCount, blockCount, argCount, nodeCount, stmtCount}
+use Rattle.table.specs.Entries.{varMode, blockKind, nodeKind, nodeQ, nodeV, stmtKind, typeCount, varCount, blockCount, nodeCount, stmtCount}
 use Rattle.table.specs.Kinds.{rows, rowOf, held, eachField}
 use Rattle.table.proofs.EachKind.{type-kinds, node-kinds, stmt-kinds}
-use Rattle.table.proofs.EachField.{alone, all-four, all-five, all-six, all-seven, all-same, declared-is}
+use Rattle.table.proofs.EachField.{alone, all-four, all-five, all-six, all-first, all-seven, all-same, declared-is}
 use Rattle.entries.specs.Known.{fieldKnown, entryKnown, sectionKnown, known}
 use Rattle.entries.specs.Tested.{spare, typeKnown, varKnown, blockKnown, usesQ, usesV, operatorKnown, nodeKnown, usesA, usesB, usesArgs, usesLink, operandsKnown, argsKnown, stmtKnown, declarationsKnown, tested}
 
@@ -74,7 +73,8 @@ module _ (T : Table) (i : ℕ) where
       (λ e. rw (node-fields, e) (turned (between 1 3 (nodeQ T i)) (eqb (nodeV T i) 0)))
       (λ e. rw (node-fields, e) (alone (between 1 13 (nodeV T i))))
       (λ e. rw (node-fields, e))
-      (λ k e. rw (e, lt-leb (suc (suc (suc (suc (suc (suc (suc (suc k)))))))) 7 (omega arith)))
+      (λ e. rw (node-fields, e))
+      (λ k e. rw (e, lt-leb (suc (suc (suc (suc (suc (suc (suc (suc (suc k))))))))) 8 (omega arith)))
 
   -- statements
   stmt-fields : eachField fieldKnown T 6 i ≡ both (test 6 0) (both (both (test 6 1) (test 6 2)) (both (both (test 6 3) (test 6 4)) (test 6 5)))
@@ -91,7 +91,7 @@ module _ (T : Table) (i : ℕ) where
       (λ k e. rw (e, lt-leb (suc (suc (suc (suc (suc (suc (suc (suc (suc (suc (suc (suc (suc (suc k)))))))))))))) 13 (omega arith)))
 
 -- THE RULE
-in-order : (t v b n s : Bool) → both t (both true (both v (both b (both true (both n (both s true)))))) ≡ both (both t (both v b)) (both n s)
+in-order : (t v b n s : Bool) → both t (both true (both v (both b (both true (both n (both s (both true true))))))) ≡ both (both t (both v b)) (both n s)
 unfolding both
 in-order false v b n s = refl
 in-order true false b n s = refl
@@ -100,7 +100,7 @@ in-order true true true false s = refl
 in-order true true true true s = alone s
 
 module _ (T : Table) where
-  -- fields and arguments
+  -- fields, arguments and characters
   free : (s : ℕ) → ((i : ℕ) → entryKnown T s i ≡ true) → sectionKnown T s ≡ true
   unfolding sectionKnown
   free s h = all-i (T .count s) (entryKnown T s) (λ i l. h i)
@@ -113,8 +113,13 @@ module _ (T : Table) where
   unfolding entryKnown eachField allBelow held rowOf rows fieldKnown both
   free-argument i = refl
 
+  free-character : (i : ℕ) → entryKnown T 7 i ≡ true
+  unfolding entryKnown eachField allBelow held rowOf rows fieldKnown both
+  free-character i = refl
+
   pub known-tested : known T ≡ tested T
   unfolding known tested declarationsKnown sectionKnown
   known-tested =
-      all-seven (sectionKnown T)
-      ∙ rw (free 1 free-field, free 4 free-argument, all-same (typeCount T) (entryKnown T 0) (typeKnown T) (λ i. type-row T i (T .cell 0 i 0) refl), all-same (varCount T) (entryKnown T 2) (varKnown T) (var-row T), all-same (blockCount T) (entryKnown T 3) (blockKnown T) (block-row T), all-same (nodeCount T) (entryKnown T 5) (nodeKnown T) (λ i. node-row T i (nodeKind T i) refl), all-same (stmtCount T) (entryKnown T 6) (stmtKnown T) (λ i. stmt-row T i (stmtKind T i) refl)) (in-order _ _ _ _ _)
+      all-first 7 (sectionKnown T)
+      ∙ ap (both (sectionKnown T 0)) (all-seven (λ k. sectionKnown T (suc k)))
+      ∙ rw (free 1 free-field, free 4 free-argument, free 7 free-character, all-same (typeCount T) (entryKnown T 0) (typeKnown T) (λ i. type-row T i (T .cell 0 i 0) refl), all-same (varCount T) (entryKnown T 2) (varKnown T) (var-row T), all-same (blockCount T) (entryKnown T 3) (blockKnown T) (block-row T), all-same (nodeCount T) (entryKnown T 5) (nodeKnown T) (λ i. node-row T i (nodeKind T i) refl), all-same (stmtCount T) (entryKnown T 6) (stmtKnown T) (λ i. stmt-row T i (stmtKind T i) refl)) (in-order _ _ _ _ _)

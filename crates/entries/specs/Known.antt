@@ -5,6 +5,7 @@ use mathlib.Core.Bool.{Bool, true}
 use lib.Dec.{eqb, ltb}
 use lib.ListN.{length}
 use Rattle.basics.specs.Choice.{both, between, allBelow}
+use Rattle.table.specs.Bytes.{sections}
 use Rattle.table.specs.Table.{Table}
 use Rattle.table.specs.Kinds.{Content, unused, number, standard, choice, entry, first, rowOf, eachField}
 
@@ -26,4 +27,4 @@ sectionKnown T s = allBelow (T .count s) (entryKnown T s)
 
 -- THE RULE of refusal 3
 unfoldable pub known : Table → Bool
-known T = allBelow 7 (sectionKnown T)
+known T = allBelow sections (sectionKnown T)

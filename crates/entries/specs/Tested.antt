@@ -27,7 +27,7 @@ varKnown T i = leb (varMode T i) 2
 unfoldable pub blockKnown : Table → ℕ → Bool
 blockKnown T i = leb (blockKind T i) 2
 
--- Node: q is used by 2 field, 3 element, 5 unary, 6 binary and 7 transfer; v by 0 constant and 6 binary
+-- Node: q is used by 2 field, 3 element, 5 unary, 6 binary, 7 transfer and 8 string; v by 0 constant and 6 binary
 unfoldable pub usesQ : ℕ → Bool
 usesQ k = pick (leb 5 k) true (between 2 3 k)
 
@@ -42,7 +42,7 @@ operatorKnown T i =
 
 unfoldable pub nodeKnown : Table → ℕ → Bool
 nodeKnown T i =
-    both (leb (nodeKind T i) 7)
+    both (leb (nodeKind T i) 8)
     (both (spare (usesQ (nodeKind T i)) (nodeQ T i))
     (both (spare (usesV (nodeKind T i)) (nodeV T i)) (operatorKnown T i)))
 
@@ -77,7 +77,7 @@ declarationsKnown T =
     both (allBelow (typeCount T) (typeKnown T))
     (both (allBelow (varCount T) (varKnown T)) (allBelow (blockCount T) (blockKnown T)))
 
--- fields and arguments have neither kind nor unused field
+-- fields, arguments and characters have neither kind nor unused field
 unfoldable pub tested : Table → Bool
 tested T =
     both (declarationsKnown T)

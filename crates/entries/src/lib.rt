@@ -83,7 +83,7 @@ fn node_known(c: &code::Slots, i: usize) -> bool
     ensures { λ r. ⌜ r ≡ nodeKnown (decoded (now (c .entry))) i ⌝ }
 {
     let k = code::node_kind(c, i);
-    if k <= kinds::TRANSFER {
+    if k <= kinds::STRING {
         if spare(uses_q(k), code::node_q(c, i)) {
             if spare(uses_v(k), code::node_v(c, i)) {
                 return operator_known(c, i);

@@ -4,20 +4,20 @@ use mathlib.Core.Path.{_≡_, refl}
 use mathlib.Core.Bool.{true, false}
 use native.Mathlib.Omega.{arith}
 use lib.Dec.{eqb}
-use borrow.Author.Tests.{eqb-true, leb-true, ltb-true}
+use borrow.Author.Tests.{eq-eqb, eqb-true, leb-true, ltb-true}
 use Rattle.basics.specs.Choice.{both, between}
 use Rattle.basics.specs.Cases.{cases}
 use Rattle.basics.proofs.Bools.{both-l, both-r, between-true}
 use Rattle.basics.proofs.Takes.{there, apart}
 use Rattle.table.specs.Table.{Table}
-use Rattle.table.specs.Entries.{typeKind, typeQ, blockKind, argNode, nodeKind, nodeP, nodeQ, stmtKind, stmtA, stmtB, stmtC, stmtD, stmtLink, varCount, blockCount, argCount, nodeCount, stmtCount}
+use Rattle.table.specs.Entries.{typeKind, typeQ, blockKind, argNode, nodeKind, nodeP, nodeQ, stmtKind, stmtA, stmtB, stmtC, stmtD, stmtLink, varCount, blockCount, argCount, nodeCount, stmtCount, charCount}
 use Rattle.types.specs.Types.{typeOf}
 use Rattle.table.specs.Kinds.{variableKind, expressionKind, names, rows, rowOf, held, isCall}
 use Rattle.numbers.specs.Nodes.{Variable, Expression}
-use Rattle.numbers.specs.Operands.{placeRanged, callFirst, callCount, argumentsTaken}
+use Rattle.numbers.specs.Operands.{placeRanged, callFirst, callCount, argumentsTaken, isStringNode, stringFirst, stringCount, charactersTaken}
 use Rattle.numbers.specs.Tested.{variableBelow, expressionBelow, pRanged, qRanged, nodeTested, aVariable, aExpression, aBlock, aRanged, bExpression, bRanged, linkRanged, stmtTested}
 use Rattle.numbers.specs.Ranges.{inRange}
-use Rattle.numbers.proofs.Parts.{arguments-taken, arg-row, node-row, stmt-row}
+use Rattle.numbers.proofs.Parts.{arguments-taken, characters-taken, arg-row, node-row, stmt-row}
 use Rattle.numbers.proofs.TypePromise.{block-there}
 
 module _ (T : Table) (m n : ℕ) where
@@ -36,7 +36,7 @@ module _ (T : Table) (m n : ℕ) where
       let z : nodeKind T n ≡ 0 = eqb-true (nodeKind T n) 0 q in
       record { below = ltb-true n m (both-l _ _ e); sort = λ l. omega arith; high = omega arith })
       (λ q.
-      let k = between-true 4 7 (nodeKind T n) (rw q at g) in
+      let k = between-true 4 8 (nodeKind T n) (rw q at g) in
       record { below = ltb-true n m (both-l _ _ e); sort = λ l. k .0; high = k .1 })
 
 module _ (T : Table) (h : inRange T ≡ true) where
@@ -100,6 +100,15 @@ module _ (T : Table) (h : inRange T ≡ true) where
     pub transfer-type : nodeKind T n ≡ 7 → nodeQ T n ≤ 2
     unfolding qRanged
     transfer-type e = leb-true (nodeQ T n) 2 (rw e at q-row)
+
+    pub string-length : nodeKind T n ≡ 8 → (1 ≤ nodeQ T n) × (nodeQ T n ≤ 255)
+    unfolding qRanged
+    string-length e = between-true 1 255 (nodeQ T n) (rw e at q-row)
+
+    -- the characters of a string
+    pub string-there : nodeKind T n ≡ 8 → nodeP T n + nodeQ T n ≤ charCount T
+    unfolding charactersTaken isStringNode stringFirst stringCount
+    string-there e = there (isStringNode T) (λ n. nodeP T n) (λ n. nodeQ T n) (nodeCount T) (charCount T) (characters-taken T h) n l (eq-eqb (nodeKind T n) 8 e)
 
   -- statements
   module _ (i : ℕ) (l : i < stmtCount T) where
@@ -199,6 +208,12 @@ module _ (T : Table) (h : inRange T ≡ true) where
     pub start-args : stmtKind T i ≡ 5 → stmtC T i + stmtD T i ≤ argCount T
     unfolding isCall names held rowOf rows
     start-args e = args-there (rw e)
+
+  -- no two strings take the same character
+  pub strings-apart : (n k : ℕ) → n < k → k < nodeCount T → nodeKind T n ≡ 8 → nodeKind T k ≡ 8 → nodeP T n + nodeQ T n ≤ nodeP T k
+  unfolding charactersTaken isStringNode stringFirst stringCount
+  strings-apart n k l g e f =
+      apart (isStringNode T) (λ n. nodeP T n) (λ n. nodeQ T n) (nodeCount T) (charCount T) (characters-taken T h) n k l g (eq-eqb (nodeKind T n) 8 e) (eq-eqb (nodeKind T k) 8 f)
 
   -- no two calls take the same argument
   pub args-apart : (i k : ℕ) → i < k → k < stmtCount T → isCall T i ≡ true → isCall T k ≡ true → stmtC T i + stmtD T i ≤ stmtC T k

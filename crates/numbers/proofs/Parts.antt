@@ -9,7 +9,7 @@ use Rattle.table.specs.Entries.{varType, argNode, typeCount, varCount, blockCou
 use Rattle.numbers.specs.Sorts.{entryRanged}
 use Rattle.numbers.specs.Declarations.{fieldsTaken, typeRanged, namedOnce, modulesOnce}
 use Rattle.numbers.specs.Blocks.{variablesTaken, blockRanged}
-use Rattle.numbers.specs.Operands.{nodeRanged, argumentsTaken}
+use Rattle.numbers.specs.Operands.{nodeRanged, argumentsTaken, charactersTaken}
 use Rattle.numbers.specs.Tested.{typeTested, nodeTested, stmtTested}
 use Rattle.numbers.specs.Ranges.{inOrder, typesRanged, declarationsRanged, operandsRanged, inRange}
 use Rattle.numbers.proofs.Rows.{type-tested, var-tested, arg-tested, node-tested, stmt-tested}
@@ -41,7 +41,11 @@ module _ (T : Table) (h : inRange T ≡ true) where
 
   pub arguments-taken : argumentsTaken T ≡ true
   unfolding inOrder
-  arguments-taken = both-r _ _ (both-r _ _ in-order)
+  arguments-taken = both-l _ _ (both-r _ _ (both-r _ _ in-order))
+
+  pub characters-taken : charactersTaken T ≡ true
+  unfolding inOrder
+  characters-taken = both-r _ _ (both-r _ _ (both-r _ _ in-order))
 
   pub type-row : (i : ℕ) → i < typeCount T → typeTested T i ≡ true
   unfolding typesRanged

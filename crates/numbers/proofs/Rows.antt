@@ -1,15 +1,15 @@
 -- The table of kinds asks of each entry what the code tests. Assumes nothing.
-use Prim.Native.Nat.{ℕ, zero, suc, _+_}
-use mathlib.Core.Path.{_≡_, refl, sym, ap, _∙_}
-use mathlib.Core.Bool.{Bool, true, false}
+use Prim.Native.Nat.{ℕ, suc, _+_}
+use mathlib.Core.Path.{_≡_, refl, ap, _∙_}
+use mathlib.Core.Bool.{Bool, true}
 use native.Mathlib.Omega.{arith}
 use lib.Dec.{eqb, leb, ltb}
 use borrow.Author.Tests.{ne-eqb, le-leb, lt-leb}
 use Rattle.basics.specs.Choice.{pick, both, between, allBelow}
 use Rattle.basics.specs.Chain.{always}
 use Rattle.table.specs.Table.{Table}
-use Rattle.table.specs.Entries.{typeKind, typeP, typeQ, varType, argNode, nodeKind, nodeP, nodeQ, stmtKind, stmtA, stmtLink, typeCount, varCount, blockCount, nodeCount, stmtCount}
-use Rattle.table.specs.Kinds.{names, rows, rowOf, held, eachField, isCall, variableKind, expressionKind}
+use Rattle.table.specs.Entries.{varType, argNode, nodeKind, nodeP, nodeQ, stmtKind, stmtA, stmtLink, typeCount, varCount, blockCount, nodeCount, stmtCount, charCount}
+use Rattle.table.specs.Kinds.{names, rows, rowOf, held, eachField, isCall}
 use Rattle.table.proofs.EachKind.{type-kinds, node-kinds, stmt-kinds}
 use Rattle.table.proofs.EachField.{alone, all-four, all-five, all-six, declared-is}
 use Rattle.types.specs.Types.{typeOf}
@@ -73,7 +73,8 @@ module _ (T : Table) (i : ℕ) where
       (λ e. rw (node-fields, e) (alone (both (expressionBelow T i (nodeP T i)) true)))
       (λ e. rw (node-fields, e) (two (expressionBelow T i (nodeP T i)) (expressionBelow T i (nodeQ T i))))
       (λ e. rw (node-fields, e) (two (expressionBelow T i (nodeP T i)) (leb (nodeQ T i) 2)))
-      (λ k e. rw (node-fields, e, ne-eqb (suc (suc (suc (suc (suc (suc (suc (suc k)))))))) 0 (λ q. omega arith), ne-eqb (suc (suc (suc (suc (suc (suc (suc (suc k)))))))) 1 (λ q. omega arith), ne-eqb (suc (suc (suc (suc (suc (suc (suc (suc k)))))))) 2 (λ q. omega arith), ne-eqb (suc (suc (suc (suc (suc (suc (suc (suc k)))))))) 3 (λ q. omega arith), ne-eqb (suc (suc (suc (suc (suc (suc (suc (suc k)))))))) 6 (λ q. omega arith), ne-eqb (suc (suc (suc (suc (suc (suc (suc (suc k)))))))) 7 (λ q. omega arith), lt-leb (suc (suc (suc (suc (suc (suc (suc (suc k)))))))) 4 (omega arith), lt-leb (suc (suc (suc (suc (suc (suc (suc (suc k)))))))) 7 (omega arith)))
+      (λ e. rw (node-fields, e))
+      (λ k e. rw (node-fields, e, ne-eqb (suc (suc (suc (suc (suc (suc (suc (suc (suc k))))))))) 0 (λ q. omega arith), ne-eqb (suc (suc (suc (suc (suc (suc (suc (suc (suc k))))))))) 1 (λ q. omega arith), ne-eqb (suc (suc (suc (suc (suc (suc (suc (suc (suc k))))))))) 2 (λ q. omega arith), ne-eqb (suc (suc (suc (suc (suc (suc (suc (suc (suc k))))))))) 3 (λ q. omega arith), ne-eqb (suc (suc (suc (suc (suc (suc (suc (suc (suc k))))))))) 6 (λ q. omega arith), ne-eqb (suc (suc (suc (suc (suc (suc (suc (suc (suc k))))))))) 7 (λ q. omega arith), ne-eqb (suc (suc (suc (suc (suc (suc (suc (suc (suc k))))))))) 8 (λ q. omega arith), lt-leb (suc (suc (suc (suc (suc (suc (suc (suc (suc k))))))))) 4 (omega arith), lt-leb (suc (suc (suc (suc (suc (suc (suc (suc (suc k))))))))) 7 (omega arith)))
 
   pub node-tested : nodeRanged T i ≡ nodeTested T i
   node-tested = node-at (nodeKind T i) refl

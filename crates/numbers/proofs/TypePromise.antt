@@ -3,25 +3,16 @@ use Prim.Native.Nat.{ℕ, _+_, _-_, _≤_, _<_}
 use mathlib.Core.Path.{_≡_}
 use mathlib.Core.Bool.{true}
 use native.Mathlib.Omega.{arith}
-use lib.Dec.{ltb}
-use borrow.Author.Tests.{eq-eqb, eqb-true, leb-true, ltb-true, ltb-false}
-use Rattle.basics.specs.Cases.{cases}
+use borrow.Author.Tests.{eq-eqb, eqb-true, leb-true, ltb-true}
 use Rattle.basics.proofs.Bools.{both-l, both-r, all-at}
 use Rattle.basics.proofs.Takes.{there, apart}
 use Rattle.table.specs.Table.{Table}
-use Rattle.table.specs.Entries.{declared, typeKind, typeP, typeQ, fieldType, varType, blockKind, typeCount, fieldCount, varCount, blockCount}
+use Rattle.table.specs.Entries.{typeKind, typeP, typeQ, fieldType, varType, blockKind, typeCount, fieldCount, varCount, blockCount}
+use Rattle.types.proofs.Matching.{declared-from}
 use Rattle.numbers.specs.Declarations.{isRecord, recordFirst, recordCount, fieldsTaken, fieldBelow, recordRanged}
 use Rattle.numbers.specs.Tested.{blockOf, arrayRanged, typeTested}
 use Rattle.numbers.specs.Ranges.{inRange}
 use Rattle.numbers.proofs.Parts.{fields-taken, type-row, var-row}
-
--- a type with a kind is a declared one
-pub declared-from : (T : Table) (τ k : ℕ) → typeKind T τ ≡ k → 1 ≤ k → 3 ≤ τ
-unfolding declared
-declared-from T τ k e l =
-    cases (ltb τ 3)
-    (λ q. let z : 0 ≡ k = rw q at e in omega arith)
-    (λ q. ltb-false τ 3 q)
 
 pub block-there : (T : Table) (k b : ℕ) → blockOf T k b ≡ true → (b < blockCount T) × (blockKind T b ≡ k)
 unfolding blockOf

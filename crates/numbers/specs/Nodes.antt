@@ -13,4 +13,4 @@ pub record Variable (T : Table) (m n : ℕ) : Type 0 where
 pub record Expression (T : Table) (m n : ℕ) : Type 0 where
   pub below : n < m
   pub sort : 1 ≤ nodeKind T n → 4 ≤ nodeKind T n
-  pub high : nodeKind T n ≤ 7
+  pub high : nodeKind T n ≤ 8

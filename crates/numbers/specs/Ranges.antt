@@ -9,10 +9,10 @@ use Rattle.table.specs.Entries.{typeCount, varCount, blockCount, argCount, node
 use Rattle.numbers.specs.Sorts.{entryRanged}
 use Rattle.numbers.specs.Declarations.{fieldsTaken, typeRanged, modulesOnce}
 use Rattle.numbers.specs.Blocks.{variablesTaken, blockRanged}
-use Rattle.numbers.specs.Operands.{nodeRanged, argumentsTaken}
+use Rattle.numbers.specs.Operands.{nodeRanged, argumentsTaken, charactersTaken}
 
 unfoldable pub inOrder : Table → Bool
-inOrder T = both (fieldsTaken T) (both (variablesTaken T) (argumentsTaken T))
+inOrder T = both (fieldsTaken T) (both (variablesTaken T) (both (argumentsTaken T) (charactersTaken T)))
 
 unfoldable pub typesRanged : Table → Bool
 typesRanged T = both (allBelow (typeCount T) (typeRanged T)) (modulesOnce T)

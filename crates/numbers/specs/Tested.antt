@@ -34,7 +34,7 @@ typeTested T i =
     (pick (eqb (typeKind T (3 + i)) 3) (blockOf T 1 (typeP T (3 + i))) true))
 
 -- Node: 'A node stands after its operands'. p: 0 constant type 0..2; 1 whole a variable; 2 field, 3 element, 4 value a variable node;
--- 5 unary, 6 binary, 7 transfer an expression node; no other number is a kind
+-- 5 unary, 6 binary, 7 transfer an expression node; 8 string the next free character
 unfoldable pub pRanged : Table → ℕ → Bool
 pRanged T n =
     pick (eqb (nodeKind T n) 0) (leb (nodeP T n) 2)
@@ -42,13 +42,14 @@ pRanged T n =
     (pick (leb (nodeKind T n) 4) (variableBelow T n (nodeP T n))
     (pick (leb (nodeKind T n) 7) (expressionBelow T n (nodeP T n)) true)))
 
--- q: 2 field 'place from 0'; 3 element, 6 binary an expression node; 7 transfer 'type 0..2'
+-- q: 2 field 'place from 0'; 3 element, 6 binary an expression node; 7 transfer 'type 0..2'; 8 string 'length 1..255'
 unfoldable pub qRanged : Table → ℕ → Bool
 qRanged T n =
     pick (eqb (nodeKind T n) 2) (placeRanged T (typeOf T (nodeP T n)) (nodeQ T n))
     (pick (eqb (nodeKind T n) 3) (expressionBelow T n (nodeQ T n))
     (pick (eqb (nodeKind T n) 6) (expressionBelow T n (nodeQ T n))
-    (pick (eqb (nodeKind T n) 7) (leb (nodeQ T n) 2) true)))
+    (pick (eqb (nodeKind T n) 7) (leb (nodeQ T n) 2)
+    (pick (eqb (nodeKind T n) 8) (between 1 255 (nodeQ T n)) true))))
 
 unfoldable pub nodeTested : Table → ℕ → Bool
 nodeTested T n = both (pRanged T n) (qRanged T n)

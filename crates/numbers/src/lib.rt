@@ -17,7 +17,10 @@ fn in_order(c: &code::Slots) -> bool
 {
     if order::fields_taken(c) {
         if order::variables_taken(c) {
-            return order::arguments_taken(c);
+            if order::arguments_taken(c) {
+                return order::characters_taken(c);
+            }
+            return false;
         }
         return false;
     }

@@ -82,6 +82,9 @@ fn q_ranged(c: &code::Slots, types: &[u16], n: usize) -> bool
     if k == kinds::TRANSFER {
         return q <= 2;
     }
+    if k == kinds::STRING {
+        return basics::between(1, 255, q);
+    }
     true
 }
 

@@ -1,4 +1,4 @@
-// Rows that take the numbers of another section in order: records fields, blocks variables, calls arguments.
+// Rows that take the numbers of another section in order: records fields, blocks variables, calls arguments, strings characters.
 use code::kinds;
 ghost use mathlib.Core.Path.{_≡_};
 ghost use mathlib.Core.Bool.{true};
@@ -10,7 +10,7 @@ ghost use Rattle.table.specs.Reading.{Field};
 ghost use Rattle.numbers.specs.Declarations.{isRecord, recordFirst, recordCount, fieldsTaken};
 ghost use Rattle.numbers.specs.Blocks.{variablesTaken};
 ghost use Rattle.table.specs.Kinds.{isCall};
-ghost use Rattle.numbers.specs.Operands.{callFirst, callCount, argumentsTaken};
+ghost use Rattle.numbers.specs.Operands.{callFirst, callCount, argumentsTaken, isStringNode, charactersTaken, stringFirst, stringCount};
 
 // A row that takes some begins at the free number j.
 fn begins(takes: bool, first: usize, j: usize) -> bool
@@ -76,6 +76,24 @@ fn call_count(c: &code::Slots, i: usize) -> usize
     code::stmt_d(c, i)
 }
 
+fn is_string_node(c: &code::Slots, n: usize) -> bool
+    ensures { λ r. ⌜ r ≡ isStringNode (decoded (now (c .entry))) n ⌝ }
+{
+    code::node_kind(c, n) == kinds::STRING
+}
+
+fn string_first(c: &code::Slots, n: usize) -> usize
+    ensures { λ r. ⌜ Field (stringFirst (decoded (now (c .entry))) n) r ⌝ }
+{
+    code::node_p(c, n)
+}
+
+fn string_count(c: &code::Slots, n: usize) -> usize
+    ensures { λ r. ⌜ Field (stringCount (decoded (now (c .entry))) n) r ⌝ }
+{
+    code::node_q(c, n)
+}
+
 pub fn fields_taken(c: &code::Slots) -> bool
     ensures { λ r. ⌜ r ≡ fieldsTaken (decoded (now (c .entry))) ⌝ }
 {
@@ -130,4 +148,23 @@ pub fn arguments_taken(c: &code::Slots) -> bool
         }
     }
     j == code::arguments(c)
+}
+
+pub fn characters_taken(c: &code::Slots) -> bool
+    ensures { λ r. ⌜ r ≡ charactersTaken (decoded (now (c .entry))) ⌝ }
+{
+    let n = code::nodes(c);
+    let mut j = 0;
+    let mut i = 0;
+    while i < n {
+        let takes = is_string_node(c, i);
+        let first = string_first(c, i);
+        if begins(takes, first, j) {
+            j = after(takes, first, string_count(c, i), j);
+            i += 1;
+        } else {
+            return false;
+        }
+    }
+    j == code::characters(c)
 }

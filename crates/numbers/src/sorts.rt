@@ -1,31 +1,14 @@
 // Nodes and blocks of the sort that a place asks.
-use code::kinds;
 ghost use mathlib.Core.Path.{_≡_};
 ghost use Rattle.code.specs.Code.{decoded};
-ghost use Rattle.table.specs.Kinds.{variableKind, expressionKind};
 ghost use Rattle.numbers.specs.Tested.{variableBelow, expressionBelow, blockOf};
-
-fn variable_kind(k: usize) -> bool
-    ensures { λ r. ⌜ r ≡ variableKind k ⌝ }
-{
-    basics::between(kinds::WHOLE, kinds::ELEMENT, k)
-}
-
-fn expression_kind(k: usize) -> bool
-    ensures { λ r. ⌜ r ≡ expressionKind k ⌝ }
-{
-    if k == kinds::CONSTANT {
-        return true;
-    }
-    basics::between(kinds::VALUE, kinds::TRANSFER, k)
-}
 
 // Node v is below m and a variable.
 pub fn variable_below(c: &code::Slots, m: usize, v: usize) -> bool
     ensures { λ r. ⌜ r ≡ variableBelow (decoded (now (c .entry))) m v ⌝ }
 {
     if v < m {
-        return variable_kind(code::node_kind(c, v));
+        return code::is_variable(c, v);
     }
     false
 }
@@ -35,7 +18,7 @@ pub fn expression_below(c: &code::Slots, m: usize, e: usize) -> bool
     ensures { λ r. ⌜ r ≡ expressionBelow (decoded (now (c .entry))) m e ⌝ }
 {
     if e < m {
-        return expression_kind(code::node_kind(c, e));
+        return code::is_expression(c, e);
     }
     false
 }

@@ -1,11 +1,11 @@
 -- The fields that name nodes, variables and arguments, by the table of kinds: those that the code goes by. Assumes nothing.
-use Prim.Native.Nat.{ℕ, zero, suc, _+_}
-use mathlib.Core.Path.{_≡_, refl, ap, _∙_}
+use Prim.Native.Nat.{ℕ, suc}
+use mathlib.Core.Path.{_≡_, refl, ap}
 use mathlib.Core.Bool.{Bool, true, false}
 use native.Mathlib.Omega.{arith}
 use lib.Dec.{eqb, leb}
 use borrow.Author.Tests.{ne-eqb, lt-leb}
-use Rattle.basics.specs.Choice.{pick, both, allBelow}
+use Rattle.basics.specs.Choice.{pick, both}
 use Rattle.basics.specs.Course.{upto, course}
 use Rattle.table.specs.Table.{Table}
 use Rattle.table.specs.Entries.{nodeKind, nodeP, nodeQ, stmtKind}
@@ -20,7 +20,7 @@ module _ (T : Table) (n : ℕ) where
   unfolding names held rowOf rows
   second-at =
       node-kinds (λ k. nodeKind T n ≡ k → names 5 (held T 5 n 2) ≡ pick (eqb (nodeKind T n) 3) true (eqb (nodeKind T n) 6))
-      (λ e. rw e) (λ e. rw e) (λ e. rw e) (λ e. rw e) (λ e. rw e) (λ e. rw e) (λ e. rw e) (λ e. rw e) (λ k e. rw (e, ne-eqb (suc (suc (suc (suc (suc (suc (suc (suc k)))))))) 3 (λ q. omega arith), ne-eqb (suc (suc (suc (suc (suc (suc (suc (suc k)))))))) 6 (λ q. omega arith)))
+      (λ e. rw e) (λ e. rw e) (λ e. rw e) (λ e. rw e) (λ e. rw e) (λ e. rw e) (λ e. rw e) (λ e. rw e) (λ e. rw e) (λ k e. rw (e, ne-eqb (suc (suc (suc (suc (suc (suc (suc (suc (suc k))))))))) 3 (λ q. omega arith), ne-eqb (suc (suc (suc (suc (suc (suc (suc (suc (suc k))))))))) 6 (λ q. omega arith)))
 
   -- element 3 and binary 6 have two operands
   pub has-second : names 5 (held T 5 n 2) ≡ pick (eqb (nodeKind T n) 3) true (eqb (nodeKind T n) 6)
@@ -52,9 +52,11 @@ module _ (T : Table) (n : ℕ) where
         (λ e. rw (fields, e))
         (λ e. rw (fields, e) (ap (both (r (nodeP T n))) (alone (r (nodeQ T n)))))
         (λ e. rw (fields, e))
-        (λ k e. rw (fields, e, ne-eqb (suc (suc (suc (suc (suc (suc (suc (suc k)))))))) 0 (λ q. omega arith), ne-eqb (suc (suc (suc (suc (suc (suc (suc (suc k)))))))) 1 (λ q. omega arith), lt-leb (suc (suc (suc (suc (suc (suc (suc (suc k)))))))) 7 (omega arith)))
+        (λ e. rw (fields, e))
+        (λ k e. rw (fields, e, ne-eqb (suc (suc (suc (suc (suc (suc (suc (suc (suc k))))))))) 0 (λ q. omega arith), ne-eqb (suc (suc (suc (suc (suc (suc (suc (suc (suc k))))))))) 1 (λ q. omega arith), lt-leb (suc (suc (suc (suc (suc (suc (suc (suc (suc k))))))))) 7 (omega arith)))
 
-  -- a constant 0 has no variable, a whole variable 1 is one, the others have those of their operands; a number that is no kind has none
+  -- a constant 0 and a string 8 have no variable, a whole variable 1 is one, the others have those of their operands; a number that is no
+  -- kind has none
   pub node-scope :
       (b : ℕ) → nodeScoped T b n
       ≡ pick (eqb (nodeKind T n) 0) true

@@ -49,6 +49,7 @@ fn node_scoped(c: &code::Slots, b: usize, n: usize) -> bool
     if k == kinds::CONSTANT {
         return true;
     }
+    // A string holds characters, and no node.
     if kinds::TRANSFER < k {
         return true;
     }

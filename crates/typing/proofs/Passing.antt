@@ -9,12 +9,13 @@ use Rattle.basics.specs.Loops.{Passed}
 use Rattle.basics.proofs.Passes.{passed-none, passed-more, passed-fail, passed-all}
 use Rattle.table.specs.Table.{Table, tableAt}
 use Rattle.code.specs.Code.{decoded, Decodes}
-use Rattle.table.specs.Entries.{firstVar, params}
+use Rattle.table.specs.Entries.{firstVar, params, character}
 use Rattle.table.specs.Reading.{Field}
 use Rattle.table.specs.Parts.{argumentPart, argumentIn}
 use Rattle.table.specs.declared.Sections.{Sections}
 use Rattle.table.proofs.Parts.{each-argument}
-use Rattle.typing.specs.Typing.{argumentTyped, parameterTyped, argumentsTyped, paramSimple}
+use Rattle.types.specs.Match.{inStandard}
+use Rattle.typing.specs.Typing.{argumentTyped, parameterTyped, argumentsTyped, paramSimple, characterTyped}
 use Rattle.typing.specs.Parts.{parameterIn}
 
 module _ (f : ℕ → Bool) (n c : ℕ) (e : c ≡ n) where
@@ -29,7 +30,13 @@ pub of-parameter : (T : Table) (w : ℕ) (part : List ℕ) (x k n : ℕ) (r : Bo
 unfolding parameterIn
 of-parameter T w part x k n r h e = rw (← h .is) e
 
+pub of-character : (T : Table) (i v : ℕ) (r : Bool) → Field (character T i) v → r ≡ inStandard 2 v → r ≡ characterTyped T i
+unfolding characterTyped
+of-character T i v r h e = rw (← h .is) e
+
 pub ruleset counts = (passed-none, passed-more, count-fail, count-all)
+
+pub ruleset characters = (counts, of-character)
 
 pub ruleset parameters = (passed-none, passed-more, passed-fail, passed-all, of-parameter)
 

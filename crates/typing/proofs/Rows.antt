@@ -9,9 +9,9 @@ use Rattle.basics.proofs.Tests.{tests, righttests, l-eq, l-ne, same-eqb, same-l
 use Rattle.table.specs.Table.{Table}
 use Rattle.table.specs.Entries.{typeKind}
 use Rattle.table.specs.Reading.{Field}
-use Rattle.types.specs.Types.{typeOf}
-use Rattle.types.specs.Match.{matches, inStandard}
-use Rattle.typing.specs.Typing.{elementTyped, unaryTyped, binaryTyped, argumentsTyped, processCallTyped, startTyped, writeTyped, simple}
+use Rattle.types.specs.Types.{typeOf, typeOfNode, numbered}
+use Rattle.types.specs.Match.{matching, isEqual, isFit, inStandard}
+use Rattle.typing.specs.Typing.{elementTyped, unaryTyped, alikeTyped, binaryTyped, argumentsTyped, processCallTyped, startTyped, writeTyped, simple}
 
 module _ (T : Table) (x τ : ℕ) (h : x ≡ τ) where
   pub of-type : (r : ℕ) → Field (typeOf T x) r → Field (typeOf T τ) r
@@ -24,6 +24,12 @@ module _ (T : Table) (x τ : ℕ) (h : x ≡ τ) where
     pub of-simple : r ≡ simple T x → r ≡ simple T τ
     of-simple e = rw (← h) e
 
+    pub of-fit : (n : ℕ) → r ≡ isFit (matching T (typeOfNode T n) (numbered x)) → r ≡ isFit (matching T (typeOfNode T n) (numbered τ))
+    of-fit n e = rw (← h) e
+
+    pub of-alike : (o : ℕ) → r ≡ alikeTyped o x → r ≡ alikeTyped o τ
+    of-alike o e = rw (← h) e
+
     module _ (y σ : ℕ) (g : y ≡ σ) where
       pub of-constant : r ≡ inStandard x y → r ≡ inStandard τ σ
       of-constant e = rw (← h, ← g) e
@@ -34,8 +40,8 @@ module _ (T : Table) (x τ : ℕ) (h : x ≡ τ) where
       pub of-unary : r ≡ unaryTyped x y → r ≡ unaryTyped τ σ
       of-unary e = rw (← h, ← g) e
 
-      pub of-matches : r ≡ matches T x y → r ≡ matches T τ σ
-      of-matches e = rw (← h, ← g) e
+      pub of-equal : r ≡ isEqual (matching T (typeOfNode T x) (typeOfNode T y)) → r ≡ isEqual (matching T (typeOfNode T τ) (typeOfNode T σ))
+      of-equal e = rw (← h, ← g) e
 
       pub of-write : r ≡ writeTyped x y → r ≡ writeTyped τ σ
       of-write e = rw (← h, ← g) e
@@ -66,8 +72,8 @@ module _ (r x y : Bool) (a b v w : ℕ) (l : v ≡ a) (m : w ≡ b) where
   two-ne h e = rw (← l, ← m, ne-eqb v w h) e
 
 -- dispatch on a kind that a local holds
-pub ruleset kinds = (l-eq, l-ne, same-eqb, same-leb, of-kind, of-constant, of-element, of-unary, of-binary, of-matches, of-write, of-arguments, of-start, of-process-call)
+pub ruleset kinds = (l-eq, l-ne, same-eqb, same-leb, of-kind, of-constant, of-element, of-unary, of-binary, of-equal, of-write, of-arguments, of-start, of-process-call)
 
-pub ruleset rows = (tests, righttests, of-simple, of-matches, of-module)
+pub ruleset rows = (tests, righttests, of-simple, of-fit, of-module)
 
-pub ruleset pairs = (tests, two-eq, two-ne)
+pub ruleset pairs = (tests, two-eq, two-ne, of-alike)

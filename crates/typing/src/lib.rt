@@ -5,36 +5,12 @@ ghost use Prim.Native.Nat.{_+_, _≤_, _<_};
 ghost use Rattle.basics.specs.Choice.{allBelow};
 ghost use Rattle.types.specs.Match.{inStandard};
 ghost use Rattle.code.specs.Code.{decoded, Decodes};
-ghost use Rattle.table.specs.Entries.{nodeKind, nodeP, nodeQ, stmtA, stmtB, nodeCount, stmtCount, blockCount};
-ghost use Rattle.table.specs.Kinds.{variableKind, expressionKind};
+ghost use Rattle.table.specs.Entries.{nodeP, nodeQ, stmtA, stmtB, nodeCount, stmtCount, blockCount, charCount};
 ghost use Rattle.table.specs.Reading.{Field};
 ghost use Rattle.types.specs.Types.{typeOf};
 ghost use Rattle.types.specs.Kept.{Types};
-ghost use Rattle.typing.specs.Typing.{elementTyped, unaryTyped, alikeTyped, binaryTyped, nodeTyped, argumentTyped, argumentsTyped, processCallTyped, startTyped, callTyped, writeTyped, stmtTyped, simple, paramSimple, paramsSimple, typed};
+ghost use Rattle.typing.specs.Typing.{elementTyped, unaryTyped, alikeTyped, binaryTyped, nodeTyped, argumentTyped, argumentsTyped, processCallTyped, startTyped, callTyped, writeTyped, stmtTyped, simple, paramSimple, paramsSimple, characterTyped, typed};
 ghost use Rattle.typing.specs.Parts.{parameterIn};
-
-fn is_variable(c: &code::Slots, n: usize) -> bool
-    ensures { λ r. ⌜ r ≡ variableKind (nodeKind (decoded (now (c .entry))) n) ⌝ }
-{
-    let k = code::node_kind(c, n);
-    if kinds::WHOLE <= k {
-        return k <= kinds::ELEMENT;
-    }
-    false
-}
-
-fn is_expression(c: &code::Slots, n: usize) -> bool
-    ensures { λ r. ⌜ r ≡ expressionKind (nodeKind (decoded (now (c .entry))) n) ⌝ }
-{
-    let k = code::node_kind(c, n);
-    if k == kinds::CONSTANT {
-        return true;
-    }
-    if kinds::VALUE <= k {
-        return k <= kinds::TRANSFER;
-    }
-    false
-}
 
 // The word v is a constant of the standard type x.
 fn constant_typed(x: usize, v: usize) -> bool
@@ -79,13 +55,16 @@ fn alike_typed(o: usize, x: usize) -> bool
     x <= 1
 }
 
-fn binary_typed(c: &code::Slots, o: usize, x: usize, y: usize) -> bool
-    ensures { λ r. ⌜ r ≡ binaryTyped (decoded (now (c .entry))) o x y ⌝ }
+// The operator o takes the types of nodes p and q.
+fn binary_typed(c: &code::Slots, types: &[u16], o: usize, p: usize, q: usize) -> bool
+    requires { ⌜ Types (decoded (now c)) (now types) ⌝ }
+    ensures { λ r. ⌜ r ≡ binaryTyped (decoded (now (c .entry))) o p q ⌝ }
 {
     if o <= 2 {
-        return types::matching(c, x, y);
+        return types::are_equal(c, types, p, q);
     }
-    if x == y {
+    let x = types::type_of(c, types, p);
+    if x == types::type_of(c, types, q) {
         return alike_typed(o, x);
     }
     false
@@ -125,7 +104,7 @@ fn node_typed(c: &code::Slots, types: &[u16], n: usize) -> bool
     }
     if k == kinds::BINARY {
         let o = code::node_v(c, n);
-        return binary_typed(c, o, type_p(c, types, n), type_q(c, types, n));
+        return binary_typed(c, types, o, code::node_p(c, n), code::node_q(c, n));
     }
     if k == kinds::TRANSFER {
         return type_p(c, types, n) <= 2;
@@ -137,16 +116,15 @@ fn argument_typed(c: &code::Slots, types: &[u16], x: usize, n: usize) -> bool
     requires { ⌜ Types (decoded (now c)) (now types) ⌝ }
     ensures { λ r. ⌜ r ≡ argumentTyped (decoded (now (c .entry))) x n ⌝ }
 {
-    let a = types::type_of(c, types, n);
     let p = code::var_type(c, x);
     if code::var_mode(c, x) == kinds::VAR_PARAMETER {
-        if is_variable(c, n) {
-            return a == p;
+        if code::is_variable(c, n) {
+            return types::type_of(c, types, n) == p;
         }
         return false;
     }
-    if is_expression(c, n) {
-        return types::matching(c, a, p);
+    if code::is_expression(c, n) {
+        return types::is_fit(c, types, n, p);
     }
     false
 }
@@ -286,7 +264,7 @@ fn stmt_typed(t: &[u8], s: table::Sections, c: &code::Slots, types: &[u16], i: u
 {
     let k = code::stmt_kind(c, i);
     if k == kinds::ASSIGN {
-        return types::matching(c, type_a(c, types, i), type_b(c, types, i));
+        return types::are_equal(c, types, code::stmt_a(c, i), code::stmt_b(c, i));
     }
     if k == kinds::ARM {
         return type_a(c, types, i) == 1;
@@ -388,6 +366,22 @@ fn blocks_simple(c: &code::Slots) -> bool
     true
 }
 
+// Characters are 0..127, as constants of that type are.
+fn characters_typed(c: &code::Slots) -> bool
+    ensures { λ r. ⌜ r ≡ allBelow (charCount (decoded (now (c .entry)))) (characterTyped (decoded (now (c .entry)))) ⌝ }
+{
+    let count = code::characters(c);
+    let mut i = 0;
+    while i < count {
+        if constant_typed(2, code::character(c, i)) {
+            i += 1;
+        } else {
+            return false;
+        }
+    }
+    true
+}
+
 // Whether a table keeps the rule of refusal 9; `types` are those of its nodes.
 pub fn all_typed(t: &[u8], s: table::Sections, c: &code::Slots, types: &[u16]) -> bool
     requires { ⌜ Decodes (now t) s (now c) ⌝ }
@@ -396,7 +390,10 @@ pub fn all_typed(t: &[u8], s: table::Sections, c: &code::Slots, types: &[u16]) -
 {
     if nodes_typed(c, types) {
         if statements_typed(t, s, c, types) {
-            return blocks_simple(c);
+            if blocks_simple(c) {
+                return characters_typed(c);
+            }
+            return false;
         }
         return false;
     }

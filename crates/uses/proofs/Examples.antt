@@ -23,10 +23,16 @@ program args nodes stmts =
 abbrev nodes : List (List ℕ)
 nodes = (1 ∷ 0 ∷ 0 ∷ []) ∷ (1 ∷ 0 ∷ 0 ∷ []) ∷ (4 ∷ 1 ∷ 0 ∷ []) ∷ (0 ∷ 0 ∷ 0 ∷ []) ∷ (6 ∷ 2 ∷ 3 ∷ []) ∷ []
 
--- each node is used once; the sum by two statements; the sum by none; by an argument; the second variable twice and the first not
+-- x := 'ab', as nodes: whole x; a string whose first character is 0
+abbrev texts : List (List ℕ)
+texts = (1 ∷ 0 ∷ 0 ∷ []) ∷ (8 ∷ 0 ∷ 2 ∷ []) ∷ []
+
+-- each node is used once; the sum by two statements; the sum by none; by an argument; the second variable twice and the first not;
+-- a string uses no node; a string that is not used
 examples :
     (usedOnce (program [] nodes ((1 ∷ 0 ∷ 4 ∷ []) ∷ [])) ≡ true) × (usedOnce (program [] nodes ((1 ∷ 0 ∷ 4 ∷ []) ∷ (10 ∷ 4 ∷ 0 ∷ []) ∷ [])) ≡ false)
     × (usedOnce (program [] nodes ((4 ∷ 0 ∷ 0 ∷ []) ∷ [])) ≡ false) × (usedOnce (program ((4 ∷ []) ∷ []) nodes ((4 ∷ 0 ∷ 0 ∷ []) ∷ [])) ≡ true)
-    × (usedOnce (program [] nodes ((1 ∷ 1 ∷ 4 ∷ []) ∷ [])) ≡ false)
+    × (usedOnce (program [] nodes ((1 ∷ 1 ∷ 4 ∷ []) ∷ [])) ≡ false) × (usedOnce (program [] texts ((1 ∷ 0 ∷ 1 ∷ []) ∷ [])) ≡ true)
+    × (usedOnce (program [] texts ((4 ∷ 0 ∷ 0 ∷ []) ∷ [])) ≡ false)
 unfolding usedOnce allBelow both once uses sectionUses entryUses fieldUses gather occurs names held rowOf rows
-examples = (refl, refl, refl, refl, refl)
+examples = (refl, refl, refl, refl, refl, refl, refl)

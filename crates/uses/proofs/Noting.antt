@@ -18,7 +18,7 @@ use Rattle.uses.specs.Uses.{entryUses, sectionUses, uses, once, usedOnce
 use Rattle.uses.specs.Marked.{operandCounts, operands, stmtNodeCounts, stmtNodes, firstOf, markedAll, Blank, oneMark}
 use Rattle.uses.proofs.Rows.{node-uses, stmt-uses, arg-uses, uses-are}
 
-pub operands-none : (k : ℕ) → 8 ≤ k → 0 ≡ operands k
+pub operands-none : (k : ℕ) → 9 ≤ k → 0 ≡ operands k
 unfolding operands
 operands-none k h = sym (List·getD-eq-default {A = ℕ} operandCounts 0 h)
 

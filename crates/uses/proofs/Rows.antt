@@ -1,8 +1,7 @@
 -- The uses in each entry, by the table of kinds: those that the code marks. Assumes nothing.
 use Prim.Native.Nat.{ℕ, zero, suc}
-use mathlib.Core.Path.{_≡_, refl, sym, ap, _∙_}
+use mathlib.Core.Path.{_≡_, refl, ap, _∙_}
 use mathlib.Core.List.{List, [], _∷_, _++_, append-nil}
-use Rattle.basics.specs.Choice.{pick}
 use Rattle.basics.specs.Marks.{gather}
 use Rattle.table.specs.Table.{Table}
 use Rattle.table.specs.Entries.{argNode, nodeKind, nodeP, nodeQ, stmtKind, stmtA, stmtB}
@@ -16,7 +15,7 @@ module _ (T : Table) (i : ℕ) where
   unfolding entryUses gather fieldUses names held rowOf rows operands firstOf
   node-of =
       node-kinds (λ k. nodeKind T i ≡ k → entryUses T 5 i ≡ firstOf (operands (nodeKind T i)) (nodeP T i) (nodeQ T i))
-      (λ e. rw e) (λ e. rw e) (λ e. rw e) (λ e. rw e) (λ e. rw e) (λ e. rw e) (λ e. rw e) (λ e. rw e) (λ k e. rw e)
+      (λ e. rw e) (λ e. rw e) (λ e. rw e) (λ e. rw e) (λ e. rw e) (λ e. rw e) (λ e. rw e) (λ e. rw e) (λ e. rw e) (λ k e. rw e)
 
   pub node-uses : entryUses T 5 i ≡ firstOf (operands (nodeKind T i)) (nodeP T i) (nodeQ T i)
   node-uses = node-of (nodeKind T i) refl
@@ -52,6 +51,11 @@ module _ (T : Table) (i : ℕ) where
   unfolding entryUses gather fieldUses names held rowOf rows
   block-none = refl
 
+  -- nor do characters
+  character-none : entryUses T 7 i ≡ []
+  unfolding entryUses gather fieldUses names held rowOf rows
+  character-none = refl
+
 none : (f : ℕ → List ℕ) (n : ℕ) → ((i : ℕ) → f i ≡ []) → gather f n ≡ []
 unfolding gather
 none f zero h = refl
@@ -63,8 +67,13 @@ module _ (T : Table) where
   declarations =
       rw (none (entryUses T 3) (T .count 3) (block-none T), none (entryUses T 2) (T .count 2) (var-none T), none (entryUses T 1) (T .count 1) (field-none T), none (entryUses T 0) (T .count 0) (λ i. type-none T i (T .cell 0 i 0) refl))
 
+  characters : sectionUses T 7 ≡ []
+  unfolding sectionUses
+  characters = none (entryUses T 7) (T .count 7) (character-none T)
+
   pub uses-are : uses T ≡ sectionUses T 6 ++ (sectionUses T 5 ++ sectionUses T 4)
   unfolding uses gather
   uses-are =
-      ap (λ l. sectionUses T 6 ++ (sectionUses T 5 ++ (sectionUses T 4 ++ l))) declarations
+      ap (λ l. l ++ (sectionUses T 6 ++ (sectionUses T 5 ++ (sectionUses T 4 ++ (sectionUses T 3 ++ (sectionUses T 2 ++ (sectionUses T 1 ++ (sectionUses T 0 ++ [])))))))) characters
+      ∙ ap (λ l. sectionUses T 6 ++ (sectionUses T 5 ++ (sectionUses T 4 ++ l))) declarations
       ∙ ap (λ l. sectionUses T 6 ++ (sectionUses T 5 ++ l)) (append-nil (sectionUses T 4))

@@ -9,9 +9,9 @@ use lib.Dec.{eqb}
 use Rattle.basics.specs.Choice.{pick}
 use Rattle.basics.specs.Loops.{marked}
 
--- how many of p and q are operands: constant, whole none; field p; element p and q; value, unary p; binary p and q; transfer p
+-- how many of p and q are operands: constant, whole none; field p; element p and q; value, unary p; binary p and q; transfer p; string none
 abbrev pub operandCounts : List ℕ
-operandCounts = 0 ∷ 0 ∷ 1 ∷ 2 ∷ 1 ∷ 1 ∷ 2 ∷ 1 ∷ []
+operandCounts = 0 ∷ 0 ∷ 1 ∷ 2 ∷ 1 ∷ 1 ∷ 2 ∷ 1 ∷ 0 ∷ []
 
 unfoldable pub operands : ℕ → ℕ
 operands kind = getD operandCounts kind 0

@@ -6,7 +6,7 @@ use mathlib.Core.List.{List, [], _∷_}
 use lib.Dec.{eqb}
 use Rattle.basics.specs.Choice.{pick, allBelow}
 use Rattle.basics.specs.Marks.{occurs, gather}
-use Rattle.table.specs.Bytes.{fields}
+use Rattle.table.specs.Bytes.{sections, fields}
 use Rattle.table.specs.Table.{Table}
 use Rattle.table.specs.Entries.{nodeCount}
 use Rattle.table.specs.Kinds.{names, held}
@@ -23,7 +23,7 @@ unfoldable pub sectionUses : Table → ℕ → List ℕ
 sectionUses T s = gather (entryUses T s) (T .count s)
 
 unfoldable pub uses : Table → List ℕ
-uses T = gather (sectionUses T) 7
+uses T = gather (sectionUses T) sections
 
 -- x occurs exactly once
 unfoldable pub once : List ℕ → ℕ → Bool

@@ -13,6 +13,8 @@ in-order-spec =
     (λ c κs. search needs)
     (λ c κs. search needs)
     (λ c κs. search needs)
+    (λ c κs. search needs)
+    (λ c. search ranges)
     (λ c. search ranges)
     (λ c. search ranges)
     (λ c. search ranges))

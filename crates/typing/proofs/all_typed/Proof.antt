@@ -12,6 +12,8 @@ all-typed-spec =
     (λ c κs. search needs)
     (λ c κs. search needs)
     (λ c κs. search needs)
+    (λ c κs. search needs)
+    (λ c. search rows)
     (λ c. search rows)
     (λ c. search rows)
     (λ c. search rows))

@@ -10,6 +10,5 @@ unfolding both expressionBelow
 expression-below-spec =
     tie.close (tie.spec
     (λ c κs. search needs)
-    (λ c κs. search needs)
     (λ c. search ranges)
     (λ c. search ranges))
