@@ -2,9 +2,11 @@
 use Prim.Native.Nat.{ℕ}
 use mathlib.Core.Bool.{Bool}
 use mathlib.Core.List.{List}
+use lib.ListN.{length}
 use Rattle.basics.specs.Choice.{pick}
-use Rattle.machine.specs.Outcomes.{Outcome, ok, fail, stuck, andThen, need, failWhere, Operand, onPlace, onValue, wordOf, onWord}
-use Rattle.machine.proofs.Outcomes.{g-then, g-need, g-where, g-pick, g-place, g-value, g-word}
+use Rattle.types.specs.Types.{NodeType, numbered, string}
+use Rattle.machine.specs.Outcomes.{Outcome, ok, fail, stuck, andThen, need, failWhere, Operand, onPlace, onValue, onTyped, wordOf, onWord}
+use Rattle.machine.proofs.Outcomes.{g-then, g-need, g-where, g-pick, g-place, g-value, g-typed, g-word}
 
 pub data Ends {A : Type 0} (P : A → Type 0) : Outcome A → Type 0 where
   ends-ok : {x : A} → P x → Ends P (ok x)
@@ -29,6 +31,9 @@ module _ {A : Type 0} (P : A → Type 0) where
 
   pub ends-onValue : (o : Outcome Operand) (f : ℕ → List ℕ → Outcome A) → ((τ : ℕ) (ws : List ℕ) → Ends P (f τ ws)) → Ends P (onValue o f)
   ends-onValue o f h = g-value (Ends P) ends-stuck o f (λ n e. ends-fail) (λ τ ws e. h τ ws)
+
+  pub ends-onTyped : (o : Outcome Operand) (f : NodeType → List ℕ → Outcome A) → ((κ : NodeType) (ws : List ℕ) → Ends P (f κ ws)) → Ends P (onTyped o f)
+  ends-onTyped o f h = g-typed (Ends P) ends-stuck o f (λ n e. ends-fail) (λ τ ws e. h (numbered τ) ws) (λ ws e. h (string (length ws)) ws)
 
   pub ends-onWord : (o : Outcome Operand) (τ : ℕ) (f : ℕ → Outcome A) → ((w : ℕ) → Ends P (f w)) → Ends P (onWord o τ f)
   ends-onWord o τ f h = g-word (Ends P) ends-stuck o τ f (λ n e. ends-fail) (λ σ ws e. h (wordOf ws))

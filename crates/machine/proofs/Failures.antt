@@ -21,7 +21,7 @@ use Rattle.machine.specs.Processes.{onModule, onProcess, onReference}
 use Rattle.machine.specs.Statements.{Effect, effect, onArms, onOpener, Choice, enters, skips, endOf, goTo, goOn, wait, moved, doAssign, doLocalCall, free, doProcessCall, doCreate, doStart, chosen, doOpener, doEnd, doWrite, doBlockEnd, perform}
 use Rattle.machine.specs.Step.{done, settled, answers, performs, proceeds, exists, turn, step}
 use Rattle.machine.specs.Run.{ran, onDone, before, run}
-use Rattle.machine.proofs.Ends.{Ends, ends-ok, ends-fail, ends-stuck, ends-need, ends-failWhere, ends-pick, ends-andThen, ends-onPlace, ends-onValue, ends-onWord}
+use Rattle.machine.proofs.Ends.{Ends, ends-ok, ends-fail, ends-stuck, ends-need, ends-failWhere, ends-pick, ends-andThen, ends-onPlace, ends-onTyped, ends-onWord}
 use Rattle.machine.proofs.Tests.{failure-low}
 
 -- ---- what a step that does not fail answers
@@ -123,7 +123,7 @@ module _ (T : Table) (m page : Memory) (x : Context) where
   unfolding perform doAssign doLocalCall doProcessCall doCreate doStart doOpener doEnd doWrite doBlockEnd
   low-perform skip = low-goOn m
   low-perform (assign a b) =
-      ends-onPlace Low _ _ (λ i τ. ends-onValue Low _ _ (λ σ ws. ends-need Low _ _ (low-goOn _)))
+      ends-onPlace Low _ _ (λ i τ. ends-onTyped Low _ _ (λ σ ws. ends-need Low _ _ (low-goOn _)))
   low-perform (localCall q c d) = ends-need Low _ _ (ends-andThen Low _ _ (λ ws. low-moved _))
   low-perform (processCall a q c d) =
       ends-onProcess Low T a m page x _

@@ -5,12 +5,12 @@ pub mod Edges
 pub mod Stuck
 pub mod Frames
 pub mod Unset
+pub mod Titles
 pub mod Damaged
 pub mod Tests
 pub mod Memories
 pub mod MarkBits
 pub mod MarkLaws
-pub mod Marking
 pub mod Entries
 pub mod Outcomes
 pub mod Ends
@@ -18,5 +18,6 @@ pub mod Failures
 pub mod Courses
 pub mod Calling
 pub mod Copies
+pub mod TextLaws
 pub mod Broken
 pub mod Lending

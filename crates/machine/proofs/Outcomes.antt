@@ -3,9 +3,14 @@ use Prim.Native.Nat.{ℕ}
 use mathlib.Core.Path.{_≡_, refl}
 use mathlib.Core.Bool.{Bool, true, false}
 use mathlib.Core.List.{List}
+use lib.ListN.{length}
 use lib.Dec.{eqb}
 use Rattle.basics.specs.Choice.{pick}
-use Rattle.machine.specs.Outcomes.{Outcome, ok, fail, stuck, andThen, need, failWhere, Operand, place, value, placed, valued, onPlace, onValue, wordOf, onWord}
+use Rattle.types.specs.Types.{NodeType, numbered, string}
+use Rattle.types.specs.Match.{Match, equal, fitted, unfit}
+use Rattle.machine.specs.Texts.{fit}
+use Rattle.machine.specs.Calls.{passed}
+use Rattle.machine.specs.Outcomes.{Outcome, ok, fail, stuck, andThen, need, failWhere, Operand, place, value, text, placed, valued, typed, onPlace, onValue, onTyped, wordOf, onWord}
 use Rattle.machine.specs.Entries.{TypeEntry, integer, boolean, character, recordType, arrayType, processType, noType}
 use Rattle.machine.specs.Operands.{onRecord, onArray}
 use Rattle.machine.specs.Processes.{onModule}
@@ -57,6 +62,7 @@ module _ {B : Type 0} (P : Outcome B → Type 0) (lost : P stuck) where
   unfolding onPlace andThen placed
   g-place (ok (place a τ)) k f g = g a τ refl
   g-place (ok (value τ ws)) k f g = lost
+  g-place (ok (text ws)) k f g = lost
   g-place (fail n) k f g = f n refl
   g-place stuck k f g = lost
 
@@ -64,8 +70,24 @@ module _ {B : Type 0} (P : Outcome B → Type 0) (lost : P stuck) where
   unfolding onValue andThen valued
   g-value (ok (place a τ)) k f g = lost
   g-value (ok (value τ ws)) k f g = g τ ws refl
+  g-value (ok (text ws)) k f g = lost
   g-value (fail n) k f g = f n refl
   g-value stuck k f g = lost
+
+  pub g-typed : (o : Outcome Operand) (k : NodeType → List ℕ → Outcome B) → ((f : ℕ) → o ≡ fail f → P (fail f)) → ((τ : ℕ) (ws : List ℕ) → o ≡ ok (value τ ws) → P (k (numbered τ) ws))
+      → ((ws : List ℕ) → o ≡ ok (text ws) → P (k (string (length ws)) ws)) → P (onTyped o k)
+  unfolding onTyped andThen typed
+  g-typed (ok (place a τ)) k f g h = lost
+  g-typed (ok (value τ ws)) k f g h = g τ ws refl
+  g-typed (ok (text ws)) k f g h = h ws refl
+  g-typed (fail n) k f g h = f n refl
+  g-typed stuck k f g h = lost
+
+  pub g-passed : (n : ℕ) (ws : List ℕ) (k : Match) (Q : List ℕ → Outcome B) → (k ≡ equal → P (Q ws)) → (k ≡ fitted → P (Q (fit n ws))) → P (andThen (passed n ws k) Q)
+  unfolding passed andThen
+  g-passed n ws equal Q f g = f refl
+  g-passed n ws fitted Q f g = g refl
+  g-passed n ws unfit Q f g = lost
 
   pub g-word : (o : Outcome Operand) (τ : ℕ) (k : ℕ → Outcome B) → ((f : ℕ) → o ≡ fail f → P (fail f)) → ((σ : ℕ) (ws : List ℕ) → o ≡ ok (value σ ws) → P (k (wordOf ws))) → P (onWord o τ k)
   unfolding onWord

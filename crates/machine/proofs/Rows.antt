@@ -1,6 +1,6 @@
 -- Tables written as rows (01, The table). Assumes nothing.
 use Prim.Native.Nat.{ℕ}
-use mathlib.Core.List.{List, [], _∷_}
+use mathlib.Core.List.{List, [], _∷_, _++_}
 use lib.ListN.{length, getD}
 use Rattle.table.specs.Table.{Table}
 
@@ -26,6 +26,13 @@ tableFrom P = record {
   cell = λ k i f. getD (getD (getD (sections P) k []) i []) f 0;
 }
 
+-- with an eighth section (02, b)
+abbrev pub titledFrom : List Row → Program → Table
+titledFrom characters P = record {
+  count = λ k. length (getD (sections P ++ characters ∷ []) k []);
+  cell = λ k i f. getD (getD (getD (sections P ++ characters ∷ []) k []) i []) f 0;
+}
+
 -- types
 abbrev pub records : ℕ → ℕ → Row
 records first count = 1 ∷ first ∷ count ∷ 0 ∷ 0 ∷ []
@@ -36,7 +43,7 @@ arrays index element low high = 2 ∷ index ∷ element ∷ low ∷ high ∷ []
 abbrev pub processes : ℕ → Row
 processes b = 3 ∷ b ∷ 0 ∷ 0 ∷ 0 ∷ []
 
--- fields and arguments: a type, a node
+-- fields, arguments and characters: a type, a node, a number
 abbrev pub number : ℕ → Row
 number n = n ∷ []
 
@@ -84,6 +91,9 @@ binary o n k = 6 ∷ n ∷ k ∷ o ∷ []
 
 abbrev pub transfer : ℕ → ℕ → Row
 transfer n τ = 7 ∷ n ∷ τ ∷ 0 ∷ []
+
+abbrev pub string : ℕ → ℕ → Row
+string first length = 8 ∷ first ∷ length ∷ 0 ∷ []
 
 -- the operators
 abbrev pub val : ℕ → Row

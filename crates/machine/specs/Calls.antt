@@ -7,11 +7,14 @@ use lib.Dec.{eqb, leb, ltb}
 use Rattle.basics.specs.Choice.{pick, both}
 use Rattle.table.specs.Table.{Table}
 use Rattle.table.specs.Entries.{argCount, varCount, argNode, varMode, varType, firstVar, params, firstStmt}
-use Rattle.types.specs.Match.{matches}
+use Rattle.types.specs.Types.{numbered}
+use Rattle.types.specs.Match.{Match, equal, fitted, unfit, matching}
+use Rattle.sizes.specs.Sizes.{wordsOf}
 use Rattle.machine.specs.Memory.{Memory, update, store}
 use Rattle.machine.specs.Layout.{location, statementAt, frameAt, topAt, worksAt, holderAt, depthAt, callerFrame, callStatement, callerWorks}
 use Rattle.machine.specs.Marks.{mark, fresh}
-use Rattle.machine.specs.Outcomes.{Outcome, ok, stuck, andThen, need, failWhere, Operand, onPlace, onValue}
+use Rattle.machine.specs.Texts.{fit}
+use Rattle.machine.specs.Outcomes.{Outcome, ok, stuck, andThen, need, failWhere, Operand, onPlace, onTyped}
 use Rattle.machine.specs.Entries.{Statement, skip, assign, localCall, processCall, create, start, opener, arm, endArms, write, blockEnd, noStatement, stmtAt}
 use Rattle.machine.specs.Variables.{frameWords}
 use Rattle.machine.specs.Context.{Context}
@@ -30,10 +33,17 @@ standing m p statement frame top works depth =
     (worksAt p) works)
     (depthAt p) depth
 
+-- what a parameter of n words gets of the words ws of a value, by how their types match
+unfoldable pub passed : ℕ → List ℕ → Match → Outcome (List ℕ)
+passed n ws equal = ok ws
+passed n ws fitted = ok (fit n ws)
+passed n ws unfit = stuck
+
 module _ (T : Table) (m page : Memory) (x : Context) where
-  -- a value argument must match its parameter; a variable argument must have its type, and its location is bound (11.3, 12.1)
+  -- a value argument is passed as it is where the types are equal, filled or cut to the parameter's words where it is fitted (02, b); a
+  -- variable argument must have the parameter's type, and its location is bound (11.3, 12.1)
   unfoldable pub valueArgument : ℕ → Outcome Operand → Outcome (List ℕ)
-  valueArgument τ o = onValue o λ σ ws. need (matches T τ σ) (ok ws)
+  valueArgument τ o = onTyped o λ σ ws. passed (wordsOf T τ) ws (matching T σ (numbered τ))
 
   unfoldable pub varArgument : ℕ → Outcome Operand → Outcome (List ℕ)
   varArgument τ o = onPlace o λ a σ. need (eqb τ σ) (ok (a ∷ []))

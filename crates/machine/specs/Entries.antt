@@ -51,7 +51,8 @@ binaryAt o =
     (pick (eqb o 12) and (pick (eqb o 13) or
     noBinary))))))))))))
 
--- variables: whole (8.3), field (8.4), indexed (8.5). Expressions: constant (6), retrieval of a variable (8.7), operators (10), type transfer (9.2)
+-- variables: whole (8.3), field (8.4), indexed (8.5). Expressions: constant (6), retrieval of a variable (8.7), operators (10), type transfer (9.2),
+-- string constant (6; 02, b: its first character and its length)
 pub data Node : Type 0 where
   constant : ℕ → ℕ → Node
   whole : ℕ → Node
@@ -61,13 +62,14 @@ pub data Node : Type 0 where
   unary : Unary → ℕ → Node
   binary : Binary → ℕ → ℕ → Node
   transfer : ℕ → ℕ → Node
+  string : ℕ → ℕ → Node
   noNode : Node
 
 -- a node of kind k, from 0 on, with its fields p, q and v
 unfoldable pub nodeOf : ℕ → ℕ → ℕ → ℕ → Node
 nodeOf k p q v =
     getD
-    (constant p v ∷ whole p ∷ field p q ∷ element p q ∷ retrieve p ∷ unary (unaryAt q) p ∷ binary (binaryAt v) p q ∷ transfer p q ∷ [])
+    (constant p v ∷ whole p ∷ field p q ∷ element p q ∷ retrieve p ∷ unary (unaryAt q) p ∷ binary (binaryAt v) p q ∷ transfer p q ∷ string p q ∷ [])
     k noNode
 
 unfoldable pub nodeAt : Table → ℕ → Node

@@ -1,6 +1,7 @@
 pub mod Memory
 pub mod Layout
 pub mod Marks
+pub mod Texts
 pub mod MarkRuns
 pub mod Outcomes
 pub mod Entries

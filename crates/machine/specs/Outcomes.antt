@@ -4,9 +4,10 @@
 use Prim.Native.Nat.{ℕ}
 use mathlib.Core.Bool.{Bool, true, false}
 use mathlib.Core.List.{List}
-use lib.ListN.{getD}
+use lib.ListN.{length, getD}
 use lib.Dec.{eqb}
 use Rattle.basics.specs.Choice.{either, between}
+use Rattle.types.specs.Types.{NodeType, numbered, string}
 
 -- n is the number of a failure (01, Step answers; 02, g)
 unfoldable pub isFailure : ℕ → Bool
@@ -34,25 +35,38 @@ unfoldable pub failWhere : {A : Type 0} → Bool → ℕ → Outcome A → Outco
 failWhere true n o = fail n
 failWhere false n o = o
 
--- a variable selects a place, a location and its type (8.2); an expression yields a value, a type and the words of the value (9)
+-- a variable selects a place, a location and its type (8.2); an expression yields a value, a type and the words of the value (9);
+-- a string constant yields a text, the characters that it has (02, b)
 pub data Operand : Type 0 where
   place : ℕ → ℕ → Operand
   value : ℕ → List ℕ → Operand
+  text : List ℕ → Operand
 
 unfoldable pub placed : {A : Type 0} → Operand → (ℕ → ℕ → Outcome A) → Outcome A
 placed (place a τ) f = f a τ
 placed (value τ ws) f = stuck
+placed (text ws) f = stuck
 
 unfoldable pub valued : {A : Type 0} → Operand → (ℕ → List ℕ → Outcome A) → Outcome A
 valued (place a τ) f = stuck
 valued (value τ ws) f = f τ ws
+valued (text ws) f = stuck
 
--- the operand is a variable; it is an expression; it is an expression of type τ, whose value is one word
+unfoldable pub typed : {A : Type 0} → Operand → (NodeType → List ℕ → Outcome A) → Outcome A
+typed (place a τ) f = stuck
+typed (value τ ws) f = f (numbered τ) ws
+typed (text ws) f = f (string (length ws)) ws
+
+-- the operand is a variable; it is an expression whose type has a number; it is any expression; it is an expression of type τ, whose value
+-- is one word
 unfoldable pub onPlace : {A : Type 0} → Outcome Operand → (ℕ → ℕ → Outcome A) → Outcome A
 onPlace o f = andThen o λ x. placed x f
 
 unfoldable pub onValue : {A : Type 0} → Outcome Operand → (ℕ → List ℕ → Outcome A) → Outcome A
 onValue o f = andThen o λ x. valued x f
+
+unfoldable pub onTyped : {A : Type 0} → Outcome Operand → (NodeType → List ℕ → Outcome A) → Outcome A
+onTyped o f = andThen o λ x. typed x f
 
 unfoldable pub wordOf : List ℕ → ℕ
 wordOf ws = getD ws 0 0

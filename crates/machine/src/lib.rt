@@ -1,6 +1,4 @@
 // Access to a lent state by word: areas, control records and frames (01, The four calls; docs/STATE.md).
-pub mod marks;
-
 ghost use mathlib.Core.Path.{_≡_};
 ghost use Prim.Native.Nat.{_*_, _≤_, _<_};
 ghost use Rattle.machine.specs.Memory.{memoryOf, update};

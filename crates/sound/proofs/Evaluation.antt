@@ -11,7 +11,8 @@ use borrow.Author.Tests.{eqb-true, eqb-false, leb-true, leb-false}
 use Rattle.basics.specs.Cases.{cases}
 use Rattle.table.specs.Table.{Table}
 use Rattle.table.specs.Entries.{blockCount, nodeCount, firstVar, params, nodeKind}
-use Rattle.types.specs.Types.{typeOf}
+use Rattle.types.specs.Types.{typeOf, NodeType, numbered, typeOfNode}
+use Rattle.types.proofs.Matching.{numbered-type}
 use Rattle.scopes.specs.Scopes.{nodeScoped, scoped}
 use Rattle.machine.specs.Memory.{Memory}
 use Rattle.machine.specs.Layout.{statementAt, createdAt}
@@ -22,12 +23,12 @@ use Rattle.machine.specs.Context.{contextOf, blockOf}
 use Rattle.machine.specs.Operands.{operand}
 use Rattle.machine.specs.Statements.{perform}
 use Rattle.verdict.specs.Accepted.{Accepted}
-use Rattle.sound.specs.Claims.{PlaceLaws, Started, Good, selects, yields}
+use Rattle.sound.specs.Claims.{PlaceLaws, Started, Good, selects, yields, spells}
 use Rattle.sound.specs.Answers.{Small}
 use Rattle.sound.specs.Claims as claims
 use Rattle.sound.specs.Ruled.{Ruled, Fills}
 use Rattle.sound.specs.Reached.{WordTable}
-use Rattle.sound.specs.Evaluated.{GoodPlace, at-place, no-place, GoodValue, a-value, no-value, GoodNode, Bound, Performed}
+use Rattle.sound.specs.Evaluated.{GoodPlace, at-place, no-place, GoodValue, a-value, a-text, no-value, GoodNode, Bound, Performed}
 use Rattle.sound.proofs.Ruled.{ruled, stands}
 use Rattle.sound.proofs.StoresChains.{created-low, created-high}
 use Rattle.sound.proofs.EvaluationNodes.{node-good}
@@ -36,14 +37,15 @@ use Rattle.sound.proofs.EvaluationPerforms.{performs}
 use Rattle.sound.proofs.EvaluationScopes.{node-scoping, all-scoped}
 
 -- a good place and a good value are good
-module _ (T : Table) (m : Memory) (p τ : ℕ) where
-  place-is-good : (o : Outcome Operand) → GoodPlace T m p τ o → Good T m p τ o
-  place-is-good _ (at-place a l) = selects a (l .alive)
-  place-is-good _ (no-place n l) = claims.fails n l
+module _ (T : Table) (m : Memory) (p : ℕ) where
+  place-is-good : (τ : ℕ) (o : Outcome Operand) → GoodPlace T m p τ o → Good T m p (numbered τ) o
+  place-is-good τ _ (at-place a l) = selects a (l .alive)
+  place-is-good τ _ (no-place n l) = claims.fails n l
 
-  value-is-good : (o : Outcome Operand) → GoodValue T m τ o → Good T m p τ o
-  value-is-good _ (a-value ws v s) = yields ws v
-  value-is-good _ (no-value n l) = claims.fails n l
+  value-is-good : (κ : NodeType) (o : Outcome Operand) → GoodValue T m κ o → Good T m p κ o
+  value-is-good _ _ (a-value ws v s) = yields ws v
+  value-is-good _ _ (a-text ws t) = spells ws t
+  value-is-good _ _ (no-value n l) = claims.fails n l
 
 -- the words of arguments fill the parameters of block b
 pub fills : (T : Table) (m : Memory) (p b : ℕ) (ws : List ℕ) → Bound T m p (params T b) (firstVar T b) ws → Fills T m p b ws
@@ -73,16 +75,18 @@ module _ (T : Table) (acc : Accepted T) (inner : scoped T ≡ true) (L : PlaceLa
   evaluates n l c = node-good T acc L W m R ms page ps p some made (S .started) (λ k. nodeScoped T (blockOf m p) k ≡ true) (node-scoping T acc (blockOf m p) there) n l c
 
   -- and as the claims have it
-  pub good : (n : ℕ) → n < nodeCount T → nodeScoped T (blockOf m p) n ≡ true → Good T m p (typeOf T n) (operand T m page (contextOf m p) n)
+  pub good : (n : ℕ) → n < nodeCount T → nodeScoped T (blockOf m p) n ≡ true → Good T m p (typeOfNode T n) (operand T m page (contextOf m p) n)
   good n l c =
       let g = evaluates n l c in
       cases (eqb (nodeKind T n) 0)
-      (λ q. let e = eqb-true (nodeKind T n) 0 q in value-is-good T m p (typeOf T n) (operand T m page (contextOf m p) n) (g .expression (λ z. omega arith)))
+      (λ q. let e = eqb-true (nodeKind T n) 0 q in value-is-good T m p (typeOfNode T n) (operand T m page (contextOf m p) n) (g .expression (λ z. omega arith)))
       (λ q.
       let e = eqb-false (nodeKind T n) 0 q in
       cases (leb (nodeKind T n) 3)
-      (λ u. place-is-good T m p (typeOf T n) (operand T m page (contextOf m p) n) (g .variable (omega arith) (leb-true (nodeKind T n) 3 u)))
-      (λ u. value-is-good T m p (typeOf T n) (operand T m page (contextOf m p) n) (g .expression (λ z. leb-false (nodeKind T n) 3 u))))
+      (λ u.
+      let f = leb-true (nodeKind T n) 3 u in
+      rw (numbered-type T n (λ z. omega arith)) (place-is-good T m p (typeOf T n) (operand T m page (contextOf m p) n) (g .variable (omega arith) f)))
+      (λ u. value-is-good T m p (typeOfNode T n) (operand T m page (contextOf m p) n) (g .expression (λ z. leb-false (nodeKind T n) 3 u))))
 
   -- THE STATEMENT of a started process is not stuck, and this is what it comes to
   pub performed : Performed T m page p (perform T m page (contextOf m p) (stmtAt T (m (statementAt p))))

@@ -11,34 +11,35 @@ use lib.Dec.{eqb, ltb}
 use borrow.Author.Tests.{eqb-true, eqb-false, ltb-true, ltb-false, lt-ltb, eq-eqb}
 use Rattle.basics.specs.Choice.{both}
 use Rattle.basics.specs.Cases.{cases}
-use Rattle.basics.proofs.Bools.{both-l, both-i}
+use Rattle.basics.proofs.Bools.{no-true, both-l, both-i}
 use Rattle.table.specs.Table.{Table}
 use Rattle.table.specs.Entries.{varCount, blockCount, argCount, varMode, varType, firstVar, params, vars, argNode}
-use Rattle.types.specs.Types.{typeOf}
-use Rattle.types.specs.Match.{matches}
+use Rattle.types.specs.Types.{typeOf, NodeType, numbered, typeOfNode}
+use Rattle.types.specs.Match.{Match, equal, fitted, unfit, matching, isEqual, isFit}
 use Rattle.numbers.proofs.BlockPromise.{params-vars, vars-there, mode-parameter}
 use Rattle.numbers.proofs.OperandPromise.{arg-node}
 use Rattle.typing.proofs.Promise.{Suits, Arguments}
-use Rattle.sizes.specs.Sizes.{sumBelow}
+use Rattle.sizes.specs.Sizes.{wordsOf, sumBelow}
 use Rattle.sizes.proofs.Sums.{sum-up}
 use Rattle.machine.specs.Memory.{Memory, wordsAt}
 use Rattle.machine.specs.Layout.{statusAt, createdAt, locations}
+use Rattle.machine.specs.Texts.{fit}
 use Rattle.machine.specs.Outcomes.{Outcome, ok, fail, andThen, isFailure}
 use Rattle.machine.specs.Variables.{varWords, firstWords, frameWords, fits}
 use Rattle.machine.specs.Values.{holds}
 use Rattle.machine.specs.Context.{contextOf, blockOf}
 use Rattle.machine.specs.Operands.{operand}
-use Rattle.machine.specs.Calls.{valueArgument, varArgument, argument, argumentWords, arguments}
+use Rattle.machine.specs.Calls.{passed, valueArgument, varArgument, argument, argumentWords, arguments}
 use Rattle.verdict.specs.Accepted.{Accepted}
-use Rattle.sound.specs.Claims.{Keeps, IsValue, PlaceLaws}
+use Rattle.sound.specs.Claims.{Keeps, IsValue, Words, PlaceLaws}
 use Rattle.sound.specs.Answers.{Small}
 use Rattle.sound.specs.Ruled.{Ruled}
 use Rattle.sound.specs.Reached.{WordTable}
 use Rattle.sound.specs.Evaluated.{SmallWords, Live, GoodNode, Scoping, Bound, unbound, by-value, by-place, GoodArguments, the-words, no-words}
-use Rattle.sound.proofs.EvaluationBasics.{on-need, on-place, on-value}
-use Rattle.sound.proofs.EvaluationTypes.{matches-sym}
+use Rattle.sound.proofs.EvaluationBasics.{text-small, on-need, on-place, on-typed}
 use Rattle.sound.proofs.EvaluationNodes.{node-good}
 use Rattle.sound.proofs.ValueBlocks.{words-value, words-var}
+use Rattle.sound.proofs.ValueTexts.{equal-value, fitted-text, fitted-value}
 
 -- ---- the words of parameters
 
@@ -204,14 +205,26 @@ module _ (T : Table) (acc : Accepted T) (L : PlaceLaws T) (W : WordTable T) (m :
   argument-node : (v i : ℕ) → Passes T scope v i → GoodNode T m p (argNode T i) (operand T m page (contextOf m p) (argNode T i))
   argument-node v i h = node-good T acc L W m R ms page ps p some made s scope S (argNode T i) (arg-node T (acc .numbers) i (h .number)) (h .scoped)
 
+  -- a value is passed as it is, or filled or cut to the parameter's words
+  passed-good : (v : ℕ) (κ : NodeType) (us : List ℕ) → (varMode T v ≡ 2 → ⊥) → isFit (matching T κ (numbered (varType T v))) ≡ true → Words T m κ us → SmallWords us
+      → GoodArgument T m p v (passed (wordsOf T (varType T v)) us (matching T κ (numbered (varType T v))))
+  unfolding passed isFit isEqual
+  passed-good v κ us n g u w = go (matching T κ (numbered (varType T v))) refl g
+    where
+      go : (k : Match) → matching T κ (numbered (varType T v)) ≡ k → isFit k ≡ true → GoodArgument T m p v (passed (wordsOf T (varType T v)) us k)
+      go equal e f = for-value us n (equal-value T m κ us u (varType T v) (rw e)) w
+      go fitted e f =
+          for-value (fit (wordsOf T (varType T v)) us) n (fitted-value T m κ us u (varType T v) (rw e) (rw e))
+          (text-small _ (fit (wordsOf T (varType T v)) us) (fitted-text T m κ us u (varType T v) (rw e) (rw e)))
+      go unfit e f = no-true f
+
   value-argument : (v i : ℕ) → Passes T scope v i → (varMode T v ≡ 2 → ⊥) → GoodArgument T m p v (valueArgument T m page (contextOf m p) (varType T v) (operand T m page (contextOf m p) (argNode T i)))
   unfolding valueArgument
   value-argument v i h n =
       let g = h .suits .expression n in
-      let t = matches-sym T (typeOf T (argNode T i)) (varType T v) (h .suits .matching n) in
-      on-value (GoodArgument T m p v) for-none T m (typeOf T (argNode T i)) (operand T m page (contextOf m p) (argNode T i)) _
+      on-typed (GoodArgument T m p v) for-none T m (typeOfNode T (argNode T i)) (operand T m page (contextOf m p) (argNode T i)) _
       (argument-node v i h .expression (g .1))
-      (λ us u w. on-need (GoodArgument T m p v) for-none (matches T (varType T v) (typeOf T (argNode T i))) _ t (for-value us n (L .matching m (varType T v) (typeOf T (argNode T i)) us t u) w))
+      (λ us u w. passed-good v (typeOfNode T (argNode T i)) us n (h .suits .fit n) u w)
 
   var-argument : (v i : ℕ) → Passes T scope v i → varMode T v ≡ 2 → GoodArgument T m p v (varArgument T m page (contextOf m p) (varType T v) (operand T m page (contextOf m p) (argNode T i)))
   unfolding varArgument

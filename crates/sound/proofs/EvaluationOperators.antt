@@ -12,8 +12,8 @@ use Rattle.basics.specs.Choice.{pick, both}
 use Rattle.basics.specs.Cases.{cases}
 use Rattle.basics.proofs.Bools.{no-true, both-l, both-r, both-i}
 use Rattle.table.specs.Table.{Table}
-use Rattle.types.specs.Types.{unaryType, binaryType}
-use Rattle.types.specs.Match.{offset, matches}
+use Rattle.types.specs.Types.{unaryType, binaryType, NodeType, numbered, numberOf}
+use Rattle.types.specs.Match.{offset, matching, isEqual}
 use Rattle.words.specs.Numbers.{intOf, between}
 use Rattle.words.specs.Numbers as numbers
 use Rattle.words.specs.Operators.{ranged, addW, subW, negW, mulW, divW, modW, leW, notW, andW, orW, notB, andB, orB}
@@ -99,42 +99,42 @@ module _ (low high i : ℕ) (a : low < 65536) (b : high < 65536) (c : i < 65536)
   index-high = le-offset i high c b (both-r _ _ inside)
 
 module _ (T : Table) (m : Memory) where
-  pub simple-good : (τ w : ℕ) → IsValue T m τ (w ∷ []) → w < 65536 → GoodValue T m τ (simple τ w)
+  pub simple-good : (τ w : ℕ) → IsValue T m τ (w ∷ []) → w < 65536 → GoodValue T m (numbered τ) (simple τ w)
   unfolding simple
   simple-good τ w v l = a-value (w ∷ []) v (one-small w l)
 
-  pub integer-good : (w : ℕ) → w < 65536 → GoodValue T m 0 (simple 0 w)
+  pub integer-good : (w : ℕ) → w < 65536 → GoodValue T m (numbered 0) (simple 0 w)
   integer-good w l = simple-good 0 w (integer-value T m w) l
 
-  pub boolean-good : (w : ℕ) → w ≤ 1 → GoodValue T m 1 (simple 1 w)
+  pub boolean-good : (w : ℕ) → w ≤ 1 → GoodValue T m (numbered 1) (simple 1 w)
   boolean-good w l = simple-good 1 w (boolean-value T m w l) (omega arith)
 
-  pub character-good : (w : ℕ) → w ≤ 127 → GoodValue T m 2 (simple 2 w)
+  pub character-good : (w : ℕ) → w ≤ 127 → GoodValue T m (numbered 2) (simple 2 w)
   character-good w l = simple-good 2 w (character-value T m w l) (omega arith)
 
-  pub truth-good : (b : Bool) → GoodValue T m 1 (truth b)
+  pub truth-good : (b : Bool) → GoodValue T m (numbered 1) (truth b)
   unfolding truth
   truth-good true = boolean-good 1 (omega arith)
   truth-good false = boolean-good 0 (omega arith)
 
-  given-good : (o : words.Outcome) → Ranged o → GoodValue T m 0 (given 0 o)
+  given-good : (o : words.Outcome) → Ranged o → GoodValue T m (numbered 0) (given 0 o)
   unfolding given
   given-good _ (a-word w l) = integer-good w l
   given-good _ (no-word n l) = no-value n l
 
-  transferred : (τ w : ℕ) (b : Bool) → (b ≡ true → IsValue T m τ (w ∷ [])) → w < 65536 → GoodValue T m τ (given τ (pick b (words.word w) (words.fail 23)))
+  transferred : (τ w : ℕ) (b : Bool) → (b ≡ true → IsValue T m τ (w ∷ [])) → w < 65536 → GoodValue T m (numbered τ) (given τ (pick b (words.word w) (words.fail 23)))
   unfolding given
   transferred τ w true h l = simple-good τ w (h refl) l
   transferred τ w false h l = no-value 23 (failure-i 23 (omega arith) (omega arith))
 
-  pub transfer-good : (τ w : ℕ) → τ ≤ 2 → w < 65536 → GoodValue T m τ (given τ (transferW τ w))
+  pub transfer-good : (τ w : ℕ) → τ ≤ 2 → w < 65536 → GoodValue T m (numbered τ) (given τ (transferW τ w))
   unfolding transferW
   transfer-good zero w t l = transferred 0 w (inType 0 w) (λ e. integer-value T m w) l
   transfer-good (suc zero) w t l = transferred 1 w (inType 1 w) (λ e. boolean-value T m w (leb-true w 1 (sym (boolean-is w l) ∙ e))) l
   transfer-good (suc (suc zero)) w t l = transferred 2 w (inType 2 w) (λ e. character-value T m w (leb-true w 127 (sym (character-is w l) ∙ e))) l
   transfer-good (suc (suc (suc τ))) w t l = absurd (omega arith)
 
-  pub constant-good : (τ w : ℕ) → τ ≤ 2 → w < 65536 → (τ ≡ 1 → w ≤ 1) → (τ ≡ 2 → w ≤ 127) → GoodValue T m τ (simple τ w)
+  pub constant-good : (τ w : ℕ) → τ ≤ 2 → w < 65536 → (τ ≡ 1 → w ≤ 1) → (τ ≡ 2 → w ≤ 127) → GoodValue T m (numbered τ) (simple τ w)
   constant-good zero w t l b c = integer-good w l
   constant-good (suc zero) w t l b c = boolean-good w (b refl)
   constant-good (suc (suc zero)) w t l b c = character-good w (c refl)
@@ -142,46 +142,55 @@ module _ (T : Table) (m : Memory) where
 
   -- unary operators
   module _ (page : Memory) (ps : Small page) (w : ℕ) (l : w < 65536) where
-    not-good : (τ : ℕ) → τ ≤ 1 → GoodValue T m τ (unaryValue page (unaryAt 2) τ w)
+    not-good : (τ : ℕ) → τ ≤ 1 → GoodValue T m (numbered τ) (unaryValue page (unaryAt 2) τ w)
     unfolding unaryAt unaryValue
     not-good zero t = integer-good (notW w) (omega arith)
-    not-good (suc zero) t = on-need (GoodValue T m 1) no-value true _ refl (boolean-good (notB w) (not-boolean w))
+    not-good (suc zero) t = on-need (GoodValue T m (numbered 1)) no-value true _ refl (boolean-good (notB w) (not-boolean w))
     not-good (suc (suc τ)) t = absurd (omega arith)
 
-    pub unary-good : (q τ : ℕ) → 1 ≤ q → q ≤ 3 → (q ≡ 2 → τ ≤ 1) → ((q ≡ 2 → ⊥) → τ ≡ 0) → GoodValue T m (unaryType q τ) (unaryValue page (unaryAt q) τ w)
+    pub unary-good : (q τ : ℕ) → 1 ≤ q → q ≤ 3 → (q ≡ 2 → τ ≤ 1) → ((q ≡ 2 → ⊥) → τ ≡ 0) → GoodValue T m (numbered (unaryType q τ)) (unaryValue page (unaryAt q) τ w)
     unfolding unaryType unaryAt unaryValue
     unary-good zero τ a b h i = absurd (omega arith)
     unary-good (suc zero) τ a b h i =
         let e : τ ≡ 0 = i (λ z. omega arith) in
-        rw e (on-need (GoodValue T m 0) no-value true _ refl (given-good (negW w) (neg-is w)))
+        rw e (on-need (GoodValue T m (numbered 0)) no-value true _ refl (given-good (negW w) (neg-is w)))
     unary-good (suc (suc zero)) τ a b h i = not-good τ (h refl)
     unary-good (suc (suc (suc zero))) τ a b h i =
         let e : τ ≡ 0 = i (λ z. omega arith) in
-        rw e (on-need (GoodValue T m 0) no-value true _ refl
-        (on-fail (GoodValue T m 0) no-value (bool.not (isDevice (intOf w))) 21 _ (failure-i 21 (omega arith) (omega arith)) (λ z. integer-good (page (deviceWord w)) (ps .small (deviceWord w)))))
+        rw e (on-need (GoodValue T m (numbered 0)) no-value true _ refl
+        (on-fail (GoodValue T m (numbered 0)) no-value (bool.not (isDevice (intOf w))) 21 _ (failure-i 21 (omega arith) (omega arith)) (λ z. integer-good (page (deviceWord w)) (ps .small (deviceWord w)))))
     unary-good (suc (suc (suc (suc q)))) τ a b h i = absurd (omega arith)
 
   -- binary operators
-  ordered-good : (τ σ : ℕ) (b : Bool) → τ ≡ σ → τ ≤ 2 → GoodValue T m 1 (ordered τ σ b)
+  ordered-good : (τ σ : ℕ) (b : Bool) → τ ≡ σ → τ ≤ 2 → GoodValue T m (numbered 1) (ordered τ σ b)
   unfolding ordered
   ordered-good τ σ b e t =
-      on-need (GoodValue T m 1) no-value (both (eqb τ σ) (ltb τ 3)) _ (both-i _ _ (eq-eqb τ σ e) (lt-ltb τ 3 (omega arith))) (truth-good b)
+      on-need (GoodValue T m (numbered 1)) no-value (both (eqb τ σ) (ltb τ 3)) _ (both-i _ _ (eq-eqb τ σ e) (lt-ltb τ 3 (omega arith))) (truth-good b)
 
-  integral-good : (τ σ : ℕ) (o : words.Outcome) → τ ≡ σ → τ ≡ 0 → Ranged o → GoodValue T m 0 (integral τ σ o)
+  integral-good : (τ σ : ℕ) (o : words.Outcome) → τ ≡ σ → τ ≡ 0 → Ranged o → GoodValue T m (numbered 0) (integral τ σ o)
   unfolding integral
   integral-good τ σ o e t r =
-      on-need (GoodValue T m 0) no-value (both (eqb τ 0) (eqb σ 0)) _ (both-i _ _ (eq-eqb τ 0 t) (eq-eqb σ 0 (sym e ∙ t))) (given-good o r)
+      on-need (GoodValue T m (numbered 0)) no-value (both (eqb τ 0) (eqb σ 0)) _ (both-i _ _ (eq-eqb τ 0 t) (eq-eqb σ 0 (sym e ∙ t))) (given-good o r)
 
-  logical-good : (τ σ i b : ℕ) → τ ≡ σ → τ ≤ 1 → i < 65536 → (τ ≡ 1 → b ≤ 1) → GoodValue T m τ (logical τ σ i b)
+  logical-good : (τ σ i b : ℕ) → τ ≡ σ → τ ≤ 1 → i < 65536 → (τ ≡ 1 → b ≤ 1) → GoodValue T m (numbered τ) (logical τ σ i b)
   unfolding logical
-  logical-good zero σ i b e t l h = on-need (GoodValue T m 0) no-value (eqb 0 σ) _ (eq-eqb 0 σ e) (integer-good i l)
+  logical-good zero σ i b e t l h = on-need (GoodValue T m (numbered 0)) no-value (eqb 0 σ) _ (eq-eqb 0 σ e) (integer-good i l)
   logical-good (suc zero) σ i b e t l h =
-      on-need (GoodValue T m 1) no-value (eqb 1 σ) _ (eq-eqb 1 σ e) (on-need (GoodValue T m 1) no-value true _ refl (boolean-good b (h refl)))
+      on-need (GoodValue T m (numbered 1)) no-value (eqb 1 σ) _ (eq-eqb 1 σ e) (on-need (GoodValue T m (numbered 1)) no-value true _ refl (boolean-good b (h refl)))
   logical-good (suc (suc τ)) σ i b e t l h = absurd (omega arith)
 
-  equal-good : (τ σ : ℕ) (b : Bool) → matches T τ σ ≡ true → GoodValue T m 1 (need (matches T τ σ) (truth b))
-  equal-good τ σ b e = on-need (GoodValue T m 1) no-value (matches T τ σ) _ e (truth-good b)
+  equal-good : (κ ν : NodeType) (b : Bool) → isEqual (matching T κ ν) ≡ true → GoodValue T m (numbered 1) (need (isEqual (matching T κ ν)) (truth b))
+  equal-good κ ν b e = on-need (GoodValue T m (numbered 1)) no-value (isEqual (matching T κ ν)) _ e (truth-good b)
 
+  -- = and <>, of whatever types that are equal
+  pub equality-good : (κ ν : NodeType) (us vs : List ℕ) (v τ : ℕ) → 1 ≤ v → v ≤ 2 → isEqual (matching T κ ν) ≡ true → GoodValue T m (numbered (binaryType v τ)) (binaryValue T (binaryAt v) κ us ν vs)
+  unfolding binaryType binaryAt binaryValue
+  equality-good κ ν us vs zero τ a b e = absurd (omega arith)
+  equality-good κ ν us vs (suc zero) τ a b e = equal-good κ ν _ e
+  equality-good κ ν us vs (suc (suc zero)) τ a b e = equal-good κ ν _ e
+  equality-good κ ν us vs (suc (suc (suc v))) τ a b e = absurd (omega arith)
+
+  -- the others, of types that have numbers
   module _ (τ σ : ℕ) (us vs : List ℕ) (u : IsValue T m τ us) (su : SmallWords us) (sv : SmallWords vs) where
     small-u : wordOf us < 65536
     small-u = word-small us su
@@ -192,25 +201,25 @@ module _ (T : Table) (m : Memory) where
     boolean-u : τ ≡ 1 → wordOf us ≤ 1
     boolean-u e = boolean-word T m us (rw e at u)
 
-    pub binary-good : (v : ℕ) → 1 ≤ v → v ≤ 13 → (v ≤ 2 → matches T τ σ ≡ true) → (3 ≤ v → τ ≡ σ) → (3 ≤ v → v ≤ 6 → τ ≤ 2) → (7 ≤ v → v ≤ 11 → τ ≡ 0) → (12 ≤ v → τ ≤ 1)
-        → GoodValue T m (binaryType v τ) (binaryValue T (binaryAt v) τ us σ vs)
-    unfolding binaryType binaryAt binaryValue
-    binary-good zero a b e s o n l = absurd (omega arith)
-    binary-good (suc zero) a b e s o n l = equal-good τ σ _ (e (omega arith))
-    binary-good (suc (suc zero)) a b e s o n l = equal-good τ σ _ (e (omega arith))
-    binary-good (suc (suc (suc zero))) a b e s o n l = ordered-good τ σ _ (s (omega arith)) (o (omega arith) (omega arith))
-    binary-good (suc (suc (suc (suc zero)))) a b e s o n l = ordered-good τ σ _ (s (omega arith)) (o (omega arith) (omega arith))
-    binary-good (suc (suc (suc (suc (suc zero))))) a b e s o n l = ordered-good τ σ _ (s (omega arith)) (o (omega arith) (omega arith))
-    binary-good (suc (suc (suc (suc (suc (suc zero)))))) a b e s o n l = ordered-good τ σ _ (s (omega arith)) (o (omega arith) (omega arith))
-    binary-good (suc (suc (suc (suc (suc (suc (suc zero))))))) a b e s o n l = integral-good τ σ _ (s (omega arith)) (n (omega arith) (omega arith)) (add-is (wordOf us) (wordOf vs))
-    binary-good (suc (suc (suc (suc (suc (suc (suc (suc zero)))))))) a b e s o n l = integral-good τ σ _ (s (omega arith)) (n (omega arith) (omega arith)) (sub-is (wordOf us) (wordOf vs))
-    binary-good (suc (suc (suc (suc (suc (suc (suc (suc (suc zero))))))))) a b e s o n l = integral-good τ σ _ (s (omega arith)) (n (omega arith) (omega arith)) (mul-is (wordOf us) (wordOf vs))
-    binary-good (suc (suc (suc (suc (suc (suc (suc (suc (suc (suc zero)))))))))) a b e s o n l = integral-good τ σ _ (s (omega arith)) (n (omega arith) (omega arith)) (div-is (wordOf us) (wordOf vs))
-    binary-good (suc (suc (suc (suc (suc (suc (suc (suc (suc (suc (suc zero))))))))))) a b e s o n l = integral-good τ σ _ (s (omega arith)) (n (omega arith) (omega arith)) (mod-is (wordOf us) (wordOf vs))
-    binary-good (suc (suc (suc (suc (suc (suc (suc (suc (suc (suc (suc (suc zero)))))))))))) a b e s o n l =
-        logical-good τ σ (andW (wordOf us) (wordOf vs)) (andB (wordOf us) (wordOf vs)) (s (omega arith)) (l (omega arith))
+    pub binary-good : (v : ℕ) → 3 ≤ v → v ≤ 13 → τ ≡ σ → (v ≤ 6 → τ ≤ 2) → (7 ≤ v → v ≤ 11 → τ ≡ 0) → (12 ≤ v → τ ≤ 1)
+        → GoodValue T m (numbered (binaryType v τ)) (binaryValue T (binaryAt v) (numbered τ) us (numbered σ) vs)
+    unfolding binaryType binaryAt binaryValue numberOf
+    binary-good zero a b s o n l = absurd (omega arith)
+    binary-good (suc zero) a b s o n l = absurd (omega arith)
+    binary-good (suc (suc zero)) a b s o n l = absurd (omega arith)
+    binary-good (suc (suc (suc zero))) a b s o n l = ordered-good τ σ _ s (o (omega arith))
+    binary-good (suc (suc (suc (suc zero)))) a b s o n l = ordered-good τ σ _ s (o (omega arith))
+    binary-good (suc (suc (suc (suc (suc zero))))) a b s o n l = ordered-good τ σ _ s (o (omega arith))
+    binary-good (suc (suc (suc (suc (suc (suc zero)))))) a b s o n l = ordered-good τ σ _ s (o (omega arith))
+    binary-good (suc (suc (suc (suc (suc (suc (suc zero))))))) a b s o n l = integral-good τ σ _ s (n (omega arith) (omega arith)) (add-is (wordOf us) (wordOf vs))
+    binary-good (suc (suc (suc (suc (suc (suc (suc (suc zero)))))))) a b s o n l = integral-good τ σ _ s (n (omega arith) (omega arith)) (sub-is (wordOf us) (wordOf vs))
+    binary-good (suc (suc (suc (suc (suc (suc (suc (suc (suc zero))))))))) a b s o n l = integral-good τ σ _ s (n (omega arith) (omega arith)) (mul-is (wordOf us) (wordOf vs))
+    binary-good (suc (suc (suc (suc (suc (suc (suc (suc (suc (suc zero)))))))))) a b s o n l = integral-good τ σ _ s (n (omega arith) (omega arith)) (div-is (wordOf us) (wordOf vs))
+    binary-good (suc (suc (suc (suc (suc (suc (suc (suc (suc (suc (suc zero))))))))))) a b s o n l = integral-good τ σ _ s (n (omega arith) (omega arith)) (mod-is (wordOf us) (wordOf vs))
+    binary-good (suc (suc (suc (suc (suc (suc (suc (suc (suc (suc (suc (suc zero)))))))))))) a b s o n l =
+        logical-good τ σ (andW (wordOf us) (wordOf vs)) (andB (wordOf us) (wordOf vs)) s (l (omega arith))
         (and-word (wordOf us) (wordOf vs) small-u small-v) (λ t. and-boolean (wordOf us) (wordOf vs) (boolean-u t))
-    binary-good (suc (suc (suc (suc (suc (suc (suc (suc (suc (suc (suc (suc (suc zero))))))))))))) a b e s o n l =
-        logical-good τ σ (orW (wordOf us) (wordOf vs)) (orB (wordOf us) (wordOf vs)) (s (omega arith)) (l (omega arith))
+    binary-good (suc (suc (suc (suc (suc (suc (suc (suc (suc (suc (suc (suc (suc zero))))))))))))) a b s o n l =
+        logical-good τ σ (orW (wordOf us) (wordOf vs)) (orB (wordOf us) (wordOf vs)) s (l (omega arith))
         (or-word (wordOf us) (wordOf vs) small-u small-v) (λ t. or-boolean (wordOf us) (wordOf vs) (boolean-u t))
-    binary-good (suc (suc (suc (suc (suc (suc (suc (suc (suc (suc (suc (suc (suc (suc v)))))))))))))) a b e s o n l = absurd (omega arith)
+    binary-good (suc (suc (suc (suc (suc (suc (suc (suc (suc (suc (suc (suc (suc (suc v)))))))))))))) a b s o n l = absurd (omega arith)

@@ -36,7 +36,7 @@ use Rattle.sound.proofs.Ruled.{lies-from, lies-to, lies-i, stands}
 use Rattle.sound.proofs.StoresMemory.{update-small}
 use Rattle.sound.proofs.StoresStanding.{stand-small}
 use Rattle.sound.proofs.EvaluationBasics.{on-need, on-word}
-use Rattle.sound.proofs.EvaluationStatements.{stmt-is, expression-good, assign-performs, write-performs, create-performs, local-performs, process-performs, start-performs}
+use Rattle.sound.proofs.EvaluationStatements.{stmt-is, number-good, assign-performs, write-performs, create-performs, local-performs, process-performs, start-performs}
 
 -- the statements of a block, as the rule and as the nesting say it
 module _ (T : Table) (b c : ℕ) where
@@ -116,7 +116,7 @@ module _ (T : Table) (acc : Accepted T) (L : PlaceLaws T) (W : WordTable T) (m :
       let k : stmtKind T i ≡ 10 = eqb-true (stmtKind T i) 10 q in
       rw (arm-is i o k)
       (on-word (Chosen T (blockOf m p)) failing T m 1 (operand T m page (contextOf m p) (stmtA T i)) _
-      (rw (typing.guard T (acc .types) i (inside i o) k) at (expression-good T acc L W m R ms page ps p some made s scope (S .nodes) stmt-in (stmtA T i) (ranged.arm-guard T (acc .numbers) i (inside i o) k) (S .guard i (lies i o) k)))
+      (rw (typing.guard T (acc .types) i (inside i o) k) at (number-good T acc L W m R ms page ps p some made s scope (S .nodes) stmt-in (stmtA T i) (ranged.arm-guard T (acc .numbers) i (inside i o) k) (S .guard i (lies i o) k) (typing.guard-numbered T (acc .types) i (inside i o) k)))
       (λ ws v t. cases (eqb (wordOf ws) 0)
       (λ e. rw e (on-need (Chosen T (blockOf m p)) failing (ltb i (stmtLink T i)) _ (lt-ltb i (stmtLink T i) (arm-up T (acc .nesting) (blockOf m p) there i o k)) (next k)))
       (λ e. rw e (entering i o k)))))

@@ -12,9 +12,10 @@ use Rattle.basics.specs.Cases.{cases}
 use Rattle.basics.specs.Course.{course}
 use Rattle.basics.proofs.Bools.{both-l, both-r, both-i, either-case}
 use Rattle.table.specs.Table.{Table}
-use Rattle.table.specs.Entries.{blockCount, argCount, nodeCount, stmtCount, typeKind, typeP, blockKind, owner, firstVar, params, argNode, stmtKind, stmtA, stmtB, stmtC, stmtD, stmtLink}
-use Rattle.types.specs.Types.{typeOf}
-use Rattle.types.specs.Match.{matches}
+use Rattle.table.specs.Entries.{blockCount, argCount, nodeCount, stmtCount, typeKind, typeP, blockKind, owner, firstVar, params, argNode, nodeKind, stmtKind, stmtA, stmtB, stmtC, stmtD, stmtLink}
+use Rattle.types.specs.Types.{typeOf, numbered, typeOfNode}
+use Rattle.types.specs.Match.{matching, isEqual}
+use Rattle.types.proofs.Matching.{numbered-type}
 use Rattle.numbers.specs.Nodes.{Variable, Expression}
 use Rattle.numbers.proofs.TypePromise.{process-module}
 use Rattle.numbers.proofs.OperandPromise as ranged
@@ -43,10 +44,11 @@ use Rattle.sound.specs.Answers.{Small}
 use Rattle.sound.specs.Ruled.{Ruled}
 use Rattle.sound.specs.Reached.{WordTable}
 use Rattle.sound.specs.Evaluated.{Live, GoodPlace, GoodValue, Scoping, Bound, GoodArguments, the-words, no-words, Passing, Performed, assigns, calls, serves, waits, creates, starts, writes, fails}
-use Rattle.sound.proofs.EvaluationBasics.{on-need, on-fail, on-place, on-value, on-word}
+use Rattle.sound.proofs.EvaluationBasics.{on-need, on-fail, on-place, on-typed, on-word}
 use Rattle.sound.proofs.EvaluationTypes.{word-small}
 use Rattle.sound.proofs.StoresBlocks.{module-fits}
 use Rattle.sound.proofs.StoresCalls.{chain-depth}
+use Rattle.sound.proofs.ValueTexts.{value-equal}
 use Rattle.sound.proofs.EvaluationNodes.{node-good}
 use Rattle.sound.proofs.EvaluationArguments.{arguments-good, arguments-fit}
 use Rattle.sound.proofs.Ruled.{procedure-i}
@@ -89,21 +91,27 @@ module _ (T : Table) (acc : Accepted T) (L : PlaceLaws T) (W : WordTable T) (m :
   pub variable-good : (n : ℕ) → Variable T (nodeCount T) n → scope n → GoodPlace T m p (typeOf T n) (operand T m page (contextOf m p) n)
   variable-good n v c = node-good T acc L W m R ms page ps p some made s scope S n (v .below) c .variable (v .low) (v .high)
 
-  pub expression-good : (n : ℕ) → Expression T (nodeCount T) n → scope n → GoodValue T m (typeOf T n) (operand T m page (contextOf m p) n)
+  pub expression-good : (n : ℕ) → Expression T (nodeCount T) n → scope n → GoodValue T m (typeOfNode T n) (operand T m page (contextOf m p) n)
   expression-good n v c = node-good T acc L W m R ms page ps p some made s scope S n (v .below) c .expression (v .sort)
+
+  -- where it is no string constant
+  pub number-good : (n : ℕ) → Expression T (nodeCount T) n → scope n → (nodeKind T n ≡ 8 → ⊥) → GoodValue T m (numbered (typeOf T n)) (operand T m page (contextOf m p) n)
+  number-good n v c e = rw (numbered-type T n e) at (expression-good n v c)
 
   -- 1, assignment
   pub assign-performs : stmtKind T stmt ≡ 1 → GoesOn → scope (stmtA T stmt) → scope (stmtB T stmt) → Performed T m page p (perform T m page (contextOf m p) (stmtAt T stmt))
   unfolding state.mayWait statementOf perform doAssign goOn goTo contextOf
   assign-performs k on ca cb =
-      let t = typing.assignment T (acc .types) stmt l k in
+      let b = ranged.assign-variable T (acc .numbers) stmt l k in
+      let y = b .high in
+      let t : isEqual (matching T (numbered (typeOf T (stmtA T stmt))) (typeOfNode T (stmtB T stmt))) ≡ true = rw (numbered-type T (stmtA T stmt) (λ z. omega arith)) at (typing.assignment T (acc .types) stmt l k) in
       rw (stmt-is T stmt 1 l k)
       (on-place (Performed T m page p) on-failed T m p (typeOf T (stmtA T stmt)) (operand T m page (contextOf m p) (stmtA T stmt)) _
-      (variable-good (stmtA T stmt) (ranged.assign-variable T (acc .numbers) stmt l k) ca)
-      (λ a v. on-value (Performed T m page p) on-failed T m (typeOf T (stmtB T stmt)) (operand T m page (contextOf m p) (stmtB T stmt)) _
+      (variable-good (stmtA T stmt) b ca)
+      (λ a v. on-typed (Performed T m page p) on-failed T m (typeOfNode T (stmtB T stmt)) (operand T m page (contextOf m p) (stmtB T stmt)) _
       (expression-good (stmtB T stmt) (ranged.assign-value T (acc .numbers) stmt l k) cb)
-      (λ ws u w. on-need (Performed T m page p) on-failed (matches T (typeOf T (stmtA T stmt)) (typeOf T (stmtB T stmt))) _ t
-      (assigns (typeOf T (stmtA T stmt)) a ws (passes 1 k refl) on v (L .matching m (typeOf T (stmtA T stmt)) (typeOf T (stmtB T stmt)) ws t u) w))))
+      (λ ws u w. on-need (Performed T m page p) on-failed (isEqual (matching T (numbered (typeOf T (stmtA T stmt))) (typeOfNode T (stmtB T stmt)))) _ t
+      (assigns (typeOf T (stmtA T stmt)) a ws (passes 1 k refl) on v (value-equal T m (typeOfNode T (stmtB T stmt)) ws u (typeOf T (stmtA T stmt)) t) w))))
 
   -- 12, write
   pub write-performs : stmtKind T stmt ≡ 12 → GoesOn → scope (stmtA T stmt) → scope (stmtB T stmt) → Performed T m page p (perform T m page (contextOf m p) (stmtAt T stmt))
@@ -111,9 +119,9 @@ module _ (T : Table) (acc : Accepted T) (L : PlaceLaws T) (W : WordTable T) (m :
   write-performs k on ca cb =
       rw (stmt-is T stmt 12 l k)
       (on-word (Performed T m page p) on-failed T m 0 (operand T m page (contextOf m p) (stmtA T stmt)) _
-      (rw (typing.written-address T (acc .types) stmt l k) at (expression-good (stmtA T stmt) (ranged.write-address T (acc .numbers) stmt l k) ca))
+      (rw (typing.written-address T (acc .types) stmt l k) at (number-good (stmtA T stmt) (ranged.write-address T (acc .numbers) stmt l k) ca (typing.address-numbered T (acc .types) stmt l k)))
       (λ us u a. on-word (Performed T m page p) on-failed T m 0 (operand T m page (contextOf m p) (stmtB T stmt)) _
-      (rw (typing.written-value T (acc .types) stmt l k) at (expression-good (stmtB T stmt) (ranged.write-value T (acc .numbers) stmt l k) cb))
+      (rw (typing.written-value T (acc .types) stmt l k) at (number-good (stmtB T stmt) (ranged.write-value T (acc .numbers) stmt l k) cb (typing.written-numbered T (acc .types) stmt l k)))
       (λ vs v b. on-fail (Performed T m page p) on-failed (not (isDevice (intOf (wordOf us)))) 21 _ (failure-i 21 (omega arith) (omega arith))
       (λ e. writes (wordOf us) (wordOf vs) (passes 12 k refl) on (word-small us a) (word-small vs b) (not-false _ e)))))
 

@@ -1,20 +1,17 @@
--- Evaluation: the types of nodes, types that match, and words. Assumes nothing.
+-- Evaluation: the types of nodes, and words. Assumes nothing.
 use Prim.Native.Nat.{ℕ, zero, suc, _+_, _-_, _<_}
-use mathlib.Core.Path.{_≡_, sym}
-use mathlib.Core.Bool.{Bool, true, false}
+use mathlib.Core.Path.{_≡_}
 use mathlib.Core.List.{List, [], _∷_}
 use native.Mathlib.Omega.{arith}
 use lib.ListN.{getD}
-use lib.Dec.{eqb, ltb}
-use borrow.Author.Tests.{eqb-true, eqb-false, lt-ltb, eq-eqb, ne-eqb}
-use Rattle.basics.specs.Choice.{pick}
+use lib.Dec.{ltb}
+use borrow.Author.Tests.{lt-ltb}
 use Rattle.basics.specs.Cases.{cases}
 use Rattle.basics.specs.Course.{course}
 use Rattle.basics.proofs.Courses.{upto-below}
 use Rattle.table.specs.Table.{Table}
 use Rattle.table.specs.Entries.{declared, nodeCount, varType, nodeKind, nodeP, nodeQ, nodeV}
 use Rattle.types.specs.Types.{fieldOf, elementOf, unaryType, binaryType, operandType, nodeType, typeOf}
-use Rattle.types.specs.Match.{elements, isString, matches}
 use Rattle.machine.specs.Memory.{Memory, wordsAt}
 use Rattle.machine.specs.Outcomes.{wordOf}
 use Rattle.machine.specs.Entries.{nodeOf, nodeAt}
@@ -62,22 +59,6 @@ module _ (T : Table) (n : ℕ) (l : n < nodeCount T) where
     pub binary-type : nodeKind T n ≡ 6 → typeOf T n ≡ binaryType (nodeV T n) (typeOf T (nodeP T n))
     unfolding typeOf course nodeType operandType
     binary-type e = rw (lt-ltb n (nodeCount T) l, e, upto-below 65535 (nodeType T) n (nodeP T n) b)
-
--- types that match do so either way
-pub matches-sym : (T : Table) (τ σ : ℕ) → matches T τ σ ≡ true → matches T σ τ ≡ true
-unfolding matches
-matches-sym T τ σ h =
-    cases (eqb τ σ)
-    (λ e. rw (eq-eqb σ τ (sym (eqb-true τ σ e))))
-    (λ e.
-    rw (ne-eqb σ τ (λ q. eqb-false τ σ e (sym q)))
-    (strings (isString T τ) (isString T σ) (elements T τ) (elements T σ) (rw e at h)))
-  where
-    strings : (a b : Bool) (k l : ℕ) → pick a (pick b (eqb k l) false) false ≡ true → pick b (pick a (eqb l k) false) false ≡ true
-    strings true true k l e = eq-eqb l k (sym (eqb-true k l e))
-    strings true false k l e = e
-    strings false true k l e = e
-    strings false false k l e = e
 
 -- ---- small words
 

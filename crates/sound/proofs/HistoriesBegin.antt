@@ -33,7 +33,7 @@ num-word t p w b = cases (eqb w 2) (λ e. rw e (omega (arith, b .small p, b .sma
 table-words : (w : ℕ) (t : List ℕ) → Bytes t → WordTable (tableAt w t)
 unfolding tableAt countAt cellAt
 table-words w t b = record {
-  counts = λ k. cases (ltb k 7) (λ e. rw e (num-word t (begins w t k) w b)) (λ e. rw e (omega arith));
+  counts = λ k. cases (ltb k 8) (λ e. rw e (num-word t (begins w t k) w b)) (λ e. rw e (omega arith));
   cells = λ k i f.
       cases (ltb f (fields k))
       (λ q.

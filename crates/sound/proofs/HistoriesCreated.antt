@@ -34,7 +34,7 @@ use Rattle.sound.specs.Created.{isCreate, createsOne, creations, NewProc
 use Rattle.sound.proofs.StoresMarks.{frame-marks}
 use Rattle.sound.proofs.RowsListed.{statement-listed}
 use Rattle.sound.proofs.RowsStatements.{Leaves, gives, Reports, went, waited, ended, failed, strays, reports}
-use Rattle.sound.proofs.HistoriesOperands.{place-fits, place-area, value-long}
+use Rattle.sound.proofs.HistoriesOperands.{place-fits, place-area, gives-long}
 use Rattle.sound.proofs.HistoriesSized.{room}
 use Rattle.sound.proofs.HistoriesRecords.{location-end, Still, still, still-record, still-status, still-store, still-standing, still-same, new-same, kept-same, mark-same, made-marks, new-process, others-kept, mark-kept, fail-count, fail-kept, refers-most}
 
@@ -139,8 +139,8 @@ module _ (T : Table) (m page : Memory) (x : Context) where
     carries-comes : (S : Statement) (s d : Memory) → perform T m page x S ≡ ok (effect 0 s d) → Carries T m page x S s d → Comes S (ok (effect 0 s d))
     unfolding perform isCreate
     carries-comes _ _ _ e skips = keeps refl (goes-still m _ (still m))
-    carries-comes _ _ _ e (assigns {a = a} {b = b} {i = i} {τ = τ} {σ = σ} {ws = ws} y w h) =
-        keeps refl (goes-still _ _ (marks-still _ _ _ _ (still-store m m (still m) i ws (room T i τ σ ws (place-fits T m page x a i τ y) (value-long T m page x b σ ws w) h))))
+    carries-comes _ _ _ e (assigns {a = a} {b = b} {i = i} {τ = τ} {κ = κ} {ws = ws} y w h) =
+        keeps refl (goes-still _ _ (marks-still _ _ _ _ (still-store m m (still m) i ws (room T i τ κ ws (place-fits T m page x a i τ y) (gives-long T m page x b κ ws w) h))))
     carries-comes _ _ _ e (callsLocal {q = q} {c = c} {d = d} p n) = keeps refl (keeping-still _ (local-keeps q c d) _ _ e)
     carries-comes _ _ _ e (callsProcess {a = a} {q = q} {c = c} {d = d} y t z u p n) = keeps refl (keeping-still _ (process-keeps a q c d) _ _ e)
     carries-comes _ _ _ e (Carries.creates {a = a} {i = i} {τ = τ} {μ = μ} y t n) =

@@ -11,8 +11,12 @@ use Rattle.basics.specs.Choice.{pick, either, between}
 use Rattle.basics.specs.Cases.{cases}
 use Rattle.basics.proofs.Bools.{both-l, both-r, both-false-r}
 use Rattle.table.specs.Table.{Table}
-use Rattle.types.specs.Match.{matches}
+use Rattle.types.specs.Types.{NodeType}
+use Rattle.types.specs.Types as types
+use Rattle.types.specs.Match.{equal, matching, isEqual}
 use Rattle.sizes.specs.Sizes.{wordsOf}
+use Rattle.sizes.specs.Kept.{wordsIn}
+use Rattle.sizes.proofs.Strings.{equal-words}
 use Rattle.machine.specs.Memory.{Memory, update, within, store, clear, fill, zeros}
 use Rattle.machine.specs.Layout.{location, recordAt, statusAt, statementAt, topAt, worksAt, holderAt, createdAt, failureAt, stateWords, locations, pageWords}
 use Rattle.machine.specs.Marks.{setMarks, markWord, mark, fresh}
@@ -33,7 +37,7 @@ use Rattle.machine.proofs.Outcomes.{g-then, g-test, g-need, g-where, g-pick, g-
 use Rattle.sound.specs.Carried.{Carries, skips, assigns, callsLocal, callsProcess, creates, starts, enters, passes, leaves, again, writes, returnsLocal, returnsProcess}
 use Rattle.sound.specs.Reached.{Sized, Kept}
 use Rattle.sound.proofs.RowsStatements.{gives, keeps, Reports, went, waited, ended, failed, strays, reports}
-use Rattle.sound.proofs.HistoriesOperands.{matching-words, device-word, place-fits, value-long}
+use Rattle.sound.proofs.HistoriesOperands.{device-word, place-fits, gives-long}
 use Rattle.sound.proofs.HistoriesRecords.{refers-most}
 use Rattle.sound.proofs.NumbersMarks.{Numbered, numbered, numbered-record, numbered-word, numbered-store, numbered-mark, numbered-fresh, numbered-standing, numbered-created}
 
@@ -79,13 +83,13 @@ unfolding standing
 standing-sized m p c f t w d h l =
     record-sized _ (record-sized _ (record-sized _ (record-sized _ (record-sized m h p l 2 c (omega arith)) p l 3 f (omega arith)) p l 4 t (omega arith)) p l 5 w (omega arith)) p l 7 d (omega arith)
 
--- a value of a type that matches a place's fits there
-pub room : (T : Table) (i τ σ : ℕ) (ws : List ℕ) → fits T i τ ≡ true → length ws ≡ wordsOf T σ → matches T τ σ ≡ true → i + length ws ≤ locations
-unfolding fits
-room T i τ σ ws f l e =
+-- a value of a type that equals a place's fits there
+pub room : (T : Table) (i τ : ℕ) (κ : NodeType) (ws : List ℕ) → fits T i τ ≡ true → length ws ≡ wordsIn T κ → matching T (types.numbered τ) κ ≡ equal → i + length ws ≤ locations
+unfolding fits wordsIn isEqual
+room T i τ κ ws f l e =
     let a : i < locations = ltb-true _ _ (both-l _ _ f) in
     let b : i % 256 + wordsOf T τ ≤ 256 = leb-true _ _ (both-r _ _ f) in
-    let w = matching-words T τ σ e in
+    let w : wordsOf T τ ≡ wordsIn T κ = equal-words T (types.numbered τ) κ (rw e refl) in
     omega arith
 
 -- ---- what is written to state m: s is a state, with the number of m and, under 1, its marks
@@ -226,8 +230,8 @@ module _ (T : Table) (m page : Memory) (x : Context) (hm : Sized stateWords m) (
   carries-in : (S : Statement) (s d : Memory) → perform T m page x S ≡ ok (effect 0 s d) → Carries T m page x S s d → Inside m (ok (effect 0 s d))
   unfolding perform
   carries-in _ _ _ e skips = inside (goes-in m _ unwritten) hp
-  carries-in _ _ _ e (assigns {a = a} {b = b} {i = i} {τ = τ} {σ = σ} {ws = ws} y w h) =
-      let r = room T i τ σ ws (place-fits T m page x a i τ y) (value-long T m page x b σ ws w) h in
+  carries-in _ _ _ e (assigns {a = a} {b = b} {i = i} {τ = τ} {κ = κ} {ws = ws} y w h) =
+      let r = room T i τ κ ws (place-fits T m page x a i τ y) (gives-long T m page x b κ ws w) h in
       inside (goes-in _ _ (mark-written m _ (store-written m m unwritten i ws r) i _ r)) hp
   carries-in _ _ _ e (callsLocal {q = q} {c = c} {d = d} p n) = is-inside _ _ (local-in q c d) e
   carries-in _ _ _ e (callsProcess {a = a} {q = q} {c = c} {d = d} y t z u p n) = is-inside _ _ (process-in a q c d) e

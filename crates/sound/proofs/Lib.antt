@@ -69,6 +69,7 @@ pub mod ValueBlocks
 pub mod ValueKnown
 pub mod ValueParts
 pub mod ValueStores
+pub mod ValueTexts
 pub mod ValueTypes
 pub mod ValueWords
 pub mod Values

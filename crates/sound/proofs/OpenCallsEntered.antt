@@ -1,8 +1,7 @@
 -- A call that is made enters its procedure: each parameter gets its argument, each local is 0 (11.3, 12.1). Assumes nothing.
 use Prim.Native.Nat.{ℕ, zero, suc, _+_, _-_, _≤_, _<_}
 use mathlib.Core.Path.{_≡_, refl, sym, _∙_}
-use mathlib.Core.Bool.{true}
-use mathlib.Core.List.{List, [], _∷_}
+use mathlib.Core.List.{List, [], _∷_, _++_}
 use native.Mathlib.Omega.{arith}
 use native.Mathlib.Nat.{not-suc-le-zero, add-zero}
 use lib.Dec.{ltb}
@@ -11,43 +10,60 @@ use borrow.Author.Tests.{ltb-true, ltb-false}
 use Rattle.basics.specs.Cases.{cases}
 use Rattle.table.specs.Table.{Table}
 use Rattle.table.specs.Entries.{blockCount, varMode, varType, firstVar, params, vars}
-use Rattle.types.specs.Match.{matches}
+use Rattle.types.specs.Types.{NodeType, numbered}
+use Rattle.types.specs.Match.{equal, matching, isEqual}
 use Rattle.sizes.specs.Sizes.{sumBelow, wordsOf}
+use Rattle.sizes.specs.Kept.{wordsIn}
+use Rattle.sizes.proofs.Strings.{equal-words}
 use Rattle.numbers.proofs.BlockPromise.{params-vars, mode-parameter}
-use Rattle.machine.specs.Memory.{Memory, store}
+use Rattle.machine.specs.Memory.{Memory, store, wordsAt}
 use Rattle.machine.specs.Layout.{location, linkAt, topAt, callerFrame, calledBlock}
 use Rattle.machine.specs.Variables.{firstWords, frameWords, offsetOf}
 use Rattle.machine.specs.Context.{Context, contextOf}
+use Rattle.machine.specs.Texts.{fit}
 use Rattle.machine.specs.Calls.{frame, pushed, frameMarked}
 use Rattle.machine.proofs.Memories.{store-at}
+use Rattle.machine.proofs.TextLaws.{fit-long}
 use Rattle.verdict.specs.Accepted.{Accepted}
-use Rattle.sound.specs.Conditions.{Yields}
-use Rattle.sound.specs.Carried.{Passes, noMore, byValue, byVariable, Passed}
-use Rattle.sound.specs.OpenCalls.{variableAt, Gets, stores, binds, Enters}
+use Rattle.sound.specs.Conditions.{Gives}
+use Rattle.sound.specs.Carried.{Passes, noMore, byValue, byFit, byVariable, Passed}
+use Rattle.sound.specs.OpenCalls.{variableAt, Gets, stores, fits, binds, Enters}
 use Rattle.sound.proofs.StoresMarks.{frame-marks, marks-area}
 use Rattle.sound.proofs.StoresMemory.{location-add}
 use Rattle.sound.proofs.StoresCalls.{frameOf, frame-length, frame-argument, frame-zero}
 use Rattle.sound.proofs.StoresStanding.{stand-area}
 use Rattle.sound.proofs.EvaluationArguments.{wordsFrom, words-first, Stands, stands-words, stands-front, stands-back}
-use Rattle.sound.proofs.HistoriesOperands.{matching-words, value-long}
+use Rattle.sound.proofs.HistoriesOperands.{gives-long}
 use Rattle.sound.proofs.ValueBlocks.{begins-at, begins-up, variable-in, words-value, words-var}
 
 -- ---- the words that arguments pass
 
+-- those of a value parameter, and behind them those of the next ones
+value-back : (T : Table) (v j : ℕ) (us : List ℕ) → varMode T v ≡ 1 → length us ≡ wordsOf T (varType T v) → wordsFrom T v (suc j) ≡ length us + wordsFrom T (v + 1) j
+value-back T v j us e w =
+    let b = words-first T v j in
+    let c = words-value T v (λ z. omega arith) in
+    omega arith
+
 module _ (T : Table) (m page : Memory) (x : Context) where
-  -- a value has the words of its parameter
-  value-words : (v n σ : ℕ) (us : List ℕ) → varMode T v ≡ 1 → Yields T m page x n σ us → matches T (varType T v) σ ≡ true → length us ≡ wordsOf T (varType T v)
-  value-words v n σ us e y h = value-long T m page x n σ us y ∙ sym (matching-words T (varType T v) σ h)
+  -- a value of an equal type has the words of its parameter
+  value-words : (v n : ℕ) (κ : NodeType) (us : List ℕ) → Gives T m page x n κ us → matching T κ (numbered (varType T v)) ≡ equal → length us ≡ wordsOf T (varType T v)
+  unfolding wordsIn isEqual
+  value-words v n κ us y h = gives-long T m page x n κ us y ∙ equal-words T κ (numbered (varType T v)) (rw h refl)
 
   pub passes-length : (k v i : ℕ) (ws : List ℕ) → Passes T m page x k v i ws → length ws ≡ wordsFrom T v k
   unfolding sumBelow
   passes-length _ v i _ noMore = refl
-  passes-length _ v i _ (byValue {k = k} {σ = σ} {us = us} {ws = ws} e y h p) =
+  passes-length _ v i _ (byValue {k = k} {κ = κ} {us = us} {ws = ws} e y h p) =
       let a = passes-length k (v + 1) (i + 1) ws p in
-      let b = value-words v _ σ us e y h in
-      let c = words-value T v (λ z. omega arith) in
-      let d = words-first T v k in
-      let f = length-append us ws in
+      let b = value-back T v k us e (value-words v _ κ us y h) in
+      let c = length-append us ws in
+      omega arith
+  passes-length _ v i _ (byFit {k = k} {us = us} {ws = ws} e y h p) =
+      let w : ℕ = wordsOf T (varType T v) in
+      let a = passes-length k (v + 1) (i + 1) ws p in
+      let b = value-back T v k (fit w us) e (fit-long w us) in
+      let c = length-append (fit w us) ws in
       omega arith
   passes-length _ v i _ (byVariable {k = k} {ws = ws} e y p) =
       let a = passes-length k (v + 1) (i + 1) ws p in
@@ -56,33 +72,44 @@ module _ (T : Table) (m page : Memory) (x : Context) where
       omega arith
 
 module _ (T : Table) (m page : Memory) (p n : ℕ) (s : Memory) where
+  -- the words of a value parameter stand where it begins
+  front-words : (v a : ℕ) (us ws : List ℕ) → length us ≡ wordsOf T (varType T v) → Stands s a (us ++ ws) → wordsAt s a (wordsOf T (varType T v)) ≡ us
+  front-words v a us ws w h = rw (← w) (stands-words us s a (stands-front s a us ws h))
+
+  -- the parameters behind one of c words
+  later : (v i a j c : ℕ) → wordsFrom T v (suc j) ≡ c + wordsFrom T (v + 1) j
+      → Gets T m page p n s (a + c + wordsFrom T (v + 1) j) (v + 1 + j) (i + 1 + j) → Gets T m page p n s (a + wordsFrom T v (suc j)) (v + suc j) (i + suc j)
+  later v i a j c e g =
+      let x : v + suc j ≡ v + 1 + j = omega arith in
+      let z : i + suc j ≡ i + 1 + j = omega arith in
+      let f : a + wordsFrom T v (suc j) ≡ a + c + wordsFrom T (v + 1) j = omega arith in
+      rw (x, z, f) g
+
   -- where they stand, each parameter gets its argument
   passes-get : (k v i a j : ℕ) (ws : List ℕ) → Passes T m page (contextOf m p) k v i ws → Stands s a ws → j < k
       → Gets T m page p n s (a + wordsFrom T v j) (v + j) (i + j)
   unfolding sumBelow
   passes-get _ v i a j _ noMore h l = absurd (not-suc-le-zero l)
-  passes-get _ v i a zero _ (byValue {k = k} {σ = σ} {us = us} {ws = ws} e y t q) h l =
-      let w = value-words T m page (contextOf m p) v _ σ us e y t in
-      rw (add-zero a, add-zero v, add-zero i) (stores e y t (rw (← w) (stands-words us s a (stands-front s a us ws h))))
-  passes-get _ v i a (suc j) _ (byValue {k = k} {σ = σ} {us = us} {ws = ws} e y t q) h l =
-      let x : v + suc j ≡ v + 1 + j = omega arith in
-      let z : i + suc j ≡ i + 1 + j = omega arith in
-      let b = words-first T v j in
-      let w = value-words T m page (contextOf m p) v _ σ us e y t in
-      let c = words-value T v (λ z. omega arith) in
-      let f : a + wordsFrom T v (suc j) ≡ a + length us + wordsFrom T (v + 1) j = omega arith in
-      rw (x, z, f) (passes-get k (v + 1) (i + 1) (a + length us) j ws q (stands-back s a us ws h) (omega arith))
+  passes-get _ v i a zero _ (byValue {κ = κ} {us = us} {ws = ws} e y t q) h l =
+      rw (add-zero a, add-zero v, add-zero i) (stores e y t (front-words v a us ws (value-words T m page (contextOf m p) v _ κ us y t) h))
+  passes-get _ v i a (suc j) _ (byValue {k = k} {κ = κ} {us = us} {ws = ws} e y t q) h l =
+      later v i a j (length us) (value-back T v j us e (value-words T m page (contextOf m p) v _ κ us y t))
+      (passes-get k (v + 1) (i + 1) (a + length us) j ws q (stands-back s a us ws h) (omega arith))
+  passes-get _ v i a zero _ (byFit {us = us} {ws = ws} e y t q) h l =
+      let w : ℕ = wordsOf T (varType T v) in
+      rw (add-zero a, add-zero v, add-zero i) (fits e y t (front-words v a (fit w us) ws (fit-long w us) h))
+  passes-get _ v i a (suc j) _ (byFit {k = k} {us = us} {ws = ws} e y t q) h l =
+      let w : ℕ = wordsOf T (varType T v) in
+      later v i a j (length (fit w us)) (value-back T v j (fit w us) e (fit-long w us))
+      (passes-get k (v + 1) (i + 1) (a + length (fit w us)) j ws q (stands-back s a (fit w us) ws h) (omega arith))
   passes-get _ v i a zero _ (byVariable {k = k} {a = b} {ws = ws} e y q) h l =
       let w : s (a + 0) ≡ b = h .at 0 (omega arith) in
       let u : s a ≡ b = rw add-zero at w in
       rw (add-zero a, add-zero v, add-zero i) (binds e (rw u y))
   passes-get _ v i a (suc j) _ (byVariable {k = k} {a = b} {ws = ws} e y q) h l =
-      let x : v + suc j ≡ v + 1 + j = omega arith in
-      let z : i + suc j ≡ i + 1 + j = omega arith in
       let c = words-first T v j in
       let d = words-var T v e in
-      let f : a + wordsFrom T v (suc j) ≡ a + 1 + wordsFrom T (v + 1) j = omega arith in
-      rw (x, z, f) (passes-get k (v + 1) (i + 1) (a + 1) j ws q (stands-back s a (b ∷ []) ws h) (omega arith))
+      later v i a j 1 (omega arith) (passes-get k (v + 1) (i + 1) (a + 1) j ws q (stands-back s a (b ∷ []) ws h) (omega arith))
 
 -- ---- the words of the new frame
 

@@ -41,7 +41,7 @@ use Rattle.sound.specs.Created.{NewProcess}
 use Rattle.sound.specs.OpenCalls.{OpenCall, callsFrom, openCalls, outer, callsBy, callsAfter, Enters, CallsKept}
 use Rattle.sound.proofs.Ruled.{procedure-there, block-there, block-kind, created-in, in-created}
 use Rattle.sound.proofs.RowsListed.{statement-listed}
-use Rattle.sound.proofs.HistoriesOperands.{place-fits, place-area, value-long}
+use Rattle.sound.proofs.HistoriesOperands.{place-fits, place-area, gives-long}
 use Rattle.sound.proofs.HistoriesRecords.{location-end, unlike-words, made-marks, new-same, new-process, record-after, old-record}
 use Rattle.sound.proofs.HistoriesSized.{room}
 use Rattle.sound.proofs.StoresBlocks.{module-fits}
@@ -372,10 +372,10 @@ module _ (T : Table) (acc : Accepted T) (m page : Memory) (R : Ruled T m) (p : �
   by-carries : (S : Statement) (s d : Memory) → Carries T m page (contextOf m p) S s d → (perform T m page (contextOf m p) S ≡ stuck → ⊥) → BindingsKept T m s → KeptBy S s
   unfolding perform callsBy enteredBy contextOf
   by-carries _ _ _ Carries.skips n k = goes-kept skip m _ (record { same = λ t cs. refl; none = refl }) (alike m 0) k
-  by-carries _ _ _ (Carries.assigns {a = a} {b = b} {i = i} {τ = τ} {σ = σ} {ws = ws} e y t) n k =
+  by-carries _ _ _ (Carries.assigns {a = a} {b = b} {i = i} {τ = τ} {κ = κ} {ws = ws} e y t) n k =
       goes-kept (assign a b) (mark (store m i ws) i (length ws)) _ (record { same = λ t cs. refl; none = refl })
       (marks-alike (store m i ws) i (length ws) true
-      (alike-store m m 0 (alike m 0) i ws (room T i τ σ ws (place-fits T m page (contextOf m p) a i τ e) (value-long T m page (contextOf m p) b σ ws y) t))) k
+      (alike-store m m 0 (alike m 0) i ws (room T i τ κ ws (place-fits T m page (contextOf m p) a i τ e) (gives-long T m page (contextOf m p) b κ ws y) t))) k
   by-carries _ _ _ (Carries.callsLocal {q = q} {c = i} {d = d} {ws = ws} P f) n k =
       call-kept m (alike m 0) q (contextOf m p .works) i d ws (local-there T m page (contextOf m p) q i d n) P (fits-area q f) (localCall q i d) (λ cs. refl) refl k
   by-carries _ _ _ (Carries.callsProcess {a = a} {q = q} {c = i} {d = d} {i = j} {τ = τ} {ws = ws} e t z v P f) n k =

@@ -21,7 +21,7 @@ use Rattle.machine.proofs.Outcomes.{g-need}
 use Rattle.sound.specs.InUse.{Created}
 use Rattle.sound.specs.Rows.{next, Ready, Waiting, unstarted, held, waiting, Ended, before, now, Absent, Failing, CarriedOut, Row, row0, row1, row2, row3, row16, Blocked, atGuards, Changes, failureMark, nothing, givesUp, endedBefore, endsNow, absent, carried, Answers, RowsHold, SameFailure}
 use Rattle.sound.proofs.RowsOutcomes.{Near, same, n-need, n-pick-true, n-pick-false, near-is}
-use Rattle.sound.proofs.RowsStatements.{Leaves, gives, keeps, Reports, went, waited, ended, failed, strays, reports, statement-near, carries-near, Gives, waits-near, ends-near}
+use Rattle.sound.proofs.RowsStatements.{Leaves, gives, keeps, Reports, went, waited, ended, failed, strays, reports, statement-near, carries-near, Replies, waits-near, ends-near}
 use Rattle.sound.proofs.Ruled.{created-in, in-created}
 
 either-none : (a b : Bool) → either a b ≡ false → (a ≡ false) × (b ≡ false)
@@ -135,7 +135,7 @@ module _ (T : Table) (m page : Memory) (p : ℕ) where
       free (inr e) = either-r _ _ (eq-eqb _ p e)
 
   module _ (z : m failureAt ≡ 0) where
-    near-waits : Waiting T m page p → Gives T m page (contextOf m p) 1 (turn T m page p)
+    near-waits : Waiting T m page p → Replies T m page (contextOf m p) 1 (turn T m page p)
     unfolding exists answers proceeds
     near-waits (unstarted c e) = record { state = m; near = near-turn z c (rw e (same refl)) }
     near-waits (held c s n q) =
@@ -144,7 +144,7 @@ module _ (T : Table) (m page : Memory) (p : ℕ) where
         let g = waits-near T m page (contextOf m p) _ w in
         record { state = g .state; near = near-turn z (r .exists) (near-performs r (g .near)) }
 
-    near-ends : Ended T m page p → Gives T m page (contextOf m p) 2 (turn T m page p)
+    near-ends : Ended T m page p → Replies T m page (contextOf m p) 2 (turn T m page p)
     unfolding exists answers
     near-ends (before c e) = record { state = m; near = near-turn z c (rw e (same refl)) }
     near-ends (now r w) =

@@ -4,6 +4,7 @@ use mathlib.Core.Path.{_≡_, refl, sym, _∙_}
 use mathlib.Core.Bool.{Bool, true, false}
 use mathlib.Core.Bool as bool
 use mathlib.Core.List.{List}
+use lib.ListN.{length}
 use native.Mathlib.Omega.{arith}
 use native.Mathlib.Nat.{not-suc-le-zero}
 use lib.Dec.{eqb, ltb}
@@ -11,7 +12,7 @@ use lib.IntN.{ℤ, pos, negsuc}
 use borrow.Author.Tests.{eqb-true, eqb-false, ne-eqb, ltb-true}
 use Rattle.basics.specs.Choice.{pick}
 use Rattle.basics.specs.Cases.{cases}
-use Rattle.basics.proofs.Bools.{no-true}
+use Rattle.basics.proofs.Bools.{no-true, both-l, both-r}
 use Rattle.basics.proofs.Courses.{course-is}
 use Rattle.words.specs.Numbers.{between}
 use Rattle.words.specs.Types.{inType, transferW}
@@ -19,16 +20,17 @@ use Rattle.words.specs.Operators.{ranged, addW, subW, negW, mulW, divW, modW}
 use Rattle.words.specs.Outcomes as words
 use Rattle.table.specs.Table.{Table}
 use Rattle.table.specs.Entries.{varMode, varType, owner}
+use Rattle.types.specs.Types.{NodeType, numbered, numberOf}
 use Rattle.machine.specs.Memory.{Memory}
-use Rattle.machine.specs.Outcomes.{Outcome, ok, fail, stuck, need, Operand, value, wordOf}
+use Rattle.machine.specs.Outcomes.{Outcome, ok, fail, stuck, need, Operand, value, onTyped, wordOf}
 use Rattle.machine.specs.Entries.{arrayType, typeAt, Unary, minus, not, val, noUnary, Binary, equal, notEqual, less, notGreater, greater, notLess, add, subtract, multiply, divide, modulus, and, or, noBinary}
-use Rattle.machine.specs.Entries.{Node, constant, whole, field, element, retrieve, unary, binary, transfer, noNode, nodeAt}
+use Rattle.machine.specs.Entries.{Node, constant, whole, field, element, retrieve, unary, binary, transfer, string, noNode, nodeAt}
 use Rattle.machine.specs.Context.{Context}
 use Rattle.machine.specs.Variables.{belongs, offsetOf}
 use Rattle.machine.specs.Operands.{simple, truth, given, unaryValue, ordered, integral, logical, binaryValue, outside, placeAt, fieldPlace, elementPlace, moduleVariable, frameVariable, wholePlace, retrieved, nodeOperand, operandAt, operand}
-use Rattle.machine.proofs.Outcomes.{g-need, g-where, g-pick, g-place, g-value, g-word, g-record, g-array}
-use Rattle.sound.specs.Conditions.{OutOfRange, Exact, sum, difference, product, quotient, remainder, Divides, byDivide, byModulus, Yields, NodeFails, result, inverted, divisor, index, device, transferred, unset, inRecord, inArray, inIndex, inVariable, inUnary, inTransfer, inLeft, inRight}
-use Rattle.sound.proofs.RowsOutcomes.{Near, same, lost, n-need, n-where, n-place-fails, n-place, n-value-fails, n-value, n-word-fails, n-word, n-array}
+use Rattle.machine.proofs.Outcomes.{g-test, g-need, g-where, g-pick, g-place, g-value, g-typed, g-word, g-record, g-array}
+use Rattle.sound.specs.Conditions.{OutOfRange, Exact, sum, difference, product, quotient, remainder, Divides, byDivide, byModulus, Yields, Gives, aValue, aText, NodeFails, result, inverted, divisor, index, device, transferred, unset, inRecord, inArray, inIndex, inVariable, inUnary, inTransfer, inLeft, inRight}
+use Rattle.sound.proofs.RowsOutcomes.{Near, same, lost, n-need, n-where, n-place-fails, n-place, n-value-fails, n-value, n-typed-fails, n-numbered, n-text, n-word-fails, n-word, n-array}
 
 -- a failure of this outcome meets F
 pub data Met {A : Type 0} (F : ℕ → Type 0) : Outcome A → Type 0 where
@@ -82,9 +84,9 @@ module _ (F : ℕ → Type 0) where
   unfolding placeAt
   met-place T a τ = g-need (Met F) is-stuck _ _ is-ok
 
-  met-integral : (τ σ : ℕ) (o : words.Outcome) → Met F (given 0 o) → Met F (integral τ σ o)
+  met-integral : (τ σ : ℕ) (o : words.Outcome) → (τ ≡ 0 → σ ≡ 0 → Met F (given 0 o)) → Met F (integral τ σ o)
   unfolding integral
-  met-integral τ σ o h = g-need (Met F) is-stuck _ _ h
+  met-integral τ σ o h = g-test (Met F) is-stuck _ _ (λ e. h (eqb-true τ 0 (both-l _ _ e)) (eqb-true σ 0 (both-r _ _ e)))
 
   met-ordered : (τ σ : ℕ) (b : Bool) → Met F (ordered τ σ b)
   unfolding ordered
@@ -123,6 +125,24 @@ module _ (T : Table) (m page : Memory) (x : Context) where
       (λ h. rw h at e)
       (λ h. let z : _≡_ {A = Outcome Operand} stuck (ok y) = rw h at e in let w : _≡_ {A = ℕ} 0 1 = cc in absurd (omega arith))
 
+  -- ---- an operand of any type, where o is what node a comes to, or stuck
+
+  module _ {B : Type 0} (a : ℕ) (o : Outcome Operand) (k : NodeType → List ℕ → Outcome B) where
+    pub g-gives : (P : Outcome B → Type 0) → P stuck → ((y : Operand) → o ≡ ok y → operand T m page x a ≡ ok y) → ((f : ℕ) → o ≡ fail f → P (fail f))
+        → ((κ : NodeType) (us : List ℕ) → Gives T m page x a κ us → P (k κ us)) → P (onTyped o k)
+    g-gives P s u f g = g-typed P s o k f (λ τ us e. g (numbered τ) us (aValue (u _ e))) (λ us e. g (NodeType.string (length us)) us (aText (u _ e)))
+
+    pub n-gives : (R : Outcome B) (κ : NodeType) (us : List ℕ) → ((y : Operand) → operand T m page x a ≡ ok y → Near (ok y) o) → Gives T m page x a κ us → Near R (k κ us)
+        → Near R (onTyped o k)
+    n-gives R _ us u (aValue {τ = τ} e) h = n-numbered R τ us o k (u _ e) h
+    n-gives R _ us u (aText e) h = n-text R us o k (u _ e) h
+
+  -- no text is an integer
+  integer-yields : (a : ℕ) (κ : NodeType) (us : List ℕ) → Gives T m page x a κ us → numberOf κ ≡ 0 → Yields T m page x a 0 us
+  unfolding numberOf
+  integer-yields a _ us (aValue e) z = rw z at e
+  integer-yields a _ us (aText e) z = absurd (omega arith)
+
   -- ---- an evaluation that fails has its rule
 
   module _ (n : ℕ) (F : (a f : ℕ) → a < n → operand T m page x a ≡ fail f → NodeFails T m page x f a) where
@@ -139,25 +159,34 @@ module _ (T : Table) (m page : Memory) (x : Context) where
     met-unary val a τ us e y = g-need (Met G) is-stuck _ _ (g-where (Met G) is-stuck _ 21 _ (λ h. is-fail (device e y (not-true _ h))) (λ h. met-simple G 0 _))
     met-unary noUnary a τ us e y = is-stuck
 
-    met-binary : (o : Binary) (a b τ : ℕ) (us : List ℕ) (σ : ℕ) (vs : List ℕ) → nodeAt T n ≡ binary o a b → Yields T m page x a τ us → Yields T m page x b σ vs
-        → Met G (binaryValue T o τ us σ vs)
+    met-binary : (o : Binary) (a b : ℕ) (κ : NodeType) (us : List ℕ) (ι : NodeType) (vs : List ℕ) → nodeAt T n ≡ binary o a b → Gives T m page x a κ us → Gives T m page x b ι vs
+        → Met G (binaryValue T o κ us ι vs)
     unfolding binaryValue G addW subW mulW divW modW
-    met-binary equal a b τ us σ vs e y z = g-need (Met G) is-stuck _ _ (met-truth G _)
-    met-binary notEqual a b τ us σ vs e y z = g-need (Met G) is-stuck _ _ (met-truth G _)
-    met-binary less a b τ us σ vs e y z = met-ordered G τ σ _
-    met-binary notGreater a b τ us σ vs e y z = met-ordered G τ σ _
-    met-binary greater a b τ us σ vs e y z = met-ordered G τ σ _
-    met-binary notLess a b τ us σ vs e y z = met-ordered G τ σ _
-    met-binary add a b τ us σ vs e y z = met-integral G τ σ _ (met-ranged G 0 _ (λ r. result e y z sum r))
-    met-binary subtract a b τ us σ vs e y z = met-integral G τ σ _ (met-ranged G 0 _ (λ r. result e y z difference r))
-    met-binary multiply a b τ us σ vs e y z = met-integral G τ σ _ (met-ranged G 0 _ (λ r. result e y z product r))
-    met-binary divide a b τ us σ vs e y z =
-        met-integral G τ σ _ (met-divided G 0 _ _ (λ h. divisor e y z byDivide h) (λ h r. result e y z (quotient h) r))
-    met-binary modulus a b τ us σ vs e y z =
-        met-integral G τ σ _ (met-divided G 0 _ _ (λ h. divisor e y z byModulus h) (λ h r. result e y z (remainder h) r))
-    met-binary and a b τ us σ vs e y z = met-logical G τ σ _ _
-    met-binary or a b τ us σ vs e y z = met-logical G τ σ _ _
-    met-binary noBinary a b τ us σ vs e y z = is-stuck
+    met-binary equal a b κ us ι vs e y z = g-need (Met G) is-stuck _ _ (met-truth G _)
+    met-binary notEqual a b κ us ι vs e y z = g-need (Met G) is-stuck _ _ (met-truth G _)
+    met-binary less a b κ us ι vs e y z = met-ordered G _ _ _
+    met-binary notGreater a b κ us ι vs e y z = met-ordered G _ _ _
+    met-binary greater a b κ us ι vs e y z = met-ordered G _ _ _
+    met-binary notLess a b κ us ι vs e y z = met-ordered G _ _ _
+    met-binary add a b κ us ι vs e y z =
+        met-integral G _ _ _ (λ t u. met-ranged G 0 _ (λ r. result e (integer-yields a κ us y t) (integer-yields b ι vs z u) sum r))
+    met-binary subtract a b κ us ι vs e y z =
+        met-integral G _ _ _ (λ t u. met-ranged G 0 _ (λ r. result e (integer-yields a κ us y t) (integer-yields b ι vs z u) difference r))
+    met-binary multiply a b κ us ι vs e y z =
+        met-integral G _ _ _ (λ t u. met-ranged G 0 _ (λ r. result e (integer-yields a κ us y t) (integer-yields b ι vs z u) product r))
+    met-binary divide a b κ us ι vs e y z =
+        met-integral G _ _ _ (λ t u.
+        let p = integer-yields a κ us y t in
+        let q = integer-yields b ι vs z u in
+        met-divided G 0 _ _ (λ h. divisor e p q byDivide h) (λ h r. result e p q (quotient h) r))
+    met-binary modulus a b κ us ι vs e y z =
+        met-integral G _ _ _ (λ t u.
+        let p = integer-yields a κ us y t in
+        let q = integer-yields b ι vs z u in
+        met-divided G 0 _ _ (λ h. divisor e p q byModulus h) (λ h r. result e p q (remainder h) r))
+    met-binary and a b κ us ι vs e y z = met-logical G _ _ _ _
+    met-binary or a b κ us ι vs e y z = met-logical G _ _ _ _
+    met-binary noBinary a b κ us ι vs e y z = is-stuck
 
     met-module : (k τ : ℕ) → Met G (moduleVariable T m page x k τ)
     unfolding moduleVariable
@@ -195,12 +224,13 @@ module _ (T : Table) (m page : Memory) (x : Context) where
     met-node (unary o a) e =
         g-value (Met G) is-stuck (below n a) _ (λ f q. is-fail (inUnary e (first-fails a f q))) (λ τ us q. met-unary o a τ us e (below-ok n a _ q))
     met-node (binary o a b) e =
-        g-value (Met G) is-stuck (below n a) _ (λ f q. is-fail (inLeft e (first-fails a f q)))
-        (λ τ us q. g-value (Met G) is-stuck (below n b) _ (λ f u. is-fail (inRight e (below-ok n a _ q) (first-fails b f u)))
-        (λ σ vs u. met-binary o a b τ us σ vs e (below-ok n a _ q) (below-ok n b _ u)))
+        g-gives a (below n a) _ (Met G) is-stuck (below-ok n a) (λ f q. is-fail (inLeft e (first-fails a f q)))
+        (λ κ us y. g-gives b (below n b) _ (Met G) is-stuck (below-ok n b) (λ f u. is-fail (inRight e y (first-fails b f u)))
+        (λ ι vs z. met-binary o a b κ us ι vs e y z))
     met-node (transfer a τ) e =
         g-value (Met G) is-stuck (below n a) _ (λ f q. is-fail (inTransfer e (first-fails a f q)))
         (λ σ us q. g-need (Met G) is-stuck _ _ (met-tested G τ (inType τ (wordOf us)) _ 23 (λ h. transferred e (below-ok n a _ q) h)))
+    met-node (string p q) e = is-ok
     met-node noNode e = is-stuck
 
   met-upto : (k n f : ℕ) → n < k → operand T m page x n ≡ fail f → NodeFails T m page x f n
@@ -219,18 +249,18 @@ module _ (T : Table) (m page : Memory) (x : Context) where
   unfolding integral given
   integral-near τ σ n o e = n-need (fail n) _ _ (rw e (same refl))
 
-  exact-near : (o : Binary) (u v : ℕ) (z : ℤ) (τ σ : ℕ) (us vs : List ℕ) → Exact o u v z → OutOfRange z → u ≡ wordOf us → v ≡ wordOf vs → Near (fail 16) (binaryValue T o τ us σ vs)
+  exact-near : (o : Binary) (u v : ℕ) (z : ℤ) (κ ι : NodeType) (us vs : List ℕ) → Exact o u v z → OutOfRange z → u ≡ wordOf us → v ≡ wordOf vs → Near (fail 16) (binaryValue T o κ us ι vs)
   unfolding binaryValue addW subW mulW divW modW
-  exact-near _ u v _ τ σ us vs sum r e h = integral-near τ σ 16 _ (rw (← e, ← h) (ranged-out _ r))
-  exact-near _ u v _ τ σ us vs difference r e h = integral-near τ σ 16 _ (rw (← e, ← h) (ranged-out _ r))
-  exact-near _ u v _ τ σ us vs product r e h = integral-near τ σ 16 _ (rw (← e, ← h) (ranged-out _ r))
-  exact-near _ u v _ τ σ us vs (quotient q) r e h = integral-near τ σ 16 _ (rw (← e, ← h, ne-eqb v 0 q) (ranged-out _ r))
-  exact-near _ u v _ τ σ us vs (remainder q) r e h = integral-near τ σ 16 _ (rw (← e, ← h, ne-eqb v 0 q) (ranged-out _ r))
+  exact-near _ u v _ κ ι us vs sum r e h = integral-near _ _ 16 _ (rw (← e, ← h) (ranged-out _ r))
+  exact-near _ u v _ κ ι us vs difference r e h = integral-near _ _ 16 _ (rw (← e, ← h) (ranged-out _ r))
+  exact-near _ u v _ κ ι us vs product r e h = integral-near _ _ 16 _ (rw (← e, ← h) (ranged-out _ r))
+  exact-near _ u v _ κ ι us vs (quotient q) r e h = integral-near _ _ 16 _ (rw (← e, ← h, ne-eqb v 0 q) (ranged-out _ r))
+  exact-near _ u v _ κ ι us vs (remainder q) r e h = integral-near _ _ 16 _ (rw (← e, ← h, ne-eqb v 0 q) (ranged-out _ r))
 
-  divides-near : (o : Binary) (τ σ : ℕ) (us vs : List ℕ) → Divides o → wordOf vs ≡ 0 → Near (fail 17) (binaryValue T o τ us σ vs)
+  divides-near : (o : Binary) (κ ι : NodeType) (us vs : List ℕ) → Divides o → wordOf vs ≡ 0 → Near (fail 17) (binaryValue T o κ us ι vs)
   unfolding binaryValue divW modW
-  divides-near _ τ σ us vs byDivide e = integral-near τ σ 17 _ (rw e)
-  divides-near _ τ σ us vs byModulus e = integral-near τ σ 17 _ (rw e)
+  divides-near _ κ ι us vs byDivide e = integral-near _ _ 17 _ (rw e)
+  divides-near _ κ ι us vs byModulus e = integral-near _ _ 17 _ (rw e)
 
   -- an index that fails
   index-near : (f l τ : ℕ) (o : Outcome Operand) → Near (fail f) o → Near (fail f) (elementPlace T l τ o)
@@ -251,18 +281,18 @@ module _ (T : Table) (m page : Memory) (x : Context) where
   unfolding nodeOperand retrieved unaryValue negW given transferW
   fails-near _ n (result {o = o} {a = a} {b = b} {τ = τ} {σ = σ} {us = us} {vs = vs} e y w q r) =
       at-node n _ e
-      (n-value (fail 16) τ us (below n a) _ (near-below n a (same y))
-      (n-value (fail 16) σ vs (below n b) _ (near-below n b (same w))
-      (exact-near o _ _ _ τ σ us vs q r refl refl)))
+      (n-numbered (fail 16) τ us (below n a) _ (near-below n a (same y))
+      (n-numbered (fail 16) σ vs (below n b) _ (near-below n b (same w))
+      (exact-near o _ _ _ _ _ us vs q r refl refl)))
   fails-near _ n (inverted {a = a} {τ = τ} {us = us} e y r) =
       at-node n _ e
       (n-value (fail 16) τ us (below n a) _ (near-below n a (same y))
       (n-need (fail 16) _ _ (rw (ranged-out _ r) (same refl))))
   fails-near _ n (divisor {o = o} {a = a} {b = b} {τ = τ} {σ = σ} {us = us} {vs = vs} e y w q r) =
       at-node n _ e
-      (n-value (fail 17) τ us (below n a) _ (near-below n a (same y))
-      (n-value (fail 17) σ vs (below n b) _ (near-below n b (same w))
-      (divides-near o τ σ us vs q r)))
+      (n-numbered (fail 17) τ us (below n a) _ (near-below n a (same y))
+      (n-numbered (fail 17) σ vs (below n b) _ (near-below n b (same w))
+      (divides-near o _ _ us vs q r)))
   fails-near _ n (index {a = a} {k = k} {l = l} {τ = τ} {ι = ι} {σ = σ} {low = low} {high = high} {ρ = ρ} {ws = ws} e y t w h) =
       at-node n _ e
       (n-place (fail 18) l τ (below n a) _ (near-below n a (same y))
@@ -286,8 +316,8 @@ module _ (T : Table) (m page : Memory) (x : Context) where
   fails-near f n (inVariable {a = a} e h) = at-node n _ e (n-place-fails (fail f) f (below n a) _ refl (near-below n a (fails-near f a h)))
   fails-near f n (inUnary {a = a} e h) = at-node n _ e (n-value-fails (fail f) f (below n a) _ refl (near-below n a (fails-near f a h)))
   fails-near f n (inTransfer {a = a} e h) = at-node n _ e (n-value-fails (fail f) f (below n a) _ refl (near-below n a (fails-near f a h)))
-  fails-near f n (inLeft {a = a} e h) = at-node n _ e (n-value-fails (fail f) f (below n a) _ refl (near-below n a (fails-near f a h)))
-  fails-near f n (inRight {a = a} {b = b} {τ = τ} {us = us} e y h) =
+  fails-near f n (inLeft {a = a} e h) = at-node n _ e (n-typed-fails (fail f) f (below n a) _ refl (near-below n a (fails-near f a h)))
+  fails-near f n (inRight {a = a} {b = b} {κ = κ} {us = us} e y h) =
       at-node n _ e
-      (n-value (fail f) τ us (below n a) _ (near-below n a (same y))
-      (n-value-fails (fail f) f (below n b) _ refl (near-below n b (fails-near f b h))))
+      (n-gives a (below n a) _ (fail f) κ us (λ _ q. near-below n a (same q)) y
+      (n-typed-fails (fail f) f (below n b) _ refl (near-below n b (fails-near f b h))))

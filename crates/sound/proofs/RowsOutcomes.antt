@@ -3,10 +3,12 @@ use Prim.Native.Nat.{ℕ}
 use mathlib.Core.Path.{_≡_, refl, sym}
 use mathlib.Core.Bool.{Bool, true, false}
 use mathlib.Core.List.{List}
+use lib.ListN.{length}
 use lib.Dec.{eqb}
 use Rattle.basics.specs.Choice.{pick}
 use Rattle.basics.proofs.Bools.{no-true}
-use Rattle.machine.specs.Outcomes.{Outcome, ok, fail, stuck, andThen, need, failWhere, Operand, place, value, placed, valued, onPlace, onValue, wordOf, onWord}
+use Rattle.types.specs.Types.{NodeType, numbered, string}
+use Rattle.machine.specs.Outcomes.{Outcome, ok, fail, stuck, andThen, need, failWhere, Operand, place, value, text, placed, valued, typed, onPlace, onValue, onTyped, wordOf, onWord}
 use Rattle.machine.specs.Entries.{TypeEntry, arrayType}
 use Rattle.machine.specs.Operands.{onArray}
 
@@ -60,6 +62,18 @@ module _ {B : Type 0} (R : Outcome B) where
   pub n-value : (τ : ℕ) (ws : List ℕ) (o : Outcome Operand) (k : ℕ → List ℕ → Outcome B) → Near (ok (value τ ws)) o → Near R (k τ ws) → Near R (onValue o k)
   unfolding onValue valued
   n-value τ ws o k h n = n-then R (value τ ws) o _ h n
+
+  pub n-typed-fails : (f : ℕ) (o : Outcome Operand) (k : NodeType → List ℕ → Outcome B) → R ≡ fail f → Near (fail f) o → Near R (onTyped o k)
+  unfolding onTyped
+  n-typed-fails f o k e h = n-fails R f o _ e h
+
+  pub n-numbered : (τ : ℕ) (ws : List ℕ) (o : Outcome Operand) (k : NodeType → List ℕ → Outcome B) → Near (ok (value τ ws)) o → Near R (k (numbered τ) ws) → Near R (onTyped o k)
+  unfolding onTyped typed
+  n-numbered τ ws o k h n = n-then R (value τ ws) o _ h n
+
+  pub n-text : (ws : List ℕ) (o : Outcome Operand) (k : NodeType → List ℕ → Outcome B) → Near (ok (text ws)) o → Near R (k (string (length ws)) ws) → Near R (onTyped o k)
+  unfolding onTyped typed
+  n-text ws o k h n = n-then R (text ws) o _ h n
 
   pub n-word-fails : (f : ℕ) (o : Outcome Operand) (τ : ℕ) (k : ℕ → Outcome B) → R ≡ fail f → Near (fail f) o → Near R (onWord o τ k)
   unfolding onWord

@@ -11,22 +11,26 @@ use Rattle.basics.specs.Choice.{pick, both}
 use Rattle.basics.specs.Cases.{cases}
 use Rattle.basics.proofs.Bools.{no-true, both-l, both-r, both-i, both-false-l, both-false-r}
 use Rattle.table.specs.Table.{Table}
-use Rattle.table.specs.Entries.{varMode, argNode, firstVar, params, stmtCount}
+use Rattle.types.specs.Match.{Match, equal, fitted, unfit}
+use Rattle.types.proofs.Matching.{is-equal}
+use Rattle.table.specs.Entries.{varMode, varType, argNode, firstVar, params, stmtCount}
+use Rattle.sizes.specs.Sizes.{wordsOf}
 use Rattle.machine.specs.Memory.{Memory, update}
 use Rattle.machine.specs.Layout.{statusAt, statementAt, holderAt, depthAt, callStatement}
 use Rattle.machine.specs.Marks.{marked}
+use Rattle.machine.specs.Texts.{fit}
 use Rattle.machine.specs.Outcomes.{Outcome, ok, fail, stuck, andThen, wordOf}
 use Rattle.machine.specs.Entries.{processType, typeAt, Opener, waits, repeats, Statement, skip, assign, localCall, processCall, create, start, opener, arm, endArms, write, blockEnd, noStatement, stmtAt}
 use Rattle.machine.specs.Context.{Context}
 use Rattle.machine.specs.Operands.{operand}
-use Rattle.machine.specs.Calls.{valueArgument, varArgument, argument, argumentWords, arguments, topAfter, pushed, frameMarked, call, returns, return}
+use Rattle.machine.specs.Calls.{passed, valueArgument, varArgument, argument, argumentWords, arguments, topAfter, pushed, frameMarked, call, returns, return}
 use Rattle.machine.specs.Processes.{onModule, onProcess, onReference}
 use Rattle.machine.specs.Statements.{Effect, effect, onArms, onOpener, Choice, enters, skips, endOf, goTo, goOn, wait, moved, doAssign, doLocalCall, free, doProcessCall, doCreate, doStart, choose, chosen, doOpener, doEnd, doWrite, doBlockEnd, perform}
-use Rattle.machine.proofs.Outcomes.{g-test, g-need, g-where, g-place, g-value, g-word, g-module}
+use Rattle.machine.proofs.Outcomes.{g-test, g-need, g-where, g-place, g-word, g-module}
 use Rattle.sound.specs.Conditions.{Selects, Yields, NodeFails, ArgumentsFail, thisArgument, laterArgument, GuardsFail, thisGuard, laterGuard, GuardsFalse, none, more, AreaFull, Refers, Empty, Serves, StatementFails, target, source, localArgument, localArea, callee, calleeUnset, calleeEmpty, callArgument, callArea, createe, limit, startee, starteeUnset, starteeEmpty, startedTwice, startArgument, guard, address, datum, location, StatementWaits, blocked, busy, StatementEnds, ownBlock}
-use Rattle.sound.specs.Carried.{Inside, nextArm, lastEnd, LeadsTo, theEnd, pastArm, Passes, noMore, byValue, byVariable, Passed, FirstTrue, thisArm, laterArm, Carries, assigns, callsLocal, callsProcess, creates, starts, passes, leaves, again, writes, returnsLocal, returnsProcess}
-use Rattle.sound.proofs.RowsOutcomes.{Near, same, lost, n-fails, n-then, n-need, n-pass, n-where, n-place-fails, n-place, n-value-fails, n-value, n-word-fails, n-word, n-pick-true, n-pick-false}
-use Rattle.sound.proofs.RowsNodes.{node-fails, fails-near}
+use Rattle.sound.specs.Carried.{Inside, nextArm, lastEnd, LeadsTo, theEnd, pastArm, Passes, noMore, byValue, byFit, byVariable, Passed, FirstTrue, thisArm, laterArm, Carries, assigns, callsLocal, callsProcess, creates, starts, passes, leaves, again, writes, returnsLocal, returnsProcess}
+use Rattle.sound.proofs.RowsOutcomes.{Near, same, lost, n-fails, n-then, n-need, n-pass, n-where, n-place-fails, n-place, n-typed-fails, n-word-fails, n-word, n-pick-true, n-pick-false}
+use Rattle.sound.proofs.RowsNodes.{g-gives, n-gives, node-fails, fails-near}
 
 -- ---- arms
 
@@ -97,6 +101,12 @@ g-got P s G F _ k (is-ok {y = y} h) f g = g y refl h
 g-got P s G F _ k (is-fail {f = n} h) f g = f n h
 g-got P s G F _ k is-stuck f g = s
 
+passed-got : (G : List ℕ → Type 0) (F : ℕ → Type 0) (n : ℕ) (us : List ℕ) (k : Match) → (k ≡ equal → G us) → (k ≡ fitted → G (fit n us)) → Got G F (passed n us k)
+unfolding passed
+passed-got G F n us equal f g = is-ok (f refl)
+passed-got G F n us fitted f g = is-ok (g refl)
+passed-got G F n us unfit f g = is-stuck
+
 module _ (T : Table) (m page : Memory) (x : Context) where
   -- ---- arguments
 
@@ -107,8 +117,8 @@ module _ (T : Table) (m page : Memory) (x : Context) where
   argument-got v i =
       g-need (Got _ _) is-stuck _ _
       (cases (eqb (varMode T v) 1)
-      (λ e. rw e (g-value (Got _ _) is-stuck (operand T m page x (argNode T i)) _ (λ f q. is-fail (node-fails T m page x _ f q))
-      (λ σ us q. g-test (Got _ _) is-stuck _ _ (λ h. is-ok (λ k ws p. byValue (eqb-true _ 1 e) q h p)))))
+      (λ e. rw e (g-gives T m page x (argNode T i) (operand T m page x (argNode T i)) _ (Got _ _) is-stuck (λ _ q. q) (λ f q. is-fail (node-fails T m page x _ f q))
+      (λ κ us q. passed-got _ _ _ us _ (λ h k ws p. byValue (eqb-true _ 1 e) q h p) (λ h k ws p. byFit (eqb-true _ 1 e) q h p))))
       (λ e. rw e (g-test (Got _ _) is-stuck _ _ (λ u.
       g-place (Got _ _) is-stuck (operand T m page x (argNode T i)) _ (λ f q. is-fail (node-fails T m page x _ f q))
       (λ a σ q. g-test (Got _ _) is-stuck _ _ (λ h. is-ok (λ k ws p. byVariable (eqb-true _ 2 u) (rw (eqb-true _ σ h) q) p)))))))
@@ -136,7 +146,7 @@ module _ (T : Table) (m page : Memory) (x : Context) where
   argument-near f v i h =
       n-need (fail f) _ _
       (cases (eqb (varMode T v) 1)
-      (λ e. rw e (n-value-fails (fail f) f (operand T m page x (argNode T i)) _ refl (fails-near T m page x f _ h)))
+      (λ e. rw e (n-typed-fails (fail f) f (operand T m page x (argNode T i)) _ refl (fails-near T m page x f _ h)))
       (λ e. rw e (n-need (fail f) _ _ (n-place-fails (fail f) f (operand T m page x (argNode T i)) _ refl (fails-near T m page x f _ h)))))
 
   words-near : (f k v i : ℕ) → ArgumentsFail T m page x f k v i → Near (fail f) (argumentWords T m page x k v i)
@@ -151,11 +161,15 @@ module _ (T : Table) (m page : Memory) (x : Context) where
   arguments-near f b c d h = n-need (fail f) _ _ (words-near f d (firstVar T b) c h)
 
   passes-near : (k v i : ℕ) (ws : List ℕ) → Passes T m page x k v i ws → Near (ok ws) (argumentWords T m page x k v i)
-  unfolding argumentWords argument valueArgument varArgument
+  unfolding argumentWords argument valueArgument varArgument passed
   passes-near _ v i _ noMore = same refl
-  passes-near _ v i _ (byValue {k = k} {σ = σ} {us = us} {ws = ws} e y h p) =
+  passes-near _ v i _ (byValue {k = k} {κ = κ} {us = us} {ws = ws} e y h p) =
       n-then _ us (argument T m page x v i) _
-      (n-need _ _ _ (rw e (n-value _ σ us (operand T m page x (argNode T i)) _ (same y) (n-need _ _ _ (same refl)))))
+      (n-need _ _ _ (rw e (n-gives T m page x (argNode T i) (operand T m page x (argNode T i)) _ _ κ us (λ _ q. same q) y (rw h (same refl)))))
+      (n-then _ ws (argumentWords T m page x k (v + 1) (i + 1)) _ (passes-near k (v + 1) (i + 1) ws p) (same refl))
+  passes-near _ v i _ (byFit {k = k} {κ = κ} {us = us} {ws = ws} e y h p) =
+      n-then _ (fit (wordsOf T (varType T v)) us) (argument T m page x v i) _
+      (n-need _ _ _ (rw e (n-gives T m page x (argNode T i) (operand T m page x (argNode T i)) _ _ κ us (λ _ q. same q) y (rw h (same refl)))))
       (n-then _ ws (argumentWords T m page x k (v + 1) (i + 1)) _ (passes-near k (v + 1) (i + 1) ws p) (same refl))
   passes-near _ v i _ (byVariable {k = k} {a = a} {ws = ws} e y p) =
       n-then _ (a ∷ []) (argument T m page x v i) _
@@ -302,8 +316,8 @@ module _ (T : Table) (m page : Memory) (x : Context) where
   unfolding doAssign
   assign-reports a b =
       g-place (Reports _) strays (operand T m page x a) _ (λ f e. failed (target (node-fails T m page x a f e)))
-      (λ i τ y. g-value (Reports _) strays (operand T m page x b) _ (λ f e. failed (source y (node-fails T m page x b f e)))
-      (λ σ ws e. g-test (Reports _) strays _ _ (λ h. goon-reports _ _ (assigns y e h))))
+      (λ i τ y. g-gives T m page x b (operand T m page x b) _ (Reports _) strays (λ _ e. e) (λ f e. failed (source y (node-fails T m page x b f e)))
+      (λ κ ws e. g-test (Reports _) strays _ _ (λ h. goon-reports _ _ (assigns y e (is-equal _ h)))))
 
   local-reports : (q c d : ℕ) → Reports (localCall q c d) (doLocalCall T m page x q c d)
   unfolding doLocalCall
@@ -456,7 +470,7 @@ module _ (T : Table) (m page : Memory) (x : Context) where
   unfolding perform doAssign doLocalCall doProcessCall doCreate doStart doOpener doWrite
   statement-near f _ (target {a = a} h) = n-place-fails (fail f) f (operand T m page x a) _ refl (fails-near T m page x f a h)
   statement-near f _ (source {a = a} {b = b} {i = i} {τ = τ} y h) =
-      n-place (fail f) i τ (operand T m page x a) _ (same y) (n-value-fails (fail f) f (operand T m page x b) _ refl (fails-near T m page x f b h))
+      n-place (fail f) i τ (operand T m page x a) _ (same y) (n-typed-fails (fail f) f (operand T m page x b) _ refl (fails-near T m page x f b h))
   statement-near f _ (localArgument {q = q} {c = c} {d = d} h) =
       n-need (fail f) _ _ (n-fails (fail f) f (arguments T m page x q c d) _ refl (arguments-near f q c d h))
   statement-near _ _ (localArea {q = q} {c = c} {d = d} {ws = ws} e h) =
@@ -502,8 +516,8 @@ module _ (T : Table) (m page : Memory) (x : Context) where
   pub carries-near : (S : Statement) (s d : Memory) → Carries T m page x S s d → Near (ok (effect 0 s d)) (perform T m page x S)
   unfolding perform goTo goOn doAssign doLocalCall doProcessCall doCreate doStart doOpener chosen doWrite doBlockEnd moved andThen return returns
   carries-near _ _ _ Carries.skips = same refl
-  carries-near _ _ _ (assigns {a = a} {b = b} {i = i} {τ = τ} {σ = σ} {ws = ws} y w h) =
-      n-place _ i τ (operand T m page x a) _ (same y) (n-value _ σ ws (operand T m page x b) _ (same w) (n-need _ _ _ (same refl)))
+  carries-near _ _ _ (assigns {a = a} {b = b} {i = i} {τ = τ} {κ = κ} {ws = ws} y w h) =
+      n-place _ i τ (operand T m page x a) _ (same y) (n-gives T m page x b (operand T m page x b) _ _ κ ws (λ _ q. same q) w (n-need _ _ _ (same refl)))
   carries-near _ _ _ (callsLocal {q = q} {c = c} {d = d} {ws = ws} p n) =
       n-need _ _ _ (n-then _ ws (arguments T m page x q c d) _ (passed-near q c d ws p) (room-near _ q _ ws n))
   carries-near _ _ _ (callsProcess {a = a} {q = q} {c = c} {d = d} {i = i} {τ = τ} {ws = ws} y t z s p n) =
@@ -528,11 +542,11 @@ module _ (T : Table) (m page : Memory) (x : Context) where
   carries-near _ _ _ (returnsProcess n e) = rw (ne-eqb _ 0 n, e) (same refl)
 
   -- an answer that a statement gives, with the state that it leaves
-  pub record Gives (n : ℕ) (o : Outcome Effect) : Type 0 where
+  pub record Replies (n : ℕ) (o : Outcome Effect) : Type 0 where
     pub state : Memory
     pub near : Near (ok (effect n state page)) o
 
-  pub waits-near : (S : Statement) → StatementWaits T m page x S → Gives 1 (perform T m page x S)
+  pub waits-near : (S : Statement) → StatementWaits T m page x S → Replies 1 (perform T m page x S)
   unfolding perform doOpener doProcessCall chosen wait
   waits-near _ (blocked {k = k} e h) = record {
     state = update m (holderAt (x .works)) 0;
@@ -545,6 +559,6 @@ module _ (T : Table) (m page : Memory) (x : Context) where
     near = n-process _ a i τ y _ (λ μ t. n-need _ _ _ (n-reference _ a i τ y μ _ z (rw (busy-free (m i) h) (same refl))));
   }
 
-  pub ends-near : (S : Statement) → StatementEnds T m page x S → Gives 2 (perform T m page x S)
+  pub ends-near : (S : Statement) → StatementEnds T m page x S → Replies 2 (perform T m page x S)
   unfolding perform doBlockEnd
   ends-near _ (ownBlock e) = record { state = update (update m (statusAt (x .process)) 3) (holderAt (x .process)) 0; near = rw (eq-eqb _ 0 e) (same refl) }

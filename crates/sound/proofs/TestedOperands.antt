@@ -2,27 +2,30 @@
 use Prim.Native.Nat.{ℕ, zero, suc, _+_, _%_, _≤_, _<_}
 use mathlib.Core.Path.{_≡_, ap}
 use mathlib.Core.Bool.{true, not}
+use mathlib.Core.List.{List}
 use native.Mathlib.Omega.{arith}
 use native.Mathlib.Nat.{not-suc-le-zero}
 use lib.Dec.{eqb, ltb}
+use lib.ListN.{length}
 use borrow.Author.Tests.{leb-true, ltb-true}
 use Rattle.basics.specs.Cases.{cases}
 use Rattle.basics.proofs.Bools.{both-l, both-r}
 use Rattle.table.specs.Table.{Table}
 use Rattle.table.specs.Entries.{owner, varMode, varType, argNode, firstVar}
+use Rattle.types.specs.Types.{NodeType, numbered}
 use Rattle.sizes.specs.Sizes.{wordsOf}
 use Rattle.machine.specs.Memory.{Memory}
 use Rattle.machine.specs.Layout.{locations}
 use Rattle.machine.specs.Marks.{allMarked}
-use Rattle.machine.specs.Outcomes.{Outcome, ok, stuck, need, Operand, place}
-use Rattle.machine.specs.Entries.{Node, constant, whole, field, element, retrieve, unary, binary, transfer, noNode, nodeAt, typeAt}
+use Rattle.machine.specs.Outcomes.{Outcome, ok, stuck, need, Operand, place, onTyped}
+use Rattle.machine.specs.Entries.{Binary, Node, constant, whole, field, element, retrieve, unary, binary, transfer, string, noNode, nodeAt, typeAt}
 use Rattle.machine.specs.Context.{Context}
 use Rattle.machine.specs.Variables.{belongs, offsetOf, fits}
-use Rattle.machine.specs.Operands.{elementPlace, moduleVariable, frameVariable, wholePlace, retrieved, nodeOperand, operand}
+use Rattle.machine.specs.Operands.{binaryValue, elementPlace, moduleVariable, frameVariable, wholePlace, retrieved, nodeOperand, operand}
 use Rattle.machine.specs.Calls.{valueArgument, varArgument, argument, argumentWords, arguments}
 use Rattle.machine.proofs.Courses.{below, operand-is}
 use Rattle.sound.proofs.HistoriesOperands.{place-fits}
-use Rattle.sound.proofs.TestedOutcomes.{Equal, Same, same, strays, m-then, m-test, m-unset, m-pick, m-place, m-value, m-word, m-array}
+use Rattle.sound.proofs.TestedOutcomes.{Equal, Same, same, strays, m-then, m-test, m-unset, m-pick, m-place, m-value, m-typed, m-word, m-array}
 use Rattle.sound.proofs.TestedTwins.{Twin, at-area, same-words, all-set}
 
 pub fits-room : (T : Table) (a τ : ℕ) → fits T a τ ≡ true → a + wordsOf T τ ≤ locations
@@ -60,6 +63,10 @@ module _ (T : Table) (m s page : Memory) (x : Context) (t : Twin m s) (most : x 
       (rw (same-words m s t a (wordsOf T τ) l) (same _))
 
   module _ (r u : ℕ → Outcome Operand) (h : (n : ℕ) → Same (r n) (u n)) (places : (n a τ : ℕ) → r n ≡ ok (place a τ) → fits T a τ ≡ true) where
+    right-same : (o : Binary) (k : ℕ) (τ : NodeType) (us : List ℕ)
+        → Same (onTyped (r k) λ σ vs. binaryValue T o τ us σ vs) (onTyped (u k) λ σ vs. binaryValue T o τ us σ vs)
+    right-same o k τ us = m-typed Equal (r k) (u k) _ _ (h k) (λ σ vs q. same _) (λ vs q. same _)
+
     node-same : (N : Node) → Same (nodeOperand T m page x r N) (nodeOperand T s page x u N)
     unfolding nodeOperand elementPlace
     node-same (constant τ v) = same _
@@ -69,8 +76,9 @@ module _ (T : Table) (m s page : Memory) (x : Context) (t : Twin m s) (most : x 
         m-place Equal (r n) (u n) _ _ (h n) (λ a τ e. m-array Equal (typeAt T τ) _ _ (λ ι σ low high. m-word Equal (r k) (u k) ι _ _ (h k) (λ w. same _)))
     node-same (retrieve n) = m-place Equal (r n) (u n) _ _ (h n) (λ a τ e. retrieved-same a τ (places n a τ e))
     node-same (unary o n) = m-value Equal (r n) (u n) _ _ (h n) (λ τ us e. same _)
-    node-same (binary o n k) = m-value Equal (r n) (u n) _ _ (h n) (λ τ us e. m-value Equal (r k) (u k) _ _ (h k) (λ σ vs q. same _))
+    node-same (binary o n k) = m-typed Equal (r n) (u n) _ _ (h n) (λ τ us e. right-same o k (numbered τ) us) (λ us e. right-same o k (NodeType.string (length us)) us)
     node-same (transfer n τ) = m-value Equal (r n) (u n) _ _ (h n) (λ σ us e. same _)
+    node-same (string p q) = same _
     node-same noNode = strays
 
   -- ---- all nodes
@@ -103,7 +111,7 @@ module _ (T : Table) (m s page : Memory) (x : Context) (t : Twin m s) (most : x 
   argument-same v i =
       m-test Equal _ _ _ (λ h.
       m-pick Equal (eqb (varMode T v) 1) _ _ _ _
-      (λ e. m-value Equal (operand T m page x (argNode T i)) (operand T s page x (argNode T i)) _ _ (operand-same (argNode T i)) (λ σ ws q. same _))
+      (λ e. m-typed Equal (operand T m page x (argNode T i)) (operand T s page x (argNode T i)) _ _ (operand-same (argNode T i)) (λ σ ws q. same _) (λ ws q. same _))
       (λ e. m-test Equal _ _ _ (λ g.
       m-place Equal (operand T m page x (argNode T i)) (operand T s page x (argNode T i)) _ _ (operand-same (argNode T i)) (λ a σ q. same _))))
 

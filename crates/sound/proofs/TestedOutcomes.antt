@@ -3,9 +3,11 @@ use Prim.Native.Nat.{ℕ}
 use mathlib.Core.Path.{_≡_, refl, ap, _∙_}
 use mathlib.Core.Bool.{Bool, true, false}
 use mathlib.Core.List.{List}
+use lib.ListN.{length}
 use lib.Dec.{eqb}
 use Rattle.basics.specs.Choice.{pick}
-use Rattle.machine.specs.Outcomes.{Outcome, ok, fail, stuck, andThen, need, failWhere, Operand, place, value, placed, valued, onPlace, onValue, wordOf, onWord}
+use Rattle.types.specs.Types.{NodeType, numbered, string}
+use Rattle.machine.specs.Outcomes.{Outcome, ok, fail, stuck, andThen, need, failWhere, Operand, place, value, text, placed, valued, typed, onPlace, onValue, onTyped, wordOf, onWord}
 use Rattle.machine.specs.Entries.{TypeEntry, integer, boolean, character, recordType, arrayType, processType, noType, Opener, Statement, skip, assign, localCall, processCall, create, start, opener, arm, endArms, write, blockEnd, noStatement}
 use Rattle.machine.specs.Operands.{onArray}
 use Rattle.machine.specs.Processes.{onModule}
@@ -63,11 +65,20 @@ module _ {B : Type 0} (R : B → B → Type 0) where
   unfolding placed
   placed-meets (place a τ) f g h = h a τ refl
   placed-meets (value τ ws) f g h = strays
+  placed-meets (text ws) f g h = strays
 
   valued-meets : (y : Operand) (f g : ℕ → List ℕ → Outcome B) → ((τ : ℕ) (ws : List ℕ) → y ≡ value τ ws → Meets R (f τ ws) (g τ ws)) → Meets R (valued y f) (valued y g)
   unfolding valued
   valued-meets (place a τ) f g h = strays
   valued-meets (value τ ws) f g h = h τ ws refl
+  valued-meets (text ws) f g h = strays
+
+  typed-meets : (y : Operand) (f g : NodeType → List ℕ → Outcome B) → ((τ : ℕ) (ws : List ℕ) → y ≡ value τ ws → Meets R (f (numbered τ) ws) (g (numbered τ) ws))
+      → ((ws : List ℕ) → y ≡ text ws → Meets R (f (string (length ws)) ws) (g (string (length ws)) ws)) → Meets R (typed y f) (typed y g)
+  unfolding typed
+  typed-meets (place a τ) f g h k = strays
+  typed-meets (value τ ws) f g h k = h τ ws refl
+  typed-meets (text ws) f g h k = k ws refl
 
   pub m-place : (o u : Outcome Operand) (f g : ℕ → ℕ → Outcome B) → Same o u → ((a τ : ℕ) → o ≡ ok (place a τ) → Meets R (f a τ) (g a τ)) → Meets R (onPlace o f) (onPlace u g)
   unfolding onPlace
@@ -76,6 +87,12 @@ module _ {B : Type 0} (R : B → B → Type 0) where
   pub m-value : (o u : Outcome Operand) (f g : ℕ → List ℕ → Outcome B) → Same o u → ((τ : ℕ) (ws : List ℕ) → o ≡ ok (value τ ws) → Meets R (f τ ws) (g τ ws)) → Meets R (onValue o f) (onValue u g)
   unfolding onValue
   m-value o u f g e h = m-then o u _ _ e (λ y q. valued-meets y f g (λ τ ws r. h τ ws (q ∙ ap ok r)))
+
+  pub m-typed : (o u : Outcome Operand) (f g : NodeType → List ℕ → Outcome B) → Same o u
+      → ((τ : ℕ) (ws : List ℕ) → o ≡ ok (value τ ws) → Meets R (f (numbered τ) ws) (g (numbered τ) ws))
+      → ((ws : List ℕ) → o ≡ ok (text ws) → Meets R (f (string (length ws)) ws) (g (string (length ws)) ws)) → Meets R (onTyped o f) (onTyped u g)
+  unfolding onTyped
+  m-typed o u f g e h k = m-then o u _ _ e (λ y q. typed-meets y f g (λ τ ws r. h τ ws (q ∙ ap ok r)) (λ ws r. k ws (q ∙ ap ok r)))
 
   pub m-word : (o u : Outcome Operand) (τ : ℕ) (f g : ℕ → Outcome B) → Same o u → ((w : ℕ) → Meets R (f w) (g w)) → Meets R (onWord o τ f) (onWord u τ g)
   unfolding onWord

@@ -12,11 +12,15 @@ use Rattle.basics.specs.Cases.{cases}
 use Rattle.basics.proofs.Bools.{both-l, both-r, both-false-l}
 use Rattle.table.specs.Table.{Table}
 use Rattle.table.specs.Entries.{stmtCount}
-use Rattle.types.specs.Match.{matches}
-use Rattle.machine.specs.Memory.{Memory, update}
+use Rattle.types.specs.Types.{NodeType, numbered}
+use Rattle.types.specs.Match.{matching, isEqual}
+use Rattle.sizes.specs.Sizes.{wordsOf}
+use Rattle.sizes.specs.Kept.{wordsIn}
+use Rattle.sizes.proofs.Strings.{equal-words}
+use Rattle.machine.specs.Memory.{Memory, update, store}
 use Rattle.machine.specs.Layout.{locations, location, recordAt, topAt, holderAt, depthAt, createdAt, linkAt}
-use Rattle.machine.specs.Marks.{marked}
-use Rattle.machine.specs.Outcomes.{Outcome, andThen}
+use Rattle.machine.specs.Marks.{marked, mark}
+use Rattle.machine.specs.Outcomes.{Outcome, andThen, need}
 use Rattle.machine.specs.Entries.{Opener, waits, repeats, Statement, skip, assign, localCall, processCall, create, start, opener, arm, endArms, write, blockEnd, noStatement, stmtAt, typeAt}
 use Rattle.machine.specs.Context.{Context}
 use Rattle.machine.specs.Variables.{frameWords}
@@ -24,9 +28,10 @@ use Rattle.machine.specs.Operands.{operand}
 use Rattle.machine.specs.Calls.{arguments, frame, topAfter, pushed, frameMarked, call, popped, returns, return}
 use Rattle.machine.specs.Processes.{onProcess, refers, onReference, created, started}
 use Rattle.machine.specs.Statements.{Effect, effect, Choice, enters, skips, endOf, free, goTo, goOn, wait, moved, doAssign, doLocalCall, doProcessCall, doCreate, doStart, choose, chosen, doOpener, doEnd, doWrite, doBlockEnd, perform}
-use Rattle.sound.proofs.HistoriesOperands.{matching-words, place-fits, place-area, value-long}
+use Rattle.sound.specs.Conditions.{Selects, Gives, aValue, aText}
+use Rattle.sound.proofs.HistoriesOperands.{place-fits, place-area, gives-long}
 use Rattle.sound.proofs.HistoriesRecords.{location-end, refers-most}
-use Rattle.sound.proofs.TestedOutcomes.{Meets, Equal, Same, same, gives, fails, strays, unset, m-then, m-test, m-where, m-unset, m-pick, m-place, m-value, m-word, m-module, m-arms, m-opener}
+use Rattle.sound.proofs.TestedOutcomes.{Meets, Equal, Same, same, gives, fails, strays, unset, m-then, m-test, m-where, m-unset, m-pick, m-place, m-typed, m-word, m-module, m-arms, m-opener}
 use Rattle.sound.proofs.TestedTwins.{Twin, at-record, at-location, at-area, twin-store, twin-clear, twin-record, twin-word, twin-location, twin-marks, twin-fresh, twin-standing}
 use Rattle.sound.proofs.TestedOperands.{fits-room, operand-same, arguments-same}
 
@@ -68,16 +73,23 @@ module _ (T : Table) (m s page : Memory) (x : Context) (t : Twin m s) (some : 1 
   moves _ _ strays = strays
   moves _ _ unset = unset
 
+  stores : (a b i τ : ℕ) (κ : NodeType) (ws : List ℕ) → Selects T m page x a i τ → Gives T m page x b κ ws
+      → Meets Alike (need (isEqual (matching T (numbered τ) κ)) (goOn T m page x (mark (store m i ws) i (length ws))))
+      (need (isEqual (matching T (numbered τ) κ)) (goOn T s page x (mark (store s i ws) i (length ws))))
+  unfolding wordsIn
+  stores a b i τ κ ws e q =
+      m-test Alike (isEqual (matching T (numbered τ) κ)) _ _ (λ h.
+      let l = fits-room T i τ (place-fits T m page x a i τ e) in
+      let n = gives-long T m page x b κ ws q in
+      let w : wordsOf T τ ≡ wordsIn T κ = equal-words T (numbered τ) κ h in
+      goes-on _ _ (twin-marks _ _ (twin-store m s t i ws (omega arith)) i (length ws) true true refl))
+
   assigns : (a b : ℕ) → Meets Alike (doAssign T m page x a b) (doAssign T s page x a b)
   unfolding doAssign
   assigns a b =
       m-place Alike (operand T m page x a) (operand T s page x a) _ _ (operands a) (λ i τ e.
-      m-value Alike (operand T m page x b) (operand T s page x b) _ _ (operands b) (λ σ ws q.
-      m-test Alike (matches T τ σ) _ _ (λ h.
-      let l = fits-room T i τ (place-fits T m page x a i τ e) in
-      let n = value-long T m page x b σ ws q in
-      let w = matching-words T τ σ h in
-      goes-on _ _ (twin-marks _ _ (twin-store m s t i ws (omega arith)) i (length ws) true true refl))))
+      m-typed Alike (operand T m page x b) (operand T s page x b) _ _ (operands b)
+      (λ σ ws q. stores a b i τ (numbered σ) ws e (aValue q)) (λ ws q. stores a b i τ (NodeType.string (length ws)) ws e (aText q)))
 
   -- ---- calls
 

@@ -9,13 +9,10 @@ use lib.ListN.{length, getD}
 use lib.Dec.{eqb, ltb}
 use borrow.Author.Tests.{eqb-true, eqb-false, ltb-true, ltb-false}
 use Rattle.basics.specs.Cases.{cases}
-use Rattle.basics.proofs.Bools.{no-true}
 use Rattle.table.specs.Table.{Table}
-use Rattle.table.specs.Entries.{typeCount, typeKind, typeQ}
-use Rattle.types.specs.Match.{elements, isString, matches}
+use Rattle.table.specs.Entries.{typeCount, typeQ}
 use Rattle.sizes.specs.Sizes.{wordsOf, offsetIn}
-use Rattle.sizes.proofs.Counting.{words-array, part-lower, offset-more, offset-up}
-use Rattle.numbers.proofs.TypePromise.{declared-from}
+use Rattle.sizes.proofs.Counting.{part-lower, offset-more, offset-up}
 use Rattle.machine.specs.Memory.{Memory, store, wordsAt}
 use Rattle.machine.specs.Values.{part, holds}
 use Rattle.machine.proofs.Memories.{length-words, words-at, store-below, store-above, words-store}
@@ -122,51 +119,6 @@ module _ (T : Table) (m : Memory) where
         (store-else m (a + k) (wordsOf T τ) ws g)
         h (v .anywhere n (a + k) keeps (rw (← g) (words-store m (a + k) ws)))
 
--- strings of one length
-string-kind : (T : Table) (τ : ℕ) → isString T τ ≡ true → (typeKind T τ ≡ 2) × (typeQ T τ ≡ 2)
-unfolding isString
-string-kind T τ e =
-    cases (eqb (typeKind T τ) 2)
-    (λ q. (eqb-true (typeKind T τ) 2 q, eqb-true (typeQ T τ) 2 (rw q at e)))
-    (λ q. no-true (rw q at e))
-
-string-lower : (T : Table) (τ : ℕ) → isString T τ ≡ true → typeQ T τ < τ
-string-lower T τ e = let k = string-kind T τ e in let d = declared-from T τ 2 (k .0) (omega arith) in omega arith
-
-string-words : (T : Table) (τ : ℕ) → isString T τ ≡ true → wordsOf T τ ≡ elements T τ * wordsOf T 2
-string-words T τ e =
-    let k = string-kind T τ e in
-    words-array T τ (k .0) ∙ rw (part-lower T τ (typeQ T τ) (string-lower T τ e), k .1)
-
-module _ (T : Table) (τ σ : ℕ) (t : isString T τ ≡ true) (s : isString T σ ≡ true) (e : elements T τ ≡ elements T σ) where
-  string-holds : (m : Memory) (a : ℕ) → holds T m σ a ≡ true → holds T m τ a ≡ true
-  string-holds m a h =
-      let k = string-kind T τ t in
-      let c = string-kind T σ s in
-      array-holds T m a τ (k .0) (λ i l.
-      let f : holds T m 2 (a + i * wordsOf T 2) ≡ true = rw (c .1) at (element-holds T m a σ (c .0) h i (rw e at l) .1) in
-      (string-lower T τ t, rw (k .1) f))
-
-  string-value : (m : Memory) (ws : List ℕ) → IsValue T m σ ws → IsValue T m τ ws
-  string-value m ws v =
-      let w : wordsOf T τ ≡ wordsOf T σ = string-words T τ t ∙ rw e (sym (string-words T σ s)) in
-      record {
-        long = v .long ∙ sym w;
-        anywhere = λ n a keeps q. string-holds n a (v .anywhere n a keeps (rw w at q));
-      }
-
--- a value of a type is one of each type that matches
-pub matching : (T : Table) (m : Memory) (τ σ : ℕ) (ws : List ℕ) → matches T τ σ ≡ true → IsValue T m σ ws → IsValue T m τ ws
-unfolding matches
-matching T m τ σ ws h v =
-    cases (eqb τ σ)
-    (λ q. rw (eqb-true τ σ q) v)
-    (λ q. cases (isString T τ)
-    (λ t. cases (isString T σ)
-    (λ s. string-value T τ σ t s (eqb-true (elements T τ) (elements T σ) (rw (q, t, s) at h)) m ws v)
-    (λ s. no-true (rw (q, t, s) at h)))
-    (λ t. no-true (rw (q, t) at h)))
-
 -- THE LAWS of values and places, of a table that keeps the rules
 pub place-laws : (T : Table) → Accepted T → PlaceLaws T
 place-laws T ok =
@@ -180,6 +132,5 @@ place-laws T ok =
       part-holds = λ m τ σ a k l h p. part-holds T m τ σ a k h p;
       retrieved = λ m τ a l h. retrieved T m τ a h;
       stored = λ m τ σ a k ws l h p v keeps. stored T m ok τ σ a k ws l h p v keeps;
-      matching = matching T;
       zero-holds = λ m τ a l z. zero-holds T ok m τ a l z;
     }

@@ -9,19 +9,22 @@ use lib.ListN.{length}
 use Rattle.basics.specs.Choice.{pick}
 use Rattle.table.specs.Table.{Table}
 use Rattle.table.specs.Entries.{argNode, varMode, varType, firstVar, params, owner}
-use Rattle.types.specs.Match.{matches}
+use Rattle.types.specs.Types.{NodeType, numbered}
+use Rattle.types.specs.Match.{equal, fitted, matching}
+use Rattle.sizes.specs.Sizes.{wordsOf}
 use Rattle.words.specs.Numbers.{intOf}
 use Rattle.words.specs.Devices.{isDevice}
 use Rattle.machine.specs.Memory.{Memory, update, store}
 use Rattle.machine.specs.Layout.{location, statusAt, statementAt, holderAt, depthAt, createdAt, callStatement}
 use Rattle.machine.specs.Marks.{mark, fresh}
+use Rattle.machine.specs.Texts.{fit}
 use Rattle.machine.specs.Outcomes.{wordOf}
 use Rattle.machine.specs.Entries.{processType, typeAt, Opener, waits, repeats, Statement, skip, assign, localCall, processCall, create, start, opener, arm, endArms, write, blockEnd, stmtAt}
 use Rattle.machine.specs.Context.{Context}
 use Rattle.machine.specs.Operands.{deviceWord}
 use Rattle.machine.specs.Calls.{pushed, frameMarked, popped}
 use Rattle.machine.specs.Processes.{created, started}
-use Rattle.sound.specs.Conditions.{Selects, Yields, GuardsFalse, AreaFull, Refers, Serves}
+use Rattle.sound.specs.Conditions.{Selects, Yields, Gives, GuardsFalse, AreaFull, Refers, Serves}
 
 -- a statement that is reached from inside the arm before it
 pub data Inside : Statement → Type 0 where
@@ -35,11 +38,14 @@ pub data LeadsTo (T : Table) : ℕ → ℕ → ℕ → Type 0 where
 
 module _ (T : Table) (m page : Memory) (x : Context) where
   -- the words that k arguments from i on pass to the parameters from v on (11.3, 12.1): for a value parameter the words that its
-  -- argument yields, for a var parameter the location that its argument selects
+  -- argument gives, filled or cut where its type is fitted (02, b), for a var parameter the location that its argument selects
   pub data Passes : ℕ → ℕ → ℕ → List ℕ → Type 0 where
     noMore : {v i : ℕ} → Passes 0 v i []
-    byValue : {k v i σ : ℕ} {us ws : List ℕ} → varMode T v ≡ 1 → Yields T m page x (argNode T i) σ us → matches T (varType T v) σ ≡ true
-        → Passes k (v + 1) (i + 1) ws → Passes (suc k) v i (us ++ ws)
+    byValue : {k v i : ℕ} {κ : NodeType} {us ws : List ℕ} → varMode T v ≡ 1 → Gives T m page x (argNode T i) κ us
+        → matching T κ (numbered (varType T v)) ≡ equal → Passes k (v + 1) (i + 1) ws → Passes (suc k) v i (us ++ ws)
+    byFit : {k v i : ℕ} {κ : NodeType} {us ws : List ℕ} → varMode T v ≡ 1 → Gives T m page x (argNode T i) κ us
+        → matching T κ (numbered (varType T v)) ≡ fitted → Passes k (v + 1) (i + 1) ws
+        → Passes (suc k) v i (fit (wordsOf T (varType T v)) us ++ ws)
     byVariable : {k v i a : ℕ} {ws : List ℕ} → varMode T v ≡ 2 → Selects T m page x (argNode T i) a (varType T v)
         → Passes k (v + 1) (i + 1) ws → Passes (suc k) v i (a ∷ ws)
 
@@ -68,8 +74,8 @@ module _ (T : Table) (m page : Memory) (x : Context) where
   pub data Carries : Statement → Memory → Memory → Type 0 where
     -- 11.1
     skips : Carries skip (goingOn m) page
-    -- 11.2: an assignment stores what b yields where a selects, and marks it
-    assigns : {a b i τ σ : ℕ} {ws : List ℕ} → Selects T m page x a i τ → Yields T m page x b σ ws → matches T τ σ ≡ true
+    -- 11.2: an assignment stores what b gives where a selects, and marks it
+    assigns : {a b i τ : ℕ} {κ : NodeType} {ws : List ℕ} → Selects T m page x a i τ → Gives T m page x b κ ws → matching T (numbered τ) κ ≡ equal
         → Carries (assign a b) (goingOn (mark (store m i ws) i (length ws))) page
     -- 11.3: a local call passes its arguments and enters the procedure; what it works on stays
     callsLocal : {q c d : ℕ} {ws : List ℕ} → Passed q c d ws → (AreaFull T m page x q → ⊥)

@@ -7,6 +7,7 @@ use mathlib.Core.Path.{_≡_}
 use mathlib.Core.Bool.{true, false}
 use mathlib.Core.Logic.{_⊎_}
 use mathlib.Core.List.{List}
+use lib.ListN.{length}
 use lib.IntN.{ℤ, pos, negsuc, negℤ, _+ℤ_, _-ℤ_, _*ℤ_}
 use lib.Signed.{quotZ, remZ}
 use Rattle.words.specs.Numbers.{intOf, between}
@@ -17,7 +18,8 @@ use Rattle.table.specs.Entries.{argNode, firstVar}
 use Rattle.machine.specs.Memory.{Memory}
 use Rattle.machine.specs.Layout.{statusAt, topAt, holderAt, depthAt, createdAt}
 use Rattle.machine.specs.Marks.{marked, allMarked}
-use Rattle.machine.specs.Outcomes.{ok, place, value, wordOf}
+use Rattle.types.specs.Types.{NodeType, numbered, string}
+use Rattle.machine.specs.Outcomes.{ok, place, value, text, wordOf}
 use Rattle.machine.specs.Entries.{arrayType, processType, typeAt, Unary, minus, val, Binary, add, subtract, multiply, divide, modulus, field, element, retrieve, unary, binary, transfer, nodeAt}
 use Rattle.machine.specs.Entries.{Opener, waits, Statement, assign, localCall, processCall, create, start, opener, arm, endArms, write, blockEnd, stmtAt}
 use Rattle.sizes.specs.Sizes.{wordsOf}
@@ -53,6 +55,11 @@ module _ (T : Table) (m page : Memory) (x : Context) where
   abbrev pub Yields : ℕ → ℕ → List ℕ → Type 0
   Yields n τ ws = operand T m page x n ≡ ok (value τ ws)
 
+  -- it gives the words ws of type κ: those of a value, or the characters of a string constant (02, b)
+  pub data Gives : ℕ → NodeType → List ℕ → Type 0 where
+    aValue : {n τ : ℕ} {ws : List ℕ} → Yields n τ ws → Gives n (numbered τ) ws
+    aText : {n : ℕ} {ws : List ℕ} → operand T m page x n ≡ ok (text ws) → Gives n (string (length ws)) ws
+
   -- ---- THE FIRST FAILURE met at a node is f
   pub data NodeFails : ℕ → ℕ → Type 0 where
     -- 16: integer result out of range
@@ -80,7 +87,7 @@ module _ (T : Table) (m page : Memory) (x : Context) where
     inUnary : {o : Unary} {f n a : ℕ} → nodeAt T n ≡ unary o a → NodeFails f a → NodeFails f n
     inTransfer : {f n a τ : ℕ} → nodeAt T n ≡ transfer a τ → NodeFails f a → NodeFails f n
     inLeft : {o : Binary} {f n a b : ℕ} → nodeAt T n ≡ binary o a b → NodeFails f a → NodeFails f n
-    inRight : {o : Binary} {f n a b τ : ℕ} {us : List ℕ} → nodeAt T n ≡ binary o a b → Yields a τ us → NodeFails f b → NodeFails f n
+    inRight : {o : Binary} {f n a b : ℕ} {κ : NodeType} {us : List ℕ} → nodeAt T n ≡ binary o a b → Gives a κ us → NodeFails f b → NodeFails f n
 
   -- of k arguments from i on, for the parameters from v on: in the order written
   pub data ArgumentsFail : ℕ → ℕ → ℕ → ℕ → Type 0 where

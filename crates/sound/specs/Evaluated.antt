@@ -7,10 +7,10 @@ use mathlib.Core.List.{List, [], _∷_, _++_}
 use lib.ListN.{length, getD}
 use Rattle.table.specs.Table.{Table}
 use Rattle.table.specs.Entries.{typeCount, blockCount, typeKind, typeP, varMode, varType, blockKind, owner, firstVar, params, argNode, nodeKind, nodeP, nodeQ, stmtKind, stmtA, stmtB, stmtC, stmtD}
-use Rattle.types.specs.Types.{typeOf}
+use Rattle.types.specs.Types.{typeOf, NodeType, numbered, string, typeOfNode}
 use Rattle.machine.specs.Memory.{Memory, update, store}
 use Rattle.machine.specs.Layout.{location, statusAt, statementAt, frameAt, worksAt, holderAt, depthAt, createdAt}
-use Rattle.machine.specs.Outcomes.{Outcome, ok, fail, Operand, place, value, isFailure}
+use Rattle.machine.specs.Outcomes.{Outcome, ok, fail, Operand, place, value, text, isFailure}
 use Rattle.machine.specs.Variables.{frameWords, belongs, fits}
 use Rattle.machine.specs.Processes.{refers, created, started}
 use Rattle.machine.specs.Values.{holds}
@@ -24,7 +24,7 @@ use Rattle.machine.specs.Rule as state
 use Rattle.machine.specs.Entries.{localCall, processCall, stmtAt}
 use Rattle.words.specs.Numbers.{intOf}
 use Rattle.words.specs.Devices.{isDevice}
-use Rattle.sound.specs.Claims.{IsValue}
+use Rattle.sound.specs.Claims.{IsValue, IsText}
 use Rattle.sound.specs.Answers.{Small}
 
 -- each number of the list is a word
@@ -43,15 +43,16 @@ pub data GoodPlace (T : Table) (m : Memory) (p τ : ℕ) : Outcome Operand → T
   at-place : (a : ℕ) → Live T m p τ a → GoodPlace T m p τ (ok (place a τ))
   no-place : (n : ℕ) → isFailure n ≡ true → GoodPlace T m p τ (fail n)
 
--- an expression comes to a value, or to a listed failure
-pub data GoodValue (T : Table) (m : Memory) (τ : ℕ) : Outcome Operand → Type 0 where
-  a-value : (ws : List ℕ) → IsValue T m τ ws → SmallWords ws → GoodValue T m τ (ok (value τ ws))
-  no-value : (n : ℕ) → isFailure n ≡ true → GoodValue T m τ (fail n)
+-- an expression comes to a value, a string constant to a text, or to a listed failure
+pub data GoodValue (T : Table) (m : Memory) : NodeType → Outcome Operand → Type 0 where
+  a-value : {τ : ℕ} (ws : List ℕ) → IsValue T m τ ws → SmallWords ws → GoodValue T m (numbered τ) (ok (value τ ws))
+  a-text : {k : ℕ} (ws : List ℕ) → IsText k ws → GoodValue T m (string k) (ok (text ws))
+  no-value : {κ : NodeType} (n : ℕ) → isFailure n ≡ true → GoodValue T m κ (fail n)
 
 -- what node n comes to, by its sort
 pub record GoodNode (T : Table) (m : Memory) (p n : ℕ) (o : Outcome Operand) : Type 0 where
   pub variable : 1 ≤ nodeKind T n → nodeKind T n ≤ 3 → GoodPlace T m p (typeOf T n) o
-  pub expression : (1 ≤ nodeKind T n → 4 ≤ nodeKind T n) → GoodValue T m (typeOf T n) o
+  pub expression : (1 ≤ nodeKind T n → 4 ≤ nodeKind T n) → GoodValue T m (typeOfNode T n) o
 
 -- which nodes are in the scope of block b: with a node its operands are, and a whole variable is the owner's or the block's
 pub record Scoping (T : Table) (b : ℕ) (scope : ℕ → Type 0) : Type 0 where

@@ -3,14 +3,15 @@
 -- demand 3). Assumes nothing.
 use Prim.Native.Nat.{ℕ, zero, suc, _+_, _<_}
 use mathlib.Core.Path.{_≡_}
-use mathlib.Core.Bool.{true}
 use mathlib.Core.List.{List, [], _∷_}
 use lib.ListN.{length}
 use lib.Dec.{eqb}
 use Rattle.basics.specs.Choice.{pick, both, between}
 use Rattle.table.specs.Table.{Table}
 use Rattle.table.specs.Entries.{argNode, varMode, varType, firstVar, params}
-use Rattle.types.specs.Match.{matches}
+use Rattle.types.specs.Types.{NodeType, numbered}
+use Rattle.types.specs.Match.{equal, fitted, matching}
+use Rattle.machine.specs.Texts.{fit}
 use Rattle.sizes.specs.Sizes.{wordsOf}
 use Rattle.machine.specs.Memory.{Memory, memoryOf, wordsAt}
 use Rattle.machine.specs.Layout.{location, statusAt, frameAt, topAt, depthAt, createdAt, callerFrame, calledBlock}
@@ -18,7 +19,7 @@ use Rattle.machine.specs.Entries.{Statement, skip, assign, localCall, processCa
 use Rattle.machine.specs.Variables.{offsetOf}
 use Rattle.machine.specs.Context.{contextOf}
 use Rattle.sound.specs.InUse.{Of, Call}
-use Rattle.sound.specs.Conditions.{Selects, Yields}
+use Rattle.sound.specs.Conditions.{Selects, Gives}
 use Rattle.sound.specs.Rows.{next}
 use Rattle.sound.specs.Histories.{Seen}
 
@@ -88,11 +89,13 @@ module _ (T : Table) (m page : Memory) (p n : ℕ) (s : Memory) where
   abbrev pub variableAt : ℕ → ℕ → ℕ → ℕ
   variableAt f q v = location p (f + 4 + offsetOf T q v)
 
-  -- parameter v, whose words begin at location a, gets what argument i yields, or is bound to the location that it selects, at the call
-  -- (11.3, 12.1)
+  -- parameter v, whose words begin at location a, gets what argument i gives, filled or cut where its type is fitted (02, b), or is bound to
+  -- the location that it selects, at the call (11.3, 12.1)
   pub data Gets (a v i : ℕ) : Type 0 where
-    stores : {σ : ℕ} {ws : List ℕ} → varMode T v ≡ 1 → Yields T m page (contextOf m p) (argNode T i) σ ws → matches T (varType T v) σ ≡ true
-        → wordsAt s a (wordsOf T (varType T v)) ≡ ws → Gets a v i
+    stores : {κ : NodeType} {ws : List ℕ} → varMode T v ≡ 1 → Gives T m page (contextOf m p) (argNode T i) κ ws
+        → matching T κ (numbered (varType T v)) ≡ equal → wordsAt s a (wordsOf T (varType T v)) ≡ ws → Gets a v i
+    fits : {κ : NodeType} {ws : List ℕ} → varMode T v ≡ 1 → Gives T m page (contextOf m p) (argNode T i) κ ws
+        → matching T κ (numbered (varType T v)) ≡ fitted → wordsAt s a (wordsOf T (varType T v)) ≡ fit (wordsOf T (varType T v)) ws → Gets a v i
     binds : varMode T v ≡ 2 → Selects T m page (contextOf m p) (argNode T i) (s a) (varType T v) → Gets a v i
 
   -- the call of procedure q with its frame at f: each parameter gets its argument, from c on; each local is 0

@@ -1,0 +1,24 @@
+use Rattle.marks.proofs.Marking.{parting}
+use borrow.Author.Needs.{needs}
+use Rattle.marks.proofs.test_range.Statement.{statement}
+use Rattle.marks.proofs.test_range.Tie as tie
+
+pub test-range-spec : {M : Type 1} → statement M
+test-range-spec =
+    tie.close
+    (tie.spec
+    (λ c κs. search needs)
+    (λ c. search needs)
+    (λ c κs. search needs)
+    (λ c. search needs)
+    (λ c κs. search needs)
+    (λ c. search needs)
+    (λ c. search needs)
+    (λ c. search needs)
+    (λ c. search needs)
+    (λ c. search needs)
+    (λ c. search needs)
+    (λ c κs. search parting)
+    (λ c. search parting)
+    (λ c. search parting)
+    (λ c. search parting))
