@@ -1,3 +1,4 @@
+pub mod Fitting
 pub mod Putting
 pub mod Framing
 pub mod Passing

@@ -1,19 +1,23 @@
 -- Inner: for code and proofs only; no public promise is said with these definitions.
 -- The words of arguments, gathered in a buffer of 256 words (11.3, 12). Assumes nothing.
-use Prim.Native.Nat.{ℕ, _+_, _-_, _≤_, min}
+use Prim.Native.Nat.{ℕ, _+_, _-_, _≤_, _<_, min}
 use mathlib.Core.Path.{_≡_}
+use mathlib.Core.Bool.{true}
 use mathlib.Core.List.{List, [], _∷_, _++_}
 use lib.ListN.{length, take}
 use Rattle.table.specs.Table.{Table}
-use Rattle.table.specs.Entries.{argNode, nodeCount}
+use Rattle.table.specs.Entries.{argNode, nodeCount, typeCount}
+use Rattle.types.specs.Types.{typeOfNode, numbered}
+use Rattle.types.specs.Match.{matching, isFit}
 use Rattle.numbers.specs.Nodes.{Variable, Expression}
 use Rattle.typing.proofs.Promise.{Suits, Arguments}
 use Rattle.words.specs.Values.{failureNumber}
 use Rattle.machine.specs.Memory.{Memory}
-use Rattle.machine.specs.Outcomes.{Outcome, ok, fail, stuck, andThen, Operand, onPlace, onValue}
+use Rattle.machine.specs.Texts.{fit}
+use Rattle.machine.specs.Outcomes.{Outcome, ok, fail, stuck, andThen, Operand, onPlace, onTyped}
 use Rattle.machine.specs.Context.{Context}
 use Rattle.machine.specs.Operands.{operand}
-use Rattle.machine.specs.Calls.{argument, argumentWords, arguments}
+use Rattle.machine.specs.Calls.{valueArgument, argument, argumentWords, arguments}
 use Rattle.calls.specs.declared.Gathered.{Gathered}
 use Rattle.calls.specs.declared.Gathered.the-variants.{Count, Fail}
 
@@ -39,17 +43,25 @@ abbrev pub Adds : Gathered → List ℕ → ℕ → List ℕ → Outcome (List �
 Adds (Count r) l n k o = Added l n k r o
 Adds (Fail f) l n k o = o ≡ fail (failureNumber f)
 
--- the words of a value argument; the location of a variable argument (12.1)
-unfoldable pub valueOf : Outcome Operand → Outcome (List ℕ)
-valueOf o = onValue o λ τ ws. ok ws
+-- the words of a value argument for a parameter of n words, which are its own where it has n (02, b); the location of a variable
+-- argument (12.1)
+unfoldable pub valueOf : ℕ → Outcome Operand → Outcome (List ℕ)
+valueOf n o = onTyped o λ σ ws. ok (fit n ws)
 
 unfoldable pub placeOf : Outcome Operand → Outcome (List ℕ)
 placeOf o = onPlace o λ a τ. ok (a ∷ [])
 
--- node n is an expression that has a value; a variable that has a place
-pub record Valuable (T : Table) (m page : Memory) (x : Context) (n : ℕ) : Type 0 where
+-- node n is an expression that has a value, which is passed as k words; one that is passed to a value parameter of type y; a variable
+-- that has a place
+pub record Valuable (T : Table) (m page : Memory) (x : Context) (n k : ℕ) : Type 0 where
   pub expression : Expression T (nodeCount T) n
-  pub unstuck : valueOf (operand T m page x n) ≡ stuck → ⊥
+  pub unstuck : valueOf k (operand T m page x n) ≡ stuck → ⊥
+
+pub record Passable (T : Table) (m page : Memory) (x : Context) (n y : ℕ) : Type 0 where
+  pub expression : Expression T (nodeCount T) n
+  pub type : y < 3 + typeCount T
+  pub fit : isFit (matching T (typeOfNode T n) (numbered y)) ≡ true
+  pub unstuck : valueArgument T m page x y (operand T m page x n) ≡ stuck → ⊥
 
 pub record Bindable (T : Table) (m page : Memory) (x : Context) (n : ℕ) : Type 0 where
   pub variable : Variable T (nodeCount T) n

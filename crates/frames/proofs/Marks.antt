@@ -1,5 +1,5 @@
 -- Marks that are set after words are written (02, g). Assumes nothing.
-use Prim.Native.Nat.{ℕ, _+_, _-_, _*_, _≤_}
+use Prim.Native.Nat.{ℕ, _+_, _-_, _*_, _≤_, _<_}
 use mathlib.Core.Path.{_≡_, _∙_}
 use mathlib.Core.List.{List}
 use native.Mathlib.Omega.{arith}
@@ -8,12 +8,15 @@ use lib.Dec.{eqb}
 use lib.ListN.{length, take}
 use lib.Seq.{length-take-le}
 use Rattle.table.specs.Table.{Table}
-use Rattle.machine.specs.Memory.{Memory, memoryOf, update}
+use Rattle.types.specs.Types.{evened}
+use Rattle.machine.specs.Memory.{Memory, memoryOf, update, store}
 use Rattle.machine.specs.Layout.{location, statementAt, topAt, numberAt, locations}
 use Rattle.machine.specs.Lent.{Becomes}
 use Rattle.machine.specs.Marks.{setMarks, mark, fresh}
+use Rattle.machine.specs.Texts.{textAt}
 use Rattle.machine.specs.Processes.{created, started}
-use Rattle.machine.proofs.Marking.{then-marks}
+use Rattle.marks.proofs.Marking.{then-marks}
+use Rattle.machine.proofs.TextLaws.{text-long, evened-low}
 use Rattle.frames.specs.Frames.{framedMarks, entered, calledIn, made, Fits}
 
 -- ---- locations that are made
@@ -29,6 +32,17 @@ module _ (s s1 : List ℕ) (number : ℕ) (e : number ≡ memoryOf s numberAt) w
 
 then-makes : (s r : List ℕ) (m : Memory) (a n : ℕ) → Becomes s m → Becomes r (fresh (memoryOf s) a n) → Becomes r (fresh m a n)
 then-makes s r m a n c d = record { long = d .long; is = rw (d .is, c .is) }
+
+-- ---- a string constant
+
+pub text-short : (at q : ℕ) → at + evened q ≤ locations → q < 65536
+text-short at q h = omega (arith, evened-low q)
+
+pub marks-text : (T : Table) (s s1 s2 : List ℕ) (at p q n : ℕ) → n ≡ evened q → Becomes s1 (store (memoryOf s) at (textAt T p q))
+    → Becomes s2 (mark (memoryOf s1) at n)
+    → Becomes s2 (mark (store (memoryOf s) at (textAt T p q)) at (length (textAt T p q)))
+marks-text T s s1 s2 at p q n e c1 c2 =
+    record { long = c2 .long; is = c2 .is ∙ rw (c1 .is, text-long T p q, e) }
 
 -- ---- a frame
 
@@ -74,4 +88,4 @@ pub start-room : (r n at : ℕ) → 1 ≤ r → r ≤ 64 → n ≤ 256 → at �
 unfolding location
 start-room r n at h k l e = omega arith
 
-pub ruleset marks = (makes, makes-area, then-marks, marks-frame, frame-room, calls-in, makes-for, creates-at, starts-on, start-room, needs)
+pub ruleset marks = (makes, makes-area, then-marks, text-short, marks-text, marks-frame, frame-room, calls-in, makes-for, creates-at, starts-on, start-room, needs)

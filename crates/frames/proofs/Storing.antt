@@ -2,16 +2,24 @@
 use Prim.Native.Nat.{ℕ, _+_, _-_, _<_, _≤_}
 use mathlib.Core.Path.{_≡_, sym, _∙_}
 use mathlib.Core.List.{List, [], _∷_, _++_}
+use lib.Dec.{ltb}
 use native.Mathlib.Numerals.{add-one}
 use native.Mathlib.Omega.{arith}
 use borrow.Author.Needs.{needs}
 use lib.ListN.{length, getD, take}
-use lib.Seq.{take-suc, length-take-le}
+use lib.Seq.{take-suc, take-all, length-take-le}
+use Rattle.basics.specs.Choice.{pick}
+use Rattle.table.specs.Table.{Table}
+use Rattle.table.specs.Entries.{character}
+use Rattle.table.specs.Reading.{Field}
+use Rattle.types.specs.Types.{evened}
 use Rattle.machine.specs.Memory.{Memory, memoryOf, update, store, clear, wordsAt}
 use Rattle.machine.specs.Lent.{Lent, Changed, State, Becomes}
+use Rattle.machine.specs.Texts.{textAt}
 use Rattle.machine.specs.Places.{SameOrApart, same, before, after}
 use Rattle.machine.proofs.Memories.{length-words, store-below, store-above}
 use Rattle.machine.proofs.Copies.{store-words, store-none, store-more, clear-none, clear-more, words-more}
+use Rattle.machine.proofs.TextLaws.{text-long, text-at}
 use Rattle.frames.specs.Frames.{Direct}
 
 -- a changed memory is still lent
@@ -50,6 +58,23 @@ module _ (s₀ : List ℕ) (a n : ℕ) (b : List ℕ) where
 
   pub stores-all : (s : List ℕ) (k : ℕ) → Storing (memoryOf s₀) a n b s k → n ≤ k → Becomes s (store (memoryOf s₀) a (take n b))
   stores-all s k l h = let e : k ≡ n = omega (arith, l .upto) in rw e at (l .is)
+
+-- the loop that writes a string constant, word by word
+module _ (T : Table) (s₀ : List ℕ) (a p q n : ℕ) (e : n ≡ evened q) where
+  pub texts-more : (s r : List ℕ) (k w : ℕ) → Storing (memoryOf s₀) a n (textAt T p q) s k → k < n
+      → Field (pick (ltb k q) (character T (p + k)) 0) w → Becomes r (update (memoryOf s) (a + k) w)
+      → Storing (memoryOf s₀) a n (textAt T p q) r (k + 1)
+  texts-more s r k w l h f c =
+      let long = text-long T p q in
+      let word : getD (textAt T p q) k 0 ≡ w = text-at T p q k (omega arith) ∙ sym (f .is) in
+      stores-more s₀ a n (textAt T p q) s r k (omega arith) l h (rw word c)
+
+  pub texts-all : (s : List ℕ) (k : ℕ) → Storing (memoryOf s₀) a n (textAt T p q) s k → n ≤ k
+      → Becomes s (store (memoryOf s₀) a (textAt T p q))
+  texts-all s k l h =
+      let long = text-long T p q in
+      let whole : take n (textAt T p q) ≡ textAt T p q = take-all n (textAt T p q) (omega arith) in
+      rw whole at (stores-all s₀ a n (textAt T p q) s k l h)
 
 -- the loop that copies from one location to another
 pub record Moving (m : Memory) (from to n : ℕ) (s : List ℕ) (k : ℕ) : Type 0 where
@@ -112,3 +137,5 @@ module _ (s₀ : List ℕ) (a n : ℕ) where
   clears-all s k l h = let e : k ≡ n = omega (arith, l .upto) in rw e at (l .is)
 
 pub ruleset copies = (moves-none, moves-lent, moves-more, moves-all, stores-none, stores-lent, stores-more, stores-all, clears-none, clears-lent, clears-more, clears-all, needs)
+
+pub ruleset texts = (stores-none, stores-lent, texts-more, texts-all, needs)

@@ -4,12 +4,14 @@ ghost use mathlib.Core.List.{[]};
 ghost use Prim.Native.Nat.{_+_, _-_, _≤_, _<_};
 ghost use lib.ListN.{length, take};
 ghost use Rattle.table.specs.Table.{Table};
+ghost use Rattle.types.specs.Types.{evened};
 ghost use Rattle.sizes.specs.Sizes.{moduleWords};
 ghost use Rattle.code.specs.Code.{decoded};
 ghost use Rattle.machine.specs.Memory.{Memory, memoryOf, update, store, clear, wordsAt};
 ghost use Rattle.machine.specs.Layout.{location, statementAt, worksAt, holderAt, failureAt, stateWords, locations};
 ghost use Rattle.machine.specs.Marks.{mark, fresh};
 ghost use Rattle.machine.specs.Lent.{State, Becomes};
+ghost use Rattle.machine.specs.Texts.{textAt};
 ghost use Rattle.machine.specs.Variables.{frameWords};
 ghost use Rattle.machine.specs.Context.{contextOf};
 ghost use Rattle.machine.specs.Calls.{standing, pushed, frameMarked, popped};
@@ -62,7 +64,7 @@ pub fn store_word(state: &mut [u8], a: usize, w: u16)
     ensures { λ _. ⌜ Becomes (now (state .exit)) (mark (update (memoryOf (now (state .entry))) a w) a 1) ⌝ }
 {
     machine::set_word(state, a, w);
-    machine::marks::set_marks(state, a, 1, true);
+    marks::set_marks(state, a, 1, true);
 }
 
 // The n words from `from` on, to `to`, which have values now (02, g).
@@ -72,7 +74,32 @@ pub fn assign_words(state: &mut [u8], from: usize, to: usize, n: usize)
     ensures { λ _. ⌜ Becomes (now (state .exit)) (mark (store (memoryOf (now (state .entry))) to (wordsAt (memoryOf (now (state .entry))) from n)) to n) ⌝ }
 {
     move_words(state, from, to, n);
-    machine::marks::set_marks(state, to, n, true);
+    marks::set_marks(state, to, n, true);
+}
+
+// The string constant of q characters from p on, which are n with the character 0 that an odd one gains (02, b), to `at`.
+fn put_text(c: &code::Slots, state: &mut [u8], at: usize, p: usize, q: usize, n: usize)
+    requires { ⌜ State (now state) ⌝ }
+    requires { ⌜ (at + n ≤ locations) × ((p < 65536) × (n ≡ evened q)) ⌝ }
+    ensures { λ _. ⌜ Becomes (now (state .exit)) (store (memoryOf (now (state .entry))) at (textAt (decoded (now (c .entry))) p q)) ⌝ }
+{
+    let mut k: usize = 0;
+    while k < n {
+        let w = code::text_word(c, p, q, k);
+        machine::set_word(state, at + k, w as u16);
+        k += 1;
+    }
+}
+
+// The string constant of q characters from p on, to the locations from `at` on, which have values now (02, b, g).
+pub fn assign_text(c: &code::Slots, state: &mut [u8], at: usize, p: usize, q: usize)
+    requires { ⌜ State (now state) ⌝ }
+    requires { ⌜ (at + evened q ≤ locations) × (p < 65536) ⌝ }
+    ensures { λ _. ⌜ Becomes (now (state .exit)) (mark (store (memoryOf (now (state .entry))) at (textAt (decoded (now (c .entry))) p q)) at (length (textAt (decoded (now (c .entry))) p q))) ⌝ }
+{
+    let n = types::evened_of(q);
+    put_text(c, state, at, p, q, n);
+    marks::set_marks(state, at, n, true);
 }
 
 // The n locations from a on are made: unmarked or marked, by the number that the run was begun with (02, g).
@@ -82,7 +109,7 @@ fn make_fresh(state: &mut [u8], a: usize, n: usize)
     ensures { λ _. ⌜ Becomes (now (state .exit)) (fresh (memoryOf (now (state .entry))) a n) ⌝ }
 {
     let number = machine::record_word(state, 1, machine::NUMBER);
-    machine::marks::set_marks(state, a, n, number == 1);
+    marks::set_marks(state, a, n, number == 1);
 }
 
 // The area of process p is made.
@@ -92,7 +119,7 @@ fn make_area(state: &mut [u8], p: usize)
     ensures { λ _. ⌜ Becomes (now (state .exit)) (fresh (memoryOf (now (state .entry))) (location p 0) 256) ⌝ }
 {
     let number = machine::record_word(state, 1, machine::NUMBER);
-    machine::marks::set_whole(state, (p - 1) * 16, 16, number == 1);
+    marks::set_whole(state, (p - 1) * 16, 16, number == 1);
 }
 
 // Makes the n words from `at` on 0.
@@ -247,7 +274,7 @@ fn mark_frame(state: &mut [u8], at: usize, size: usize, n: usize)
     requires { ⌜ (at + 4 + size ≤ locations) × (n ≤ size) ⌝ }
     ensures { λ _. ⌜ Becomes (now (state .exit)) (framedMarks (memoryOf (now (state .entry))) at size n) ⌝ }
 {
-    machine::marks::set_marks(state, at, 4 + n, true);
+    marks::set_marks(state, at, 4 + n, true);
     make_fresh(state, at + 4 + n, size - n);
 }
 
@@ -440,7 +467,7 @@ pub fn create_at(state: &mut [u8], p: usize, c: u16, n: usize, block: u16, at: u
     ensures { λ _. ⌜ Becomes (now (state .exit)) (update (mark (fresh (update (created (memoryOf (now (state .entry))) n block) at n) (location n 0) 256) at 1) (statementAt p) c) ⌝ }
 {
     create_for(state, n, block, at);
-    machine::marks::set_marks(state, at, 1, true);
+    marks::set_marks(state, at, 1, true);
     go_to(state, p, c);
 }
 
@@ -463,6 +490,6 @@ pub fn start_on(
     ensures { λ _. ⌜ Becomes (now (state .exit)) (update (mark (started (decoded (now (c .entry))) (memoryOf (now (state .entry))) r b (take n (now (words .entry)))) (location r 0) (length (take n (now (words .entry))))) (statementAt p) next) ⌝ }
 {
     start(c, state, r, b, size, n, words);
-    machine::marks::set_marks(state, machine::location_of(r, 0), n, true);
+    marks::set_marks(state, machine::location_of(r, 0), n, true);
     go_to(state, p, next);
 }

@@ -13,7 +13,7 @@ use Rattle.words.specs.Values.{failureNumber, outcomeOf}
 use Rattle.words.specs.declared.values.Failure.{Failure}
 use Rattle.words.specs.declared.values.Value.{Value}
 use Rattle.words.specs.declared.values.Value.the-variants.{Word, Fail}
-use Rattle.machine.specs.Outcomes.{Outcome, ok, fail, stuck, andThen, need, Operand, place, value, valued, onValue, onWord, wordOf}
+use Rattle.machine.specs.Outcomes.{Outcome, ok, fail, stuck, andThen, need, Operand, place, value, text, valued, onValue, onWord, wordOf}
 use Rattle.machine.specs.Entries.{Opener, statementOf, stmtAt}
 use Rattle.machine.specs.Statements.{onArms, onOpener}
 use Rattle.operands.specs.Answers.{firstWord, Unstuck, goes, fails}
@@ -54,6 +54,7 @@ module _ {A : Type 0} (τ : ℕ) (f : ℕ → Outcome A) where
   word-is (ok (place a σ)) w h g = absurd (g refl)
   word-is (ok (value σ ws)) w h g =
       let b = through (eqb σ τ) (f (wordOf ws)) g in let e : w ≡ wordOf ws = cc in rw (b, e)
+  word-is (ok (text ws)) w h g = absurd (g refl)
   word-is (fail k) w h g = let q : _≡_ {A = ℕ} 0 1 = cc in absurd (omega arith)
   word-is stuck w h g = absurd (g refl)
 

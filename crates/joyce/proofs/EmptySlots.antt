@@ -6,9 +6,10 @@ use mathlib.Core.List.{[], _∷_}
 use native.Mathlib.Omega.{arith}
 use lib.ListN.{length}
 use borrow.Author.Tests.{lt-leb}
+use Rattle.basics.specs.Choice.{both}
 use Rattle.basics.specs.Chain.{free, carried, chained}
 use Rattle.basics.proofs.Bools.{both-false-l, all-fail}
-use Rattle.table.specs.Bytes.{sectionEnd, sectionFits, whole}
+use Rattle.table.specs.Bytes.{rowsEnd, rowsFit, isLeftOut, sectionEnd, sectionFits, whole}
 use Rattle.table.specs.Empty.{field, fieldsOf, listing, bytesRead}
 use Rattle.table.specs.Table.{tableOf}
 use Rattle.verdict.specs.Verdict.{judgedBytes, verdict}
@@ -31,16 +32,16 @@ same-table w = rw (same-bytes w)
 
 -- the first section ends behind its count, so that the second has no room for its own
 first-end : (w b : ℕ) → w ≤ sectionEnd w (b ∷ []) 0 0
-unfolding sectionEnd
+unfolding sectionEnd isLeftOut rowsEnd both
 first-end w b = omega arith
 
 no-count : (w b : ℕ) → 1 ≤ w → sectionFits w (b ∷ []) 1 (sectionEnd w (b ∷ []) 0 0) ≡ false
-unfolding sectionFits
+unfolding sectionFits isLeftOut rowsFit both
 no-count w b h = rw (lt-leb (sectionEnd w (b ∷ []) 0 0 + w) (length (b ∷ [])) (omega (arith, first-end w b)))
 
 not-whole : (w b : ℕ) → 1 ≤ w → whole w (b ∷ []) ≡ false
 unfolding whole chained carried free
-not-whole w b h = both-false-l _ _ (all-fail 7 _ 1 (omega arith) (no-count w b h))
+not-whole w b h = both-false-l _ _ (all-fail 8 _ 1 (omega arith) (no-count w b h))
 
 one-byte : (w b : ℕ) → 1 ≤ w → verdict w (b ∷ []) ≡ 2
 unfolding verdict judgedBytes bytesRead

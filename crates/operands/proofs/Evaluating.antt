@@ -7,20 +7,20 @@ use mathlib.Core.List.{List}
 use lib.Dec.{eqb, leb, ltb}
 use native.Mathlib.Nat.{add-zero}
 use native.Mathlib.Omega.{arith}
-use borrow.Author.Tests.{eqb-true, eqb-false, leb-false, ltb-true, ltb-false, le-leb, lt-leb}
+use borrow.Author.Tests.{eqb-true, eqb-false, leb-false, le-leb, lt-leb}
 use Rattle.basics.specs.Cases.{cases}
 use Rattle.basics.specs.Choice.{both}
+use Rattle.basics.proofs.Bools.{no-true}
 use Rattle.table.specs.Table.{Table}
 use Rattle.table.specs.Entries.{nodeCount, nodeKind, nodeP, nodeQ, nodeV}
 use Rattle.table.specs.Reading.{Field}
-use Rattle.types.specs.Types.{unaryType, binaryType, typeOf}
+use Rattle.types.specs.Types.{unaryType, binaryType, typeOf, NodeType}
 use Rattle.numbers.specs.Nodes.{Variable, Expression}
 use Rattle.numbers.specs.Ranges.{inRange}
 use Rattle.typing.specs.Typing.{typed}
 use Rattle.numbers.proofs.OperandPromise.{constant-type, value-variable, unary-operand, binary-left, transfer-operand, transfer-type}
 use Rattle.typing.proofs.Promise as typing
 use Rattle.sizes.specs.Sizes.{wordsOf}
-use Rattle.sizes.proofs.Counting.{words-standard}
 use Rattle.words.specs.Outcomes as words
 use Rattle.words.specs.Values.{failureNumber}
 use Rattle.words.specs.Types.{transferW}
@@ -29,7 +29,7 @@ use Rattle.machine.specs.Memory.{Memory, memoryOf, wordsAt}
 use Rattle.machine.specs.Marks.{marked, allMarked}
 use Rattle.machine.specs.Context as machine
 use Rattle.machine.specs.Entries.{unaryAt}
-use Rattle.machine.specs.Outcomes.{Outcome, ok, fail, andThen, need, failWhere, Operand, place, value, valued, onPlace, onValue, wordOf}
+use Rattle.machine.specs.Outcomes.{Outcome, ok, fail, andThen, need, failWhere, Operand, place, value, valued, onPlace, onValue, onTyped, wordOf}
 use Rattle.machine.specs.Variables.{fits}
 use Rattle.machine.specs.Operands.{given, unaryValue, retrieved}
 use Rattle.machine.specs.Layout.{locations}
@@ -37,16 +37,16 @@ use Rattle.code.specs.Code.{slotIn, decoded}
 use Rattle.operands.specs.declared.Context.{Context}
 use Rattle.operands.specs.declared.Place.{Place}
 use Rattle.operands.specs.declared.Place.the-variants as place
-use Rattle.operands.specs.Answers.{firstWord, structured, Unstuck, Evaluable, OneWord, Binary, Retrieval, Retrieved}
+use Rattle.operands.specs.Answers.{firstWord, single, structured, Unstuck, Evaluable, OneWord, Binary, Retrieval, Retrieved}
 use Rattle.operands.specs.Operators.{unaryWord, binaryWord}
 use Rattle.operands.specs.Packed.{valueAt, WordIs, Located, Evaluated, Held}
 use Rattle.operands.specs.Places.{wholeAt}
-use Rattle.operands.specs.Ready.{contextIn, Ready, Naming, Valued}
+use Rattle.operands.specs.Ready.{contextIn, Ready, Naming, Valued, Counted}
 use Rattle.operands.proofs.Packing.{told-word, told-failure, told-place, told-no-place, tell-word, tell-failure, retell, unset-listed}
 use Rattle.operands.proofs.Nodes.{is-constant, is-retrieve, is-unary, is-transfer, type-constant, type-retrieve, type-unary, type-binary, type-transfer}
-use Rattle.operands.proofs.Typed.{OfType, typed-expression}
-use Rattle.operands.proofs.Lending.{lends-type, expression-valued}
-use Rattle.operands.proofs.OneWords.{one-unary, one-transfer, one-few}
+use Rattle.operands.proofs.Typed.{OfType, typed-expression, below-eight}
+use Rattle.operands.proofs.Lending.{lends-type, expression-valued, expression-counted}
+use Rattle.operands.proofs.OneWords.{one-true, true-one, one-standard, one-unary, one-transfer}
 use Rattle.operands.proofs.Yielding.{first-place, first-value, gave, failed, first-word, first-constant, first-transfer, first-unary}
 use Rattle.operands.proofs.Selecting.{out, Sel, fits-high, failed-place, at-place, selected-fits, selected-low, whole-naming, whole-selected}
 
@@ -57,6 +57,10 @@ Ev t m p x n = Evaluable (decoded t) (memoryOf m) (memoryOf p) (contextIn x) n
 pub failed-value : (o : Outcome Operand) (k : ℕ) (g : ℕ → List ℕ → Outcome Operand) → words.fail k ≡ firstWord o → words.fail k ≡ firstWord (onValue o g)
 unfolding onValue andThen firstWord
 failed-value o k g e = let q = failed o k e in rw q
+
+pub failed-typed : (o : Outcome Operand) (k : ℕ) (g : NodeType → List ℕ → Outcome Operand) → words.fail k ≡ firstWord o → words.fail k ≡ firstWord (onTyped o g)
+unfolding onTyped andThen firstWord
+failed-typed o k g e = let q = failed o k e in rw q
 
 pub at-value : (o : Outcome Operand) (τ : ℕ) (us : List ℕ) (g : ℕ → List ℕ → Outcome Operand) → o ≡ ok (value τ us) → onValue o g ≡ g τ us
 unfolding onValue andThen valued
@@ -88,15 +92,17 @@ module _ (t m p : List ℕ) (x : Context) (h : Ready t m p x) (n : ℕ) where
     pub binary-node : (b d : Bool) → k ≡ 6 → b ≡ structured (decoded t) n → b ≡ d → Binary (decoded t) (memoryOf m) (memoryOf p) (contextIn x) n d
     binary-node b d e hb g = record { evaluable = c; kind = sym hk ∙ e; compares = sym hb ∙ g }
 
-    pub operand-valued : k ≡ 6 → Valued t (nodeP (decoded t) n)
-    operand-valued e =
+    pub operand-counted : k ≡ 6 → Counted t (nodeP (decoded t) n)
+    operand-counted e =
         let l = c .expression .below in
-        expression-valued t m p x h (nodeP (decoded t) n) (wider (decoded t) n (nodeP (decoded t) n) l (binary-left (decoded t) (h .ranged) n l (sym hk ∙ e)))
+        expression-counted t m p x h (nodeP (decoded t) n) (wider (decoded t) n (nodeP (decoded t) n) l (binary-left (decoded t) (h .ranged) n l (sym hk ∙ e)))
 
-    module _ (v : ℕ) (hv : v ≡ nodeP (decoded t) n) (n0 : k ≡ 0 → ⊥) (n4 : k ≡ 4 → ⊥) (n6 : k ≡ 6 → ⊥) where
+    module _ (v : ℕ) (hv : v ≡ nodeP (decoded t) n) (one : OneWord (decoded t) n) (n0 : k ≡ 0 → ⊥) (n4 : k ≡ 4 → ⊥) (n6 : k ≡ 6 → ⊥) where
       is-seven : (k ≡ 5 → ⊥) → nodeKind (decoded t) n ≡ 7
       is-seven n5 =
-          sym hk ∙ seven k (λ l. rw (← hk) at (c .expression .sort (rw hk at l))) (let g = c .expression .high in rw (← hk) at g) n0 n4 n5 n6
+          sym hk
+          ∙ seven k (λ l. rw (← hk) at (c .expression .sort (rw hk at l)))
+          (let g = below-eight (decoded t) (nodeCount (decoded t)) n (c .expression) (one .numbered) in rw (← hk) at g) n0 n4 n5 n6
         where
           seven : (k : ℕ) → (1 ≤ k → 4 ≤ k) → k ≤ 7 → (k ≡ 0 → ⊥) → (k ≡ 4 → ⊥) → (k ≡ 5 → ⊥) → (k ≡ 6 → ⊥) → k ≡ 7
           seven k l a b d e g = let i : 1 ≤ k = omega arith in let j = l i in omega arith
@@ -145,7 +151,7 @@ module _ (t m p : List ℕ) (x : Context) (h : Ready t m p x) (n : ℕ) where
 
         module _ (s : l < 65536) (w q : ℕ) (hw : w ≡ l) (hq : q ≡ nodeQ (decoded t) n) (o : words.Outcome) (r : ℕ) (hr : WordIs o r) where
           one-typed : OfType (decoded t) (typeOf (decoded t) v) (out t m p x v)
-          one-typed = typed-expression (decoded t) (memoryOf m) (memoryOf p) (contextIn x) (h .ranged) v (one-evaluable .expression)
+          one-typed = typed-expression (decoded t) (memoryOf m) (memoryOf p) (contextIn x) (h .ranged) v (one-evaluable .expression) (one-single .numbered)
 
           one-told : words.word w ≡ firstWord (out t m p x v)
           one-told = rw hw (told-word (firstWord (out t m p x v)) l hl s)
@@ -167,7 +173,7 @@ module _ (t m p : List ℕ) (x : Context) (h : Ready t m p x) (n : ℕ) where
               let i = d ∙ at-value _ _ _ _ (j .is) in
               retell r hr (g ∙ (transfer-at hq (sym (j .first)) ∙ sym (ap firstWord i ∙ first-transfer _ _ _ (subst Unstuck i (c .unstuck)))))
 
-pub ruleset evaluates = (constant-returns, retrieval, binary-node, operand-valued, one-below, one-evaluable, one-single, one-fails, unary-returns, transfer-returns)
+pub ruleset evaluates = (constant-returns, retrieval, binary-node, operand-counted, one-below, one-evaluable, one-single, one-fails, unary-returns, transfer-returns)
 
 -- a value of one word at location a
 all-one : (m : Memory) (a : ℕ) → allMarked m a 1 ≡ marked m a
@@ -289,7 +295,7 @@ module _ (t m p : List ℕ) (x : Context) (h : Ready t m p x) (n : ℕ) (c : Ret
   stands-fits a e = there-fits t m p x h n c (nodeP (decoded t) n) refl a (sym e)
 
   pub hold-valued : Valued t n
-  hold-valued = expression-valued t m p x h n (c .evaluable .expression)
+  hold-valued = let k = c .kind in expression-valued t m p x h n (c .evaluable .expression) (λ e. omega arith)
 
   -- as `retrieve_place` tells it
   module _ (l : Place) (hl : Retrieved (decoded t) (memoryOf m) (memoryOf p) (contextIn x) n l) where
@@ -330,46 +336,48 @@ module _ (t m p : List ℕ) (x : Context) (h : Ready t m p x) (n : ℕ) (c : Ev 
 
 pub ruleset sees = (constant-returns, seen-naming, seen-low, seen-returns)
 
--- an expression of a type that has several words is a retrieval
-module _ (T : Table) (m n : ℕ) (hr : inRange T ≡ true) (ht : typed T ≡ true) (l : n < nodeCount T) (b : Expression T m n) (w : 1 < wordsOf T (typeOf T n)) where
-  one-word : (τ : ℕ) → typeOf T n ≡ τ → τ ≤ 2 → ⊥
-  one-word τ e g = let q = words-standard T τ (omega arith) in let d : wordsOf T (typeOf T n) ≡ wordsOf T τ = rw e in omega arith
+-- an expression that has not one word is a retrieval or a string constant
+module _ (T : Table) (m n : ℕ) (hr : inRange T ≡ true) (ht : typed T ≡ true) (l : n < nodeCount T) (b : Expression T m n) where
+  module _ (w : single T n ≡ false) where
+    not-one : (τ : ℕ) → typeOf T n ≡ τ → τ ≤ 2 → ⊥
+    not-one τ e g = no-true (sym w ∙ true-one T n (one-standard T n (omega arith)))
 
-  by-unary : nodeKind T n ≡ 5 → ⊥
-  unfolding unaryType
-  by-unary e =
-      let d = type-unary T n l (unary-operand T hr n l e .below) e in
-      cases (eqb (nodeQ T n) 2)
-      (λ q. one-word (typeOf T (nodeP T n)) (d ∙ rw q) (omega (arith, typing.not-operand T ht n l e (eqb-true (nodeQ T n) 2 q))))
-      (λ q. one-word 0 (d ∙ rw q) (omega arith))
+    by-unary : nodeKind T n ≡ 5 → ⊥
+    unfolding unaryType
+    by-unary e =
+        let d = type-unary T n l (unary-operand T hr n l e .below) e in
+        cases (eqb (nodeQ T n) 2)
+        (λ q. not-one (typeOf T (nodeP T n)) (d ∙ rw q) (omega (arith, typing.not-operand T ht n l e (eqb-true (nodeQ T n) 2 q))))
+        (λ q. not-one 0 (d ∙ rw q) (omega arith))
 
-  by-binary : nodeKind T n ≡ 6 → ⊥
-  unfolding binaryType
-  by-binary e =
-      let d = type-binary T n l (binary-left T hr n l e .below) e in
-      cases (leb (nodeV T n) 6)
-      (λ q. one-word 1 (d ∙ rw q) (omega arith))
-      (λ q.
-      cases (leb (nodeV T n) 11)
-      (λ r. one-word 0 (d ∙ rw (q, r)) (omega arith))
-      (λ r. one-word (typeOf T (nodeP T n)) (d ∙ rw (q, r)) (omega (arith, typing.logic-operands T ht n l e (omega (arith, leb-false (nodeV T n) 11 r))))))
+    by-binary : nodeKind T n ≡ 6 → ⊥
+    unfolding binaryType
+    by-binary e =
+        let d = type-binary T n l (binary-left T hr n l e .below) e in
+        cases (leb (nodeV T n) 6)
+        (λ q. not-one 1 (d ∙ rw q) (omega arith))
+        (λ q.
+        cases (leb (nodeV T n) 11)
+        (λ r. not-one 0 (d ∙ rw (q, r)) (omega arith))
+        (λ r. not-one (typeOf T (nodeP T n)) (d ∙ rw (q, r)) (omega (arith, typing.logic-operands T ht n l e (omega (arith, leb-false (nodeV T n) 11 r))))))
 
-  pub only-retrieval : nodeKind T n ≡ 4
-  only-retrieval =
-      four (nodeKind T n) (b .sort) (b .high)
-      (λ e. one-word (nodeP T n) (type-constant T n l e) (constant-type T hr n l e))
-      by-unary by-binary
-      (λ e. one-word (nodeQ T n) (type-transfer T n l e) (transfer-type T hr n l e))
-    where
-      four : (k : ℕ) → (1 ≤ k → 4 ≤ k) → k ≤ 7 → (k ≡ 0 → ⊥) → (k ≡ 5 → ⊥) → (k ≡ 6 → ⊥) → (k ≡ 7 → ⊥) → k ≡ 4
-      four k g h n0 n5 n6 n7 = let i : 1 ≤ k = omega arith in let j = g i in omega arith
+    pub only-retrieval : (nodeKind T n ≡ 8 → ⊥) → nodeKind T n ≡ 4
+    only-retrieval n8 =
+        four (nodeKind T n) (b .sort) (below-eight T m n b n8)
+        (λ e. not-one (nodeP T n) (type-constant T n l e) (constant-type T hr n l e))
+        by-unary by-binary
+        (λ e. not-one (nodeQ T n) (type-transfer T n l e) (transfer-type T hr n l e))
+      where
+        four : (k : ℕ) → (1 ≤ k → 4 ≤ k) → k ≤ 7 → (k ≡ 0 → ⊥) → (k ≡ 5 → ⊥) → (k ≡ 6 → ⊥) → (k ≡ 7 → ⊥) → k ≡ 4
+        four k g h n0 n5 n6 n7 = let i : 1 ≤ k = omega arith in let j = g i in omega arith
 
--- an expression that retrieves no variable
-pub one-other : (t m p : List ℕ) (x : Context) → Ready t m p x → (n : ℕ) → Expression (decoded t) (nodeCount (decoded t)) n → (nodeKind (decoded t) n ≡ 4 → ⊥) → OneWord (decoded t) n
-one-other t m p x h n e k =
-    cases (ltb 1 (wordsOf (decoded t) (typeOf (decoded t) n)))
-    (λ g. absurd (k (only-retrieval (decoded t) (nodeCount (decoded t)) n (h .ranged) (h .typed) (e .below) e (ltb-true 1 _ g))))
-    (λ g. one-few t m p x h n e (wordsOf (decoded t) (typeOf (decoded t) n)) refl (ltb-false 1 (wordsOf (decoded t) (typeOf (decoded t) n)) g))
+  -- an expression that is neither
+  pub one-else : (nodeKind T n ≡ 4 → ⊥) → (nodeKind T n ≡ 8 → ⊥) → OneWord T n
+  one-else n4 n8 = cases (single T n) (λ e. one-true T n e) (λ e. absurd (n4 (only-retrieval e n8)))
+
+pub one-other : (t m p : List ℕ) (x : Context) → Ready t m p x → (n : ℕ) → Expression (decoded t) (nodeCount (decoded t)) n
+    → (nodeKind (decoded t) n ≡ 4 → ⊥) → (nodeKind (decoded t) n ≡ 8 → ⊥) → OneWord (decoded t) n
+one-other t m p x h n e = one-else (decoded t) (nodeCount (decoded t)) n (h .ranged) (h .typed) (e .below) e
 
 -- ---- the laws of `is_structured`
 module _ (T : Table) (n k : ℕ) (hk : k ≡ nodeV T n) where
@@ -377,11 +385,11 @@ module _ (T : Table) (n k : ℕ) (hk : k ≡ nodeV T n) where
   unfolding structured
   structured-not l = rw (← hk, lt-leb k 2 l)
 
-  pub structured-by : (v w : ℕ) → k ≤ 2 → v ≡ nodeP T n → w ≡ wordsOf T (typeOf T v) → ltb 1 w ≡ structured T n
+  pub structured-by : (v : ℕ) (w : Bool) → k ≤ 2 → v ≡ nodeP T n → w ≡ single T v → bool.not w ≡ structured T n
   unfolding structured
   structured-by v w l hv hw = rw (← hk, le-leb k 2 l, hw, hv)
 
-pub valued-at : (t : List ℕ) (n v : ℕ) → Valued t n → v ≡ n → Valued t v
-valued-at t n v h e = rw e h
+pub counted-at : (t : List ℕ) (n v : ℕ) → Counted t n → v ≡ n → Counted t v
+counted-at t n v h e = rw e h
 
-pub ruleset structures = (structured-not, structured-by, valued-at)
+pub ruleset structures = (structured-not, structured-by, counted-at)

@@ -11,8 +11,9 @@ use Rattle.numbers.proofs.TypePromise as numbers
 use Rattle.code.specs.Code.{slotIn, decoded}
 use Rattle.prepare.specs.Prepared.{Prepared}
 use Rattle.operands.specs.declared.Context.{Context}
-use Rattle.operands.specs.Ready.{Ready, Sized, Valued}
+use Rattle.operands.specs.Ready.{Ready, Sized, Valued, Counted}
 use Rattle.operands.proofs.NodeTypes.{type-there}
+use Rattle.operands.proofs.Typed.{below-eight}
 use Rattle.machine.specs.Layout.{stateSize, pageSize}
 use Rattle.machine.specs.Lent.{State}
 
@@ -43,8 +44,12 @@ module _ (t m p : List ℕ) (x : Context) (h : Ready t m p x) where
   pub variable-valued : (n : ℕ) → Variable (decoded t) (nodeCount (decoded t)) n → Valued t n
   variable-valued n v = node-valued n (v .below) (omega (arith, v .high))
 
-  pub expression-valued : (n : ℕ) → Expression (decoded t) (nodeCount (decoded t)) n → Valued t n
-  expression-valued n v = node-valued n (v .below) (v .high)
+  pub expression-valued : (n : ℕ) → Expression (decoded t) (nodeCount (decoded t)) n → (nodeKind (decoded t) n ≡ 8 → ⊥) → Valued t n
+  expression-valued n v k = node-valued n (v .below) (below-eight (decoded t) (nodeCount (decoded t)) n v k)
+
+  pub expression-counted : (n : ℕ) → Expression (decoded t) (nodeCount (decoded t)) n → Counted t n
+  expression-counted n v =
+      record { code = h .code; there = v .below; type = λ k. expression-valued n v k .type .there }
 
   -- the type of variable v
   pub variable-sized : (v τ : ℕ) → v < varCount (decoded t) → τ ≡ varType (decoded t) v → Sized t τ

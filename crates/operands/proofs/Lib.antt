@@ -12,4 +12,5 @@ pub mod OneWords
 pub mod Selecting
 pub mod Evaluating
 pub mod Combining
+pub mod Texts
 pub mod Comparing

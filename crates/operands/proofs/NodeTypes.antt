@@ -4,7 +4,7 @@ use mathlib.Core.Path.{_≡_}
 use mathlib.Core.Bool.{true}
 use lib.Dec.{eqb, leb}
 use native.Mathlib.Omega.{arith}
-use borrow.Author.Tests.{eqb-true, eq-eqb, lt-ltb}
+use borrow.Author.Tests.{eqb-true, leb-false, eq-eqb, lt-ltb}
 use Rattle.basics.specs.Cases.{cases}
 use Rattle.table.specs.Table.{Table}
 use Rattle.table.specs.Entries.{nodeCount, typeCount, typeKind, typeQ, nodeKind, nodeP, nodeQ, nodeV}
@@ -17,14 +17,18 @@ use Rattle.typing.proofs.Promise as typing
 use Rattle.operands.proofs.Nodes.{type-constant, type-whole, type-field, type-element, type-retrieve, type-unary, type-binary, type-transfer}
 use Rattle.operands.proofs.Typed.{seven}
 
-module _ (T : Table) (τ : ℕ) (l : τ < 3 + typeCount T) where
-  unary-there : (o : ℕ) → unaryType o τ < 3 + typeCount T
+-- operators whose type is that of their operands ask a standard type
+module _ (T : Table) (o τ : ℕ) where
+  unary-there : (o ≡ 2 → τ ≤ 1) → unaryType o τ < 3 + typeCount T
   unfolding unaryType
-  unary-there o = cases (eqb o 2) (λ e. rw e l) (λ e. rw e (omega arith))
+  unary-there l = cases (eqb o 2) (λ e. let u = l (eqb-true o 2 e) in rw e (omega arith)) (λ e. rw e (omega arith))
 
-  binary-there : (o : ℕ) → binaryType o τ < 3 + typeCount T
+  binary-there : (12 ≤ o → τ ≤ 1) → binaryType o τ < 3 + typeCount T
   unfolding binaryType
-  binary-there o = cases (leb o 6) (λ e. rw e (omega arith)) (λ e. cases (leb o 11) (λ g. rw (e, g) (omega arith)) (λ g. rw (e, g) l))
+  binary-there l =
+      cases (leb o 6)
+      (λ e. rw e (omega arith))
+      (λ e. cases (leb o 11) (λ g. rw (e, g) (omega arith)) (λ g. let u = l (leb-false o 11 g) in rw (e, g) (omega arith)))
 
 module _ (T : Table) (h : inRange T ≡ true) (τ : ℕ) (l : τ < 3 + typeCount T) where
   field-there : (i : ℕ) → typeKind T τ ≡ 1 → i < typeQ T τ → fieldOf T τ i < 3 + typeCount T
@@ -53,8 +57,8 @@ module _ (T : Table) (h : inRange T ≡ true) (y : typed T ≡ true) where
       let d = typing.element-of-array T y n l q in
       rw (type-element T n l b q, eq-eqb (typeKind T (typeOf T (nodeP T n))) 2 d) (element-there T h (typeOf T (nodeP T n)) (r (nodeP T n) b (omega arith)) d)) (λ k₃.
       cases (eqb (nodeKind T n) 4) (λ e. let q = eqb-true (nodeKind T n) 4 e in let v = value-variable T h n l q in let b = v .below in rw (type-retrieve T n l b q) (r (nodeP T n) b (omega arith))) (λ k₄.
-      cases (eqb (nodeKind T n) 5) (λ e. let q = eqb-true (nodeKind T n) 5 e in let v = unary-operand T h n l q in let b = v .below in rw (type-unary T n l b q) (unary-there T (typeOf T (nodeP T n)) (r (nodeP T n) b (v .high)) (nodeQ T n))) (λ k₅.
-      cases (eqb (nodeKind T n) 6) (λ e. let q = eqb-true (nodeKind T n) 6 e in let v = binary-left T h n l q in let b = v .below in rw (type-binary T n l b q) (binary-there T (typeOf T (nodeP T n)) (r (nodeP T n) b (v .high)) (nodeV T n))) (λ k₆.
+      cases (eqb (nodeKind T n) 5) (λ e. let q = eqb-true (nodeKind T n) 5 e in let v = unary-operand T h n l q in let b = v .below in rw (type-unary T n l b q) (unary-there T (nodeQ T n) (typeOf T (nodeP T n)) (typing.not-operand T y n l q))) (λ k₅.
+      cases (eqb (nodeKind T n) 6) (λ e. let q = eqb-true (nodeKind T n) 6 e in let v = binary-left T h n l q in let b = v .below in rw (type-binary T n l b q) (binary-there T (nodeV T n) (typeOf T (nodeP T n)) (typing.logic-operands T y n l q))) (λ k₆.
       let q : nodeKind T n ≡ 7 = seven (nodeKind T n) k k₀ k₁ k₂ k₃ k₄ k₅ k₆ in
       let u = transfer-type T h n l q in rw (type-transfer T n l q) (omega arith))))))))
 

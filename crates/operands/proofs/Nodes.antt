@@ -14,8 +14,9 @@ use Rattle.numbers.specs.Ranges.{inRange}
 use Rattle.numbers.proofs.OperandPromise.{field-variable, element-variable, value-variable, unary-operand, binary-left, transfer-operand, element-index, binary-right}
 use Rattle.words.specs.Types.{transferW}
 use Rattle.machine.specs.Memory.{Memory}
+use Rattle.machine.specs.Texts.{textAt}
 use Rattle.machine.specs.Context.{Context}
-use Rattle.machine.specs.Outcomes.{stuck, need, onPlace, onValue, wordOf}
+use Rattle.machine.specs.Outcomes.{ok, stuck, need, text, onPlace, onValue, onTyped, wordOf}
 use Rattle.machine.specs.Entries.{nodeOf, nodeAt, unaryAt, binaryAt}
 use Rattle.machine.specs.Operands.{simple, given, unaryValue, binaryValue, fieldPlace, elementPlace, wholePlace, retrieved, nodeOperand, operandAt, operand}
 
@@ -32,6 +33,10 @@ module _ (T : Table) (m page : Memory) (x : Context) where
     pub is-whole : nodeKind T n ≡ 1 → operand T m page x n ≡ wholePlace T m page x (nodeP T n)
     unfolding nodeAt nodeOf nodeOperand
     is-whole e = operand-is n ∙ rw (lt-ltb n (nodeCount T) l, e)
+
+    pub is-string : nodeKind T n ≡ 8 → operand T m page x n ≡ ok (text (textAt T (nodeP T n) (nodeQ T n)))
+    unfolding nodeAt nodeOf nodeOperand
+    is-string e = operand-is n ∙ rw (lt-ltb n (nodeCount T) l, e)
 
     module _ (h : inRange T ≡ true) where
       pub is-field : nodeKind T n ≡ 2 → operand T m page x n ≡ onPlace (operand T m page x (nodeP T n)) (λ a τ. fieldPlace T a τ (nodeQ T n))
@@ -52,7 +57,7 @@ module _ (T : Table) (m page : Memory) (x : Context) where
       is-unary e = operand-is n ∙ rw (lt-ltb n (nodeCount T) l, e, lt-ltb (nodeP T n) n (unary-operand T h n l e .below))
 
       pub is-binary : nodeKind T n ≡ 6
-          → operand T m page x n ≡ onValue (operand T m page x (nodeP T n)) (λ τ us. onValue (operand T m page x (nodeQ T n)) (λ σ vs. binaryValue T (binaryAt (nodeV T n)) τ us σ vs))
+          → operand T m page x n ≡ onTyped (operand T m page x (nodeP T n)) (λ τ us. onTyped (operand T m page x (nodeQ T n)) (λ σ vs. binaryValue T (binaryAt (nodeV T n)) τ us σ vs))
       unfolding nodeAt nodeOf nodeOperand
       is-binary e =
           operand-is n ∙ simp (lt-ltb n (nodeCount T) l, e, lt-ltb (nodeP T n) n (binary-left T h n l e .below), lt-ltb (nodeQ T n) n (binary-right T h n l e .below))

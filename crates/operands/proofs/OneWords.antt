@@ -1,39 +1,36 @@
 -- Nodes whose value has one word. Assumes nothing.
 use Prim.Native.Nat.{ℕ, _+_, _<_, _≤_}
-use mathlib.Core.Path.{_≡_, sym, _∙_}
-use mathlib.Core.Bool.{true, false}
-use mathlib.Core.List.{List}
+use mathlib.Core.Path.{_≡_, refl, sym, _∙_}
+use mathlib.Core.Bool.{Bool, true, false, not}
 use lib.Dec.{eqb, leb}
 use native.Mathlib.Omega.{arith}
-use borrow.Author.Tests.{eqb-true, eqb-false, leb-true, leb-false, ltb-false, le-leb}
+use borrow.Author.Tests.{eqb-true, eqb-false, eq-eqb, leb-true, leb-false, le-leb}
 use Rattle.basics.specs.Cases.{cases}
+use Rattle.basics.proofs.Bools.{no-true}
 use Rattle.table.specs.Table.{Table}
 use Rattle.table.specs.Entries.{typeCount, nodeCount, nodeKind, nodeP, nodeQ, nodeV}
 use Rattle.types.specs.Types.{typeOf}
-use Rattle.numbers.specs.Nodes.{Expression}
 use Rattle.numbers.specs.Ranges.{inRange}
 use Rattle.numbers.proofs.TypePromise.{array-index}
 use Rattle.sizes.specs.Sizes.{wordsOf}
 use Rattle.sizes.proofs.Counting.{words-standard}
 use Rattle.typing.specs.Typing.{typed}
 use Rattle.typing.proofs.Promise as typing
-use Rattle.code.specs.Code.{decoded}
-use Rattle.operands.specs.declared.Context.{Context}
-use Rattle.operands.specs.Answers.{structured, OneWord}
-use Rattle.operands.specs.Ready.{Ready}
-use Rattle.operands.proofs.TypeWords.{some-words, match-words}
-use Rattle.operands.proofs.Lending.{expression-valued}
+use Rattle.operands.specs.Answers.{single, structured, OneWord}
+use Rattle.operands.proofs.TypeWords.{match-nodes, single-numbered, single-constant, single-words}
 
 -- a standard type
 pub one-standard : (T : Table) (n : ℕ) → typeOf T n ≤ 2 → OneWord T n
-one-standard T n l = record { is = words-standard T (typeOf T n) (omega arith) }
+one-standard T n l = record { is = words-standard T (typeOf T n) (omega arith); numbered = typing.no-constant T n l }
 
--- a type of at most one word
-pub one-few : (t m p : List ℕ) (x : Context) → Ready t m p x → (n : ℕ) → Expression (decoded t) (nodeCount (decoded t)) n
-    → (k : ℕ) → k ≡ wordsOf (decoded t) (typeOf (decoded t) n) → k ≤ 1 → OneWord (decoded t) n
-one-few t m p x h n e k hk l =
-    let g = some-words (decoded t) (h .ranged) (h .sized) (typeOf (decoded t) n) (expression-valued t m p x h n e .type .there) in
-    record { is = omega arith }
+-- as `is_single` tells it
+pub one-true : (T : Table) (n : ℕ) → single T n ≡ true → OneWord T n
+one-true T n e =
+    let k : nodeKind T n ≡ 8 → ⊥ = λ g. no-true (sym (single-constant T n g) ∙ e) in
+    record { is = eqb-true (wordsOf T (typeOf T n)) 1 (sym (single-numbered T n k) ∙ e); numbered = k }
+
+pub true-one : (T : Table) (n : ℕ) → OneWord T n → single T n ≡ true
+true-one T n o = single-numbered T n (o .numbered) ∙ eq-eqb (wordsOf T (typeOf T n)) 1 (o .is)
 
 -- ---- operands, in a table that keeps the rule of refusal 9
 module _ (T : Table) (h : typed T ≡ true) (n : ℕ) (l : n < nodeCount T) where
@@ -52,7 +49,7 @@ module _ (T : Table) (h : typed T ≡ true) (n : ℕ) (l : n < nodeCount T) wher
   one-transfer k = one-standard T (nodeP T n) (typing.transfer-operand T h n l k)
 
   -- an operator that compares no several words
-  module _ (k : nodeKind T n ≡ 6) (e : structured T n ≡ false) (some : 1 ≤ wordsOf T (typeOf T (nodeP T n))) where
+  module _ (k : nodeKind T n ≡ 6) (e : structured T n ≡ false) where
     by-standard : 3 ≤ nodeV T n → typeOf T (nodeP T n) ≤ 2
     by-standard g =
         cases (leb (nodeV T n) 6)
@@ -63,22 +60,28 @@ module _ (T : Table) (h : typed T ≡ true) (n : ℕ) (l : n < nodeCount T) wher
         (λ b. let j = typing.arithmetic-operands T h n l k (omega arith) (leb-true (nodeV T n) 11 b) in omega arith)
         (λ b. let d = leb-false (nodeV T n) 11 b in let j = typing.logic-operands T h n l k (omega arith) in omega arith))
 
-    compares-few : nodeV T n ≤ 2 → wordsOf T (typeOf T (nodeP T n)) ≡ 1
+    compares-few : nodeV T n ≤ 2 → single T (nodeP T n) ≡ true
     unfolding structured
-    compares-few g = let i = ltb-false 1 (wordsOf T (typeOf T (nodeP T n))) (rw (le-leb (nodeV T n) 2 g) at e) in omega arith
+    compares-few g = not-false (single T (nodeP T n)) (rw (le-leb (nodeV T n) 2 g) at e)
+      where
+        not-false : (b : Bool) → not b ≡ false → b ≡ true
+        not-false true d = refl
+        not-false false d = sym d
 
     pub one-left : OneWord T (nodeP T n)
     one-left =
         cases (leb (nodeV T n) 2)
-        (λ a. record { is = compares-few (leb-true (nodeV T n) 2 a) })
+        (λ a. one-true T (nodeP T n) (compares-few (leb-true (nodeV T n) 2 a)))
         (λ a. let i = leb-false (nodeV T n) 2 a in one-standard T (nodeP T n) (by-standard (omega arith)))
 
-    pub one-right : OneWord T (nodeQ T n)
-    one-right =
+    pub one-right : inRange T ≡ true → nodeP T n < nodeCount T → nodeQ T n < nodeCount T → OneWord T (nodeQ T n)
+    one-right r u v =
         cases (leb (nodeV T n) 2)
         (λ a.
         let g = leb-true (nodeV T n) 2 a in
-        record { is = sym (match-words T (typeOf T (nodeP T n)) (typeOf T (nodeQ T n)) (typing.equality-operands T h n l k g)) ∙ compares-few g })
+        one-true T (nodeQ T n)
+        (single-words T (nodeQ T n) r v
+        ∙ (rw (← match-nodes T (nodeP T n) (nodeQ T n) (typing.equality-operands T h n l k g)) (sym (single-words T (nodeP T n) r u) ∙ compares-few g))))
         (λ a.
         let i = leb-false (nodeV T n) 2 a in
         let g : 3 ≤ nodeV T n = omega arith in

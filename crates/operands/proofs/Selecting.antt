@@ -373,7 +373,7 @@ module _ (t m p : List ℕ) (x : Context) (h : Ready t m p x) (n : ℕ) (c : Sel
               module _ (g : w < 65536) (i : ℕ) (hi : i ≡ w) where
                 element-found : out t m p x n ≡ failWhere (outside (typeLow (decoded t) τ) (typeHigh (decoded t) τ) i) 18 (ok (place (elementAt (decoded t) a τ i) (typeQ (decoded t) τ)))
                 element-found =
-                    let v = typed-expression (decoded t) (memoryOf m) (memoryOf p) (contextIn x) (h .ranged) q (index-evaluable .expression) in
+                    let v = typed-expression (decoded t) (memoryOf m) (memoryOf p) (contextIn x) (h .ranged) q (index-evaluable .expression) (index-single .numbered) in
                     let d = told-word (firstWord (out t m p x q)) w hw g in
                     let j = index-gave (decoded t) a τ (out t m p x q) element-unstuck (typeOf (decoded t) q) v i (rw hi d) in
                     element-here ∙ (element-done (decoded t) a τ (out t m p x q) element-unstuck (typeOf (decoded t) q) (j .words) (j .is) ∙ rw (j .first, element-type (decoded t) τ element-kind))

@@ -7,15 +7,17 @@ use lib.ListN.{getD}
 use lib.Dec.{eqb, leb, ltb}
 use native.Mathlib.Nat.{mul-le-mul}
 use native.Mathlib.Omega.{arith}
-use borrow.Author.Tests.{eq-eqb, ne-eqb, le-leb, lt-leb}
+use borrow.Author.Tests.{eq-eqb, ne-eqb, eqb-true, eqb-false, le-leb, lt-leb}
 use mir.Val.{Fits}
 use mir.Syntax.{w64}
 use Rattle.basics.specs.Choice.{both}
+use Rattle.basics.specs.Cases.{cases}
 use Rattle.table.specs.Table.{Table}
-use Rattle.table.specs.Entries.{varMode, typeP, typeQ, typeLow, typeHigh}
+use Rattle.table.specs.Entries.{nodeKind, varMode, typeP, typeQ, typeLow, typeHigh}
 use Rattle.table.specs.Reading.{Field}
 use Rattle.types.specs.Match.{offset}
 use Rattle.types.specs.Types.{typeOf}
+use Rattle.types.proofs.Matching.{constant-none}
 use Rattle.sizes.specs.Sizes.{wordsOf, offsetIn}
 use Rattle.sizes.proofs.Promise.{words-most}
 use Rattle.words.specs.Memory.{wordAtByte, wordAt}
@@ -25,15 +27,18 @@ use Rattle.machine.specs.Outcomes.{ok, failWhere, place}
 use Rattle.machine.specs.Operands.{outside, same}
 use Rattle.words.specs.Operators.{leW}
 use Rattle.machine.proofs.Tests.{failure-i}
+use Rattle.operands.specs.Answers.{single}
+use Rattle.operands.proofs.TypeWords.{single-numbered, single-constant}
 use Rattle.operands.proofs.Yielding.{le-offset}
 use Rattle.operands.proofs.Packing.{tell-place, tell-no-place}
 use Rattle.machine.specs.Variables.{offsetOf}
 use Rattle.code.specs.Code.{slotIn, decoded}
+use Rattle.code.proofs.Slots.{slot-none}
 use Rattle.operands.specs.declared.Context.{Context}
 use Rattle.operands.specs.Bases.{contextAt, Based}
 use Rattle.operands.specs.Packed.{PlaceIs}
 use Rattle.operands.specs.Places.{numbered, framed, frameAt, wholeAt, elementAt, Matched}
-use Rattle.operands.specs.Ready.{Naming, Fielded, Sized, Indexed, Valued}
+use Rattle.operands.specs.Ready.{Naming, Fielded, Sized, Indexed, Valued, Counted}
 
 pub memory-word : (s : List ℕ) (a r : ℕ) → r ≡ wordAt s a → r ≡ memoryOf s a
 unfolding memoryOf wordAt wordAtByte
@@ -136,6 +141,22 @@ module _ (t : List ℕ) (n τ : ℕ) (h : Valued t n) (e : τ ≡ slotIn t n 23)
   pub value-words : (r : ℕ) → r ≡ wordsOf (decoded t) τ → r ≡ wordsOf (decoded t) (typeOf (decoded t) n)
   value-words r g = g ∙ ap (wordsOf (decoded t)) value-type
 
+-- whether a node has one word: the type of a string constant has no number, and no row
+pub counted-single : (t : List ℕ) (n τ w : ℕ) → Counted t n → Field (slotIn t n 23) τ → Field (slotIn t τ 5) w → eqb w 1 ≡ single (decoded t) n
+counted-single t n τ w h f g =
+    let e = f .is ∙ h .code .types n (h .there) in
+    let d = g .is in
+    cases (eqb (nodeKind (decoded t) n) 8)
+    (λ k.
+    let c = eqb-true (nodeKind (decoded t) n) 8 k in
+    let o : τ ≡ 65535 = e ∙ constant-none (decoded t) n c in
+    let z : w ≡ 0 = d ∙ sym (slot-none t τ 5 (omega arith) .is) in
+    rw z (sym (single-constant (decoded t) n c)))
+    (λ k.
+    let c = eqb-false (nodeKind (decoded t) n) 8 k in
+    let o = h .code .sizes (typeOf (decoded t) n) (h .type c) in
+    sym (single-numbered (decoded t) n c ∙ rw (d, e, o)))
+
 -- elements
 pub element-room : (t : List ℕ) (a τ i : ℕ) → Indexed t a τ i → outside (typeLow (decoded t) τ) (typeHigh (decoded t) τ) i ≡ false → elementAt (decoded t) a τ i < 65536
 element-room t a τ i h = h .room
@@ -189,39 +210,39 @@ element-sum a k low w l h g =
     let q : k - low ≤ 65536 = omega arith in let m : (k - low) * w ≤ 65536 * 200 = mul-le-mul q g in record { fits = omega arith }
 
 -- words that are compared
-module _ (m : Memory) (a b n i : ℕ) where
-  next-words : (a : ℕ) → i < n → wordsAt m (a + i) (n - i) ≡ m (a + i) ∷ wordsAt m (a + (i + 1)) (n - (i + 1))
+module _ (f g : Memory) (a b n i : ℕ) where
+  next-words : (m : Memory) (a : ℕ) → i < n → wordsAt m (a + i) (n - i) ≡ m (a + i) ∷ wordsAt m (a + (i + 1)) (n - (i + 1))
   unfolding wordsAt
-  next-words a l =
+  next-words m a l =
       let e : n - i ≡ suc (n - (i + 1)) = omega arith in
       let g : a + i + 1 ≡ a + (i + 1) = omega arith in rw (e, g)
 
-  module _ (h : Matched m a b n i) where
-    pub matched-more : (u v : ℕ) → i < n → u ≡ m (a + i) → v ≡ m (b + i) → u ≡ v → Matched m a b n (i + 1)
+  module _ (h : Matched f g a b n i) where
+    pub matched-more : (u v : ℕ) → i < n → u ≡ f (a + i) → v ≡ g (b + i) → u ≡ v → Matched f g a b n (i + 1)
     unfolding same both
     matched-more u v l hu hv e =
-        let q : eqb (m (a + i)) (m (b + i)) ≡ true = eq-eqb _ _ (sym hu ∙ (e ∙ hv)) in
+        let q : eqb (f (a + i)) (g (b + i)) ≡ true = eq-eqb _ _ (sym hu ∙ (e ∙ hv)) in
         record {
           upto = omega arith;
-          rest = sym (rw (next-words a l, next-words b l, q)) ∙ h .rest;
+          rest = sym (rw (next-words f a l, next-words g b l, q)) ∙ h .rest;
         }
 
-    pub matched-not : (u v : ℕ) → i < n → u ≡ m (a + i) → v ≡ m (b + i) → (u ≡ v → ⊥) → false ≡ same (wordsAt m a n) (wordsAt m b n)
+    pub matched-not : (u v : ℕ) → i < n → u ≡ f (a + i) → v ≡ g (b + i) → (u ≡ v → ⊥) → false ≡ same (wordsAt f a n) (wordsAt g b n)
     unfolding same both
     matched-not u v l hu hv e =
-        let q : eqb (m (a + i)) (m (b + i)) ≡ false = ne-eqb _ _ (λ g. e (hu ∙ (g ∙ sym hv))) in
-        sym (rw (next-words a l, next-words b l, q)) ∙ h .rest
+        let q : eqb (f (a + i)) (g (b + i)) ≡ false = ne-eqb _ _ (λ d. e (hu ∙ (d ∙ sym hv))) in
+        sym (rw (next-words f a l, next-words g b l, q)) ∙ h .rest
 
-    pub matched-all : n ≤ i → true ≡ same (wordsAt m a n) (wordsAt m b n)
+    pub matched-all : n ≤ i → true ≡ same (wordsAt f a n) (wordsAt g b n)
     unfolding same wordsAt
     matched-all l = let e : n - i ≡ 0 = omega arith in sym (rw e) ∙ h .rest
 
-pub matched-none : (m : Memory) (a b n : ℕ) → Matched m a b n 0
-matched-none m a b n =
+pub matched-none : (f g : Memory) (a b n : ℕ) → Matched f g a b n 0
+matched-none f g a b n =
     let e : a + 0 ≡ a = omega arith in
-    let g : b + 0 ≡ b = omega arith in
-    let k : n - 0 ≡ n = omega arith in record { upto = omega arith; rest = rw (e, g, k) }
+    let d : b + 0 ≡ b = omega arith in
+    let k : n - 0 ≡ n = omega arith in record { upto = omega arith; rest = rw (e, d, k) }
 
 pub ruleset matching = (matched-none, matched-more, matched-not, matched-all)
 
-pub ruleset standing = (memory-word, owned-fits, owned-returns, framed-low, framed-fits, frame-own, frame-bound, field-at, type-words, few-words, same-sized, value-sized, value-words, index-low, index-high, element-room, index-room, index-in, element-fits, element-sum)
+pub ruleset standing = (memory-word, owned-fits, owned-returns, framed-low, framed-fits, frame-own, frame-bound, field-at, type-words, few-words, same-sized, value-sized, value-words, counted-single, index-low, index-high, element-room, index-room, index-in, element-fits, element-sum)

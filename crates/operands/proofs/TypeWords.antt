@@ -1,28 +1,25 @@
 -- Words of types in a table that keeps the rules of refusals 4 and 7. Assumes nothing.
 use Prim.Native.Nat.{ℕ, zero, suc, _+_, _*_, _<_, _≤_}
-use mathlib.Core.Path.{_≡_, sym, _∙_}
-use mathlib.Core.Bool.{true}
-use lib.Dec.{eqb, ltb}
+use mathlib.Core.Path.{_≡_, refl, sym, _∙_}
+use mathlib.Core.Bool.{true, false}
+use lib.Dec.{eqb}
 use native.Mathlib.Nat.{mul-le-mul}
 use native.Mathlib.Omega.{arith}
-use borrow.Author.Tests.{eqb-true, eqb-false, ltb-false}
+use borrow.Author.Tests.{eqb-true, eqb-false, eq-eqb, ne-eqb}
 use Rattle.basics.specs.Cases.{cases}
-use Rattle.basics.proofs.Bools.{no-true}
 use Rattle.table.specs.Table.{Table}
-use Rattle.table.specs.Entries.{declared, typeCount, typeKind, typeP, typeQ, fieldType}
-use Rattle.types.specs.Match.{elements, isString, matches}
+use Rattle.table.specs.Entries.{typeCount, nodeCount, nodeKind, nodeQ, typeKind, typeP, typeQ, fieldType}
+use Rattle.types.specs.Types.{numbered, evened, typeOfNode, typeOf}
+use Rattle.types.specs.Match.{elements, matching, isEqual}
 use Rattle.numbers.specs.Ranges.{inRange}
 use Rattle.numbers.proofs.TypePromise.{record-some, field-lower, element-lower}
 use Rattle.sizes.specs.Sizes.{wordsOf, sized}
-use Rattle.sizes.proofs.Counting.{words-array, words-simple, words-standard, part-lower, offset-more, offset-in}
+use Rattle.sizes.specs.Kept.{wordsIn}
+use Rattle.sizes.proofs.Counting.{words-array, words-simple, part-lower, offset-more, offset-in}
+use Rattle.sizes.proofs.Strings.{equal-words}
 use Rattle.sizes.proofs.Promise.{elements-some}
-
-pub declares : (T : Table) (τ k : ℕ) → typeKind T τ ≡ k → 1 ≤ k → 3 ≤ τ
-unfolding declared
-declares T τ k e h =
-    cases (ltb τ 3)
-    (λ g. let q : 0 ≡ k = rw g at e in absurd (omega arith))
-    (λ g. ltb-false τ 3 g)
+use Rattle.numbers.proofs.OperandPromise.{string-length}
+use Rattle.operands.specs.Answers.{single, nodeWords}
 
 -- every type has a word
 module _ (T : Table) (h : inRange T ≡ true) (z : sized T ≡ true) where
@@ -57,27 +54,45 @@ module _ (T : Table) (h : inRange T ≡ true) (z : sized T ≡ true) where
 
 -- types that match have as many words
 module _ (T : Table) where
-  string-words : (τ : ℕ) → isString T τ ≡ true → wordsOf T τ ≡ elements T τ
-  unfolding isString
-  string-words τ e =
-      cases (eqb (typeKind T τ) 2)
-      (λ g.
-      let k = eqb-true (typeKind T τ) 2 g in
-      let q = eqb-true (typeQ T τ) 2 (rw g at e) in
-      let d = declares T τ 2 k (omega arith) in
-      let u = part-lower T τ 2 (omega arith) ∙ words-standard T 2 (omega arith) in
-      words-array T τ k ∙ rw (q, u) (omega arith))
-      (λ g. no-true (rw g at e))
+  pub match-words : (τ σ : ℕ) → isEqual (matching T (numbered τ) (numbered σ)) ≡ true → wordsOf T τ ≡ wordsOf T σ
+  unfolding wordsIn
+  match-words τ σ e = equal-words T (numbered τ) (numbered σ) e
 
-  pub match-words : (τ σ : ℕ) → matches T τ σ ≡ true → wordsOf T τ ≡ wordsOf T σ
-  unfolding matches
-  match-words τ σ e =
-      cases (eqb τ σ)
-      (λ g. let q = eqb-true τ σ g in rw q)
-      (λ g.
-      cases (isString T τ)
-      (λ a.
-      cases (isString T σ)
-      (λ b. string-words τ a ∙ (eqb-true (elements T τ) (elements T σ) (rw (g, a, b) at e) ∙ sym (string-words σ b)))
-      (λ b. no-true (rw (g, a, b) at e)))
-      (λ a. no-true (rw (g, a) at e)))
+  -- nodes
+  module _ (n : ℕ) where
+    node-type-words : nodeWords T n ≡ wordsIn T (typeOfNode T n)
+    unfolding nodeWords typeOfNode wordsIn
+    node-type-words = cases (eqb (nodeKind T n) 8) (λ e. rw e refl) (λ e. rw e refl)
+
+    pub words-constant : nodeKind T n ≡ 8 → nodeWords T n ≡ evened (nodeQ T n)
+    unfolding nodeWords
+    words-constant e = rw (eq-eqb (nodeKind T n) 8 e)
+
+    pub words-numbered : (nodeKind T n ≡ 8 → ⊥) → nodeWords T n ≡ wordsOf T (typeOf T n)
+    unfolding nodeWords
+    words-numbered e = rw (ne-eqb (nodeKind T n) 8 e)
+
+    pub single-numbered : (nodeKind T n ≡ 8 → ⊥) → single T n ≡ eqb (wordsOf T (typeOf T n)) 1
+    unfolding single
+    single-numbered e = rw (ne-eqb (nodeKind T n) 8 e)
+
+    pub single-constant : nodeKind T n ≡ 8 → single T n ≡ false
+    unfolding single
+    single-constant e = rw (eq-eqb (nodeKind T n) 8 e)
+
+    -- a string constant has two words or more
+    pub single-words : inRange T ≡ true → n < nodeCount T → single T n ≡ eqb (nodeWords T n) 1
+    unfolding evened
+    single-words r l =
+        cases (eqb (nodeKind T n) 8)
+        (λ e.
+        let k = eqb-true (nodeKind T n) 8 e in
+        let q = string-length T r n l k in
+        let a = q .0 in
+        let w = words-constant k in
+        single-constant k ∙ sym (ne-eqb (nodeWords T n) 1 (λ z. omega arith)))
+        (λ e. let k = eqb-false (nodeKind T n) 8 e in single-numbered k ∙ rw (words-numbered k))
+
+  -- nodes whose types are equal have as many words
+  pub match-nodes : (p q : ℕ) → isEqual (matching T (typeOfNode T p) (typeOfNode T q)) ≡ true → nodeWords T p ≡ nodeWords T q
+  match-nodes p q e = node-type-words p ∙ (equal-words T (typeOfNode T p) (typeOfNode T q) e ∙ sym (node-type-words q))

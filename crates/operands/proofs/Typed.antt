@@ -1,4 +1,5 @@
--- An outcome that is not stuck has the type that is read off the table: a place of it fits its area, a value of it has its words. Assumes nothing.
+-- An outcome that is not stuck has the type that is read off the table: a place of it fits its area, a value of it has its words.
+-- String constants, whose types have no number, are apart. Assumes nothing.
 use Prim.Native.Nat.{ℕ, zero, suc, _+_, _-_, _*_, _<_, _≤_}
 use mathlib.Core.Path.{_≡_, refl, sym, ap, subst}
 use mathlib.Core.Bool.{Bool, true, false}
@@ -12,7 +13,8 @@ use Rattle.basics.specs.Cases.{cases}
 use Rattle.basics.proofs.Bools.{both-r, no-true}
 use Rattle.table.specs.Table.{Table}
 use Rattle.table.specs.Entries.{declared, nodeCount, typeKind, typeP, typeQ, typeLow, typeHigh, fieldType, varType, owner, nodeKind, nodeP, nodeQ, nodeV}
-use Rattle.types.specs.Types.{noType, fieldOf, elementOf, unaryType, binaryType, typeOf}
+use Rattle.types.specs.Types.{noType, fieldOf, elementOf, unaryType, binaryType, typeOf, NodeType, numbered, numberOf}
+use Rattle.types.proofs.Matching.{constant-none}
 use Rattle.types.specs.Match.{offset}
 use Rattle.numbers.specs.Ranges.{inRange}
 use Rattle.numbers.specs.Nodes.{Variable, Expression}
@@ -22,11 +24,11 @@ use Rattle.sizes.proofs.Counting.{words-standard}
 use Rattle.words.specs.Outcomes as words
 use Rattle.machine.specs.Memory.{Memory, wordsAt}
 use Rattle.machine.specs.Context.{Context}
-use Rattle.machine.specs.Outcomes.{Outcome, ok, fail, stuck, andThen, need, failWhere, Operand, place, value, placed, valued, onPlace, onValue, onWord, wordOf}
+use Rattle.machine.specs.Outcomes.{Outcome, ok, fail, stuck, andThen, need, failWhere, Operand, place, value, text, placed, valued, typed, onPlace, onValue, onTyped, onWord, wordOf}
 use Rattle.machine.specs.Entries.{recordType, arrayType, typeAt, noUnary, unaryAt, noBinary, binaryAt}
 use Rattle.machine.specs.Variables.{fits, belongs}
 use Rattle.machine.specs.Operands.{simple, truth, given, unaryValue, ordered, integral, logical, binaryValue, outside, onRecord, onArray, placeAt, fieldPlace, elementPlace, moduleVariable, frameVariable, wholePlace, retrieved, operand}
-use Rattle.operands.proofs.Nodes.{is-constant, is-whole, is-field, is-element, is-retrieve, is-unary, is-binary, is-transfer, type-constant, type-whole, type-field, type-element, type-retrieve, type-unary, type-binary, type-transfer}
+use Rattle.operands.proofs.Nodes.{is-constant, is-string, is-whole, is-field, is-element, is-retrieve, is-unary, is-binary, is-transfer, type-constant, type-whole, type-field, type-element, type-retrieve, type-unary, type-binary, type-transfer}
 
 pub seven : (k : ℕ) → k ≤ 7 → eqb k 0 ≡ false → eqb k 1 ≡ false → eqb k 2 ≡ false → eqb k 3 ≡ false → eqb k 4 ≡ false → eqb k 5 ≡ false → eqb k 6 ≡ false → k ≡ 7
 seven k l a b c d e f g =
@@ -41,6 +43,10 @@ seven k l a b c d e f g =
   where
     from : (i : ℕ) → i ≤ k → (k ≡ i → ⊥) → i + 1 ≤ k
     from i l n = omega arith
+
+-- an expression that is no string constant
+pub below-eight : (T : Table) (m n : ℕ) → Expression T m n → (nodeKind T n ≡ 8 → ⊥) → nodeKind T n ≤ 7
+below-eight T m n v k = let h = v .high in omega arith
 
 pub data OfType (T : Table) (τ : ℕ) : Outcome Operand → Type 0 where
   a-place : {a : ℕ} → fits T a τ ≡ true → OfType T τ (ok (place a τ))
@@ -86,10 +92,18 @@ module _ (T : Table) (τ : ℕ) where
   of-onValue σ (fail k) g a-failure f = a-failure
   of-onValue σ stuck g a-stuck f = a-stuck
 
+  of-onTyped : (σ : ℕ) (o : Outcome Operand) (g : NodeType → List ℕ → Outcome Operand) → OfType T σ o → ((ws : List ℕ) → OfType T τ (g (numbered σ) ws)) → OfType T τ (onTyped o g)
+  unfolding onTyped andThen typed
+  of-onTyped σ (ok (place a ρ)) g (a-place e) f = a-stuck
+  of-onTyped σ (ok (value ρ ws)) g (a-value e) f = f ws
+  of-onTyped σ (fail k) g a-failure f = a-failure
+  of-onTyped σ stuck g a-stuck f = a-stuck
+
   of-onWord : (o : Outcome Operand) (ι : ℕ) (g : ℕ → Outcome Operand) → ((i : ℕ) → OfType T τ (g i)) → OfType T τ (onWord o ι g)
   unfolding onWord onValue andThen valued
   of-onWord (ok (place a ρ)) ι g f = a-stuck
   of-onWord (ok (value ρ ws)) ι g f = of-need (eqb ρ ι) (g (wordOf ws)) (λ e. f (wordOf ws))
+  of-onWord (ok (text ws)) ι g f = a-stuck
   of-onWord (fail k) ι g f = a-failure
   of-onWord stuck ι g f = a-stuck
 
@@ -232,23 +246,23 @@ of-logical : (T : Table) (τ σ i b : ℕ) → OfType T τ (logical τ σ i b)
 unfolding logical
 of-logical T τ σ i b = of-need T τ _ _ (λ e. of-not T τ i b)
 
-of-binary : (T : Table) (o τ : ℕ) (us : List ℕ) (σ : ℕ) (vs : List ℕ) → OfType T (binaryType o τ) (binaryValue T (binaryAt o) τ us σ vs)
+of-binary : (T : Table) (o : ℕ) (τ : NodeType) (us : List ℕ) (σ : NodeType) (vs : List ℕ) → OfType T (binaryType o (numberOf τ)) (binaryValue T (binaryAt o) τ us σ vs)
 unfolding binaryType binaryValue binaryAt
 of-binary T o τ us σ vs =
-    binary-cases (λ k. OfType T (binaryType k τ) (binaryValue T (binaryAt k) τ us σ vs)) o
+    binary-cases (λ k. OfType T (binaryType k (numberOf τ)) (binaryValue T (binaryAt k) τ us σ vs)) o
     (of-equal T _ _)
     (of-equal T _ _)
-    (of-ordered T τ σ _)
-    (of-ordered T τ σ _)
-    (of-ordered T τ σ _)
-    (of-ordered T τ σ _)
-    (of-integral T τ σ _)
-    (of-integral T τ σ _)
-    (of-integral T τ σ _)
-    (of-integral T τ σ _)
-    (of-integral T τ σ _)
-    (of-logical T τ σ _ _)
-    (of-logical T τ σ _ _)
+    (of-ordered T (numberOf τ) (numberOf σ) _)
+    (of-ordered T (numberOf τ) (numberOf σ) _)
+    (of-ordered T (numberOf τ) (numberOf σ) _)
+    (of-ordered T (numberOf τ) (numberOf σ) _)
+    (of-integral T (numberOf τ) (numberOf σ) _)
+    (of-integral T (numberOf τ) (numberOf σ) _)
+    (of-integral T (numberOf τ) (numberOf σ) _)
+    (of-integral T (numberOf τ) (numberOf σ) _)
+    (of-integral T (numberOf τ) (numberOf σ) _)
+    (of-logical T (numberOf τ) (numberOf σ) _ _)
+    (of-logical T (numberOf τ) (numberOf σ) _ _)
     (λ e. rw e a-stuck)
 
 of-retrieved : (T : Table) (m page : Memory) (x : Context) (a τ : ℕ) → OfType T τ (retrieved T m page x a τ)
@@ -257,6 +271,22 @@ of-retrieved T m page x a τ = of-failWhere T τ _ _ _ (a-value (length-words m 
 
 -- THE TYPE of a node's outcome is the one that is read off
 module _ (T : Table) (m page : Memory) (x : Context) (h : inRange T ≡ true) where
+  -- an operand that may be a string constant, whose type has no number
+  module _ (τ p : ℕ) (l : p < nodeCount T) (k : nodeKind T p ≤ 8) (r : nodeKind T p ≤ 7 → OfType T (typeOf T p) (operand T m page x p)) where
+    of-value : (g : ℕ → List ℕ → Outcome Operand) → ((ws : List ℕ) → OfType T τ (g (typeOf T p) ws)) → OfType T τ (onValue (operand T m page x p) g)
+    unfolding onValue andThen valued
+    of-value g f =
+        cases (eqb (nodeKind T p) 8)
+        (λ e. rw (is-string T m page x p l (eqb-true (nodeKind T p) 8 e)) a-stuck)
+        (λ e. let q = eqb-false (nodeKind T p) 8 e in of-onValue T τ (typeOf T p) _ g (r (omega arith)) f)
+
+    of-any : (g : NodeType → List ℕ → Outcome Operand) → ((κ : NodeType) (ws : List ℕ) → numberOf κ ≡ typeOf T p → OfType T τ (g κ ws)) → OfType T τ (onTyped (operand T m page x p) g)
+    unfolding onTyped andThen typed numberOf
+    of-any g f =
+        cases (eqb (nodeKind T p) 8)
+        (λ e. let q = eqb-true (nodeKind T p) 8 e in rw (is-string T m page x p l q) (f _ _ (sym (constant-none T p q))))
+        (λ e. let q = eqb-false (nodeKind T p) 8 e in of-onTyped T τ (typeOf T p) _ g (r (omega arith)) (λ ws. f (numbered (typeOf T p)) ws refl))
+
   typed-at : (n : ℕ) → n < nodeCount T → ((p : ℕ) → p < n → nodeKind T p ≤ 7 → OfType T (typeOf T p) (operand T m page x p)) → nodeKind T n ≤ 7 → OfType T (typeOf T n) (operand T m page x n)
   typed-at n l r k =
       cases (eqb (nodeKind T n) 0) (λ e. let q = eqb-true (nodeKind T n) 0 e in
@@ -270,14 +300,15 @@ module _ (T : Table) (m page : Memory) (x : Context) (h : inRange T ≡ true) wh
       cases (eqb (nodeKind T n) 4) (λ e. let q = eqb-true (nodeKind T n) 4 e in let v = value-variable T h n l q in let b = v .below in
       rw (type-retrieve T n l b q, is-retrieve T m page x n l h q) (of-onPlace T _ (typeOf T (nodeP T n)) _ _ (r (nodeP T n) b (omega arith)) (λ a. of-retrieved T m page x a (typeOf T (nodeP T n))))) (λ k₄.
       cases (eqb (nodeKind T n) 5) (λ e. let q = eqb-true (nodeKind T n) 5 e in let v = unary-operand T h n l q in let b = v .below in
-      rw (type-unary T n l b q, is-unary T m page x n l h q) (of-onValue T _ (typeOf T (nodeP T n)) _ _ (r (nodeP T n) b (omega arith)) (λ us. of-unary T page (nodeQ T n) (typeOf T (nodeP T n)) (wordOf us)))) (λ k₅.
+      rw (type-unary T n l b q, is-unary T m page x n l h q) (of-value _ (nodeP T n) (omega arith) (v .high) (r (nodeP T n) b) _ (λ us. of-unary T page (nodeQ T n) (typeOf T (nodeP T n)) (wordOf us)))) (λ k₅.
       cases (eqb (nodeKind T n) 6) (λ e. let q = eqb-true (nodeKind T n) 6 e in let v = binary-left T h n l q in let b = v .below in
       rw (type-binary T n l b q, is-binary T m page x n l h q)
-      (of-onValue T _ (typeOf T (nodeP T n)) _ _ (r (nodeP T n) b (omega arith)) (λ us.
-      of-onValue T _ (typeOf T (nodeQ T n)) _ _ (let u = binary-right T h n l q in r (nodeQ T n) (u .below) (omega arith)) (λ vs. of-binary T (nodeV T n) (typeOf T (nodeP T n)) us (typeOf T (nodeQ T n)) vs)))) (λ k₆.
+      (let u = binary-right T h n l q in let d = u .below in
+      of-any _ (nodeP T n) (omega arith) (v .high) (r (nodeP T n) b) _ (λ τ us e.
+      of-any _ (nodeQ T n) (omega arith) (u .high) (r (nodeQ T n) d) _ (λ σ vs _. rw (← e) (of-binary T (nodeV T n) τ us σ vs))))) (λ k₆.
       let q : nodeKind T n ≡ 7 = seven (nodeKind T n) k k₀ k₁ k₂ k₃ k₄ k₅ k₆ in let v = transfer-operand T h n l q in let b = v .below in
       rw (type-transfer T n l q, is-transfer T m page x n l h q)
-      (of-onValue T (nodeQ T n) (typeOf T (nodeP T n)) _ _ (r (nodeP T n) b (omega arith)) (λ us. of-need T (nodeQ T n) _ _ (λ g. of-given T (nodeQ T n) _ (ltb-true (nodeQ T n) 3 (both-r (ltb (typeOf T (nodeP T n)) 3) (ltb (nodeQ T n) 3) g))))))))))))
+      (of-value (nodeQ T n) (nodeP T n) (omega arith) (v .high) (r (nodeP T n) b) _ (λ us. of-need T (nodeQ T n) _ _ (λ g. of-given T (nodeQ T n) _ (ltb-true (nodeQ T n) 3 (both-r (ltb (typeOf T (nodeP T n)) 3) (ltb (nodeQ T n) 3) g))))))))))))
 
   typed-below : (k n : ℕ) → n < k → n < nodeCount T → nodeKind T n ≤ 7 → OfType T (typeOf T n) (operand T m page x n)
   typed-below zero n l c g = absurd (omega arith)
@@ -286,5 +317,5 @@ module _ (T : Table) (m page : Memory) (x : Context) (h : inRange T ≡ true) wh
   pub typed-variable : (n : ℕ) → Variable T (nodeCount T) n → OfType T (typeOf T n) (operand T m page x n)
   typed-variable n v = typed-below (suc n) n (omega arith) (v .below) (omega (arith, v .high))
 
-  pub typed-expression : (n : ℕ) → Expression T (nodeCount T) n → OfType T (typeOf T n) (operand T m page x n)
-  typed-expression n v = typed-below (suc n) n (omega arith) (v .below) (v .high)
+  pub typed-expression : (n : ℕ) → Expression T (nodeCount T) n → (nodeKind T n ≡ 8 → ⊥) → OfType T (typeOf T n) (operand T m page x n)
+  typed-expression n v k = typed-below (suc n) n (omega arith) (v .below) (below-eight T (nodeCount T) n v k)

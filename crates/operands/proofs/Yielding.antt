@@ -13,7 +13,8 @@ use Rattle.basics.specs.Choice.{pick, both}
 use Rattle.basics.specs.Cases.{cases}
 use Rattle.basics.proofs.Bools.{both-l, both-r, no-true}
 use Rattle.table.specs.Table.{Table}
-use Rattle.types.specs.Match.{offset, matches}
+use Rattle.types.specs.Types.{NodeType, numbered, string, numberOf}
+use Rattle.types.specs.Match.{offset, matching, isEqual}
 use Rattle.sizes.specs.Sizes.{wordsOf}
 use Rattle.words.specs.Outcomes as words
 use Rattle.words.specs.Memory.{wordAtByte}
@@ -22,7 +23,7 @@ use Rattle.words.specs.Operators.{leW, boolWord}
 use Rattle.words.specs.Devices.{isDevice, positionOf}
 use Rattle.words.specs.Pages.{readDevice}
 use Rattle.machine.specs.Memory.{Memory, memoryOf, wordsAt}
-use Rattle.machine.specs.Outcomes.{Outcome, ok, fail, stuck, andThen, need, failWhere, Operand, place, value, valued, onPlace, onValue, onWord, wordOf}
+use Rattle.machine.specs.Outcomes.{Outcome, ok, fail, stuck, andThen, need, failWhere, Operand, place, value, text, valued, typed, onPlace, onValue, onTyped, onWord, wordOf}
 use Rattle.machine.specs.Entries.{Unary, unaryAt, Binary, binaryAt, equal, notEqual}
 use Rattle.machine.specs.Variables.{fits}
 use Rattle.machine.specs.Operands.{simple, truth, given, same, deviceWord, unaryValue, ordered, integral, logical, binaryValue}
@@ -53,6 +54,11 @@ unfolding onValue andThen
 first-value (ok x) g h = goes
 first-value (fail k) g h = fails
 
+pub first-typed : (o : Outcome Operand) (g : NodeType → List ℕ → Outcome Operand) → Unstuck (onTyped o g) → Unstuck o
+unfolding onTyped andThen
+first-typed (ok x) g h = goes
+first-typed (fail k) g h = fails
+
 pub first-index : (o : Outcome Operand) (ι : ℕ) (g : ℕ → Outcome Operand) → Unstuck (onWord o ι g) → Unstuck o
 unfolding onWord onValue andThen
 first-index (ok x) ι g h = goes
@@ -65,6 +71,18 @@ pub record Gave (T : Table) (o : Outcome Operand) (τ w : ℕ) : Type 0 where
   pub first : wordOf words ≡ w
   pub long : length words ≡ wordsOf T τ
 
+-- the words us of type κ that an operand comes to, where it is no variable
+pub record Comes (o : Outcome Operand) (κ : NodeType) (us : List ℕ) : Type 0 where
+  pub is : (g : NodeType → List ℕ → Outcome Operand) → onTyped o g ≡ g κ us
+
+pub comes-value : (o : Outcome Operand) (τ : ℕ) (us : List ℕ) → o ≡ ok (value τ us) → Comes o (numbered τ) us
+unfolding onTyped andThen typed
+comes-value o τ us e = record { is = λ g. rw e refl }
+
+pub comes-text : (o : Outcome Operand) (us : List ℕ) → o ≡ ok (text us) → Comes o (string (length us)) us
+unfolding onTyped andThen typed
+comes-text o us e = record { is = λ g. rw e refl }
+
 no-word : {A : Type 0} (w : ℕ) (k : ℕ) → words.word w ≡ words.fail k → A
 no-word w k e = let q : _≡_ {A = ℕ} 0 1 = cc in absurd (omega arith)
 
@@ -74,6 +92,11 @@ module _ (T : Table) (τ : ℕ) where
   gave (ok (value σ ws)) w g h (a-value l) e = record { words = ws; is = refl; first = cc; long = l }
   gave (fail k) w g h a-failure e = no-word w k e
 
+  pub gave-typed : (o : Outcome Operand) (w : ℕ) (g : NodeType → List ℕ → Outcome Operand) → Unstuck (onTyped o g) → OfType T τ o → words.word w ≡ firstWord o → Gave T o τ w
+  unfolding onTyped andThen typed firstWord
+  gave-typed (ok (value σ ws)) w g h (a-value l) e = record { words = ws; is = refl; first = cc; long = l }
+  gave-typed (fail k) w g h a-failure e = no-word w k e
+
   pub place-fits : (a σ : ℕ) → OfType T τ (ok (place a σ)) → fits T a τ ≡ true
   place-fits a σ (a-place e) = e
 
@@ -81,6 +104,7 @@ pub failed : (o : Outcome Operand) (k : ℕ) → words.fail k ≡ firstWord o �
 unfolding firstWord
 failed (ok (place a τ)) k e = no-word 0 k (sym e)
 failed (ok (value τ ws)) k e = no-word (wordOf ws) k (sym e)
+failed (ok (text ws)) k e = no-word 0 k (sym e)
 failed (fail j) k e = cc
 failed stuck k e = no-word 0 k (sym e)
 
@@ -175,12 +199,15 @@ first-unary pg o τ w h =
     h
 
 module _ (T : Table) (τ σ u v : ℕ) where
-  pub first-binary : (o : ℕ) → Unstuck (binaryValue T (binaryAt o) τ (u ∷ []) σ (v ∷ [])) → firstWord (binaryValue T (binaryAt o) τ (u ∷ []) σ (v ∷ [])) ≡ binaryWord o τ u v
-  unfolding binaryValue binaryAt binaryWord relates arithmetic logic wordOf
+  pub first-binary : (o : ℕ) → Unstuck (binaryValue T (binaryAt o) (numbered τ) (u ∷ []) (numbered σ) (v ∷ []))
+      → firstWord (binaryValue T (binaryAt o) (numbered τ) (u ∷ []) (numbered σ) (v ∷ [])) ≡ binaryWord o τ u v
+  unfolding binaryValue binaryAt binaryWord relates arithmetic logic wordOf numberOf
   first-binary o h =
-      binary-cases (λ k. Unstuck (binaryValue T (binaryAt k) τ (u ∷ []) σ (v ∷ [])) → firstWord (binaryValue T (binaryAt k) τ (u ∷ []) σ (v ∷ [])) ≡ binaryWord k τ u v) o
-      (λ a. first-need (matches T τ σ) _ a ∙ (first-truth _ ∙ rw (same-one u v)))
-      (λ a. first-need (matches T τ σ) _ a ∙ (first-truth _ ∙ rw (same-one u v)))
+      binary-cases
+      (λ k. Unstuck (binaryValue T (binaryAt k) (numbered τ) (u ∷ []) (numbered σ) (v ∷ []))
+      → firstWord (binaryValue T (binaryAt k) (numbered τ) (u ∷ []) (numbered σ) (v ∷ [])) ≡ binaryWord k τ u v) o
+      (λ a. first-need (isEqual (matching T (numbered τ) (numbered σ))) _ a ∙ (first-truth _ ∙ rw (same-one u v)))
+      (λ a. first-need (isEqual (matching T (numbered τ) (numbered σ))) _ a ∙ (first-truth _ ∙ rw (same-one u v)))
       (λ a. first-ordered τ σ _ a)
       (λ a. first-ordered τ σ _ a)
       (λ a. first-ordered τ σ _ a)
@@ -192,11 +219,11 @@ module _ (T : Table) (τ σ u v : ℕ) where
       (λ a. first-integral τ σ _ a)
       (λ a. first-logical τ σ _ _ a)
       (λ a. first-logical τ σ _ _ a)
-      (λ e a. no-unstuck _ (ap (λ (z : Binary). binaryValue T z τ (u ∷ []) σ (v ∷ [])) e) a)
+      (λ e a. no-unstuck _ (ap (λ (z : Binary). binaryValue T z (numbered τ) (u ∷ []) (numbered σ) (v ∷ [])) e) a)
       h
 
 -- an operator that compares no values takes their first words alone
-module _ (T : Table) (τ σ : ℕ) (us vs : List ℕ) where
+module _ (T : Table) (τ σ : NodeType) (us vs : List ℕ) where
   pub by-words : (o : ℕ) → (o ≤ 2 → (length us ≡ 1) × (length vs ≡ 1)) → binaryValue T (binaryAt o) τ us σ vs ≡ binaryValue T (binaryAt o) τ (wordOf us ∷ []) σ (wordOf vs ∷ [])
   unfolding binaryValue binaryAt wordOf
   by-words o h =
@@ -218,35 +245,14 @@ module _ (T : Table) (τ σ : ℕ) (us vs : List ℕ) where
       h
 
 -- = and <> of values of any length
-module _ (T : Table) (τ σ : ℕ) (us vs : List ℕ) where
+module _ (T : Table) (τ σ : NodeType) (us vs : List ℕ) where
   pub first-equal : Unstuck (binaryValue T (binaryAt 1) τ us σ vs) → firstWord (binaryValue T (binaryAt 1) τ us σ vs) ≡ words.word (boolWord (same us vs))
   unfolding binaryValue binaryAt
-  first-equal a = first-need (matches T τ σ) _ a ∙ first-truth _
+  first-equal a = first-need (isEqual (matching T τ σ)) _ a ∙ first-truth _
 
   pub first-unequal : Unstuck (binaryValue T (binaryAt 2) τ us σ vs) → firstWord (binaryValue T (binaryAt 2) τ us σ vs) ≡ words.word (boolWord (bool.not (same us vs)))
   unfolding binaryValue binaryAt
-  first-unequal a = first-need (matches T τ σ) _ a ∙ first-truth _
-
-  -- the operands of = and <> match
-  pub equal-match : (o : ℕ) → o ≤ 2 → Unstuck (binaryValue T (binaryAt o) τ us σ vs) → matches T τ σ ≡ true
-  unfolding binaryValue binaryAt
-  equal-match o l a =
-      binary-cases (λ k. k ≤ 2 → Unstuck (binaryValue T (binaryAt k) τ us σ vs) → matches T τ σ ≡ true) o
-      (λ g b. through (matches T τ σ) _ b)
-      (λ g b. through (matches T τ σ) _ b)
-      (λ g b. absurd (omega arith))
-      (λ g b. absurd (omega arith))
-      (λ g b. absurd (omega arith))
-      (λ g b. absurd (omega arith))
-      (λ g b. absurd (omega arith))
-      (λ g b. absurd (omega arith))
-      (λ g b. absurd (omega arith))
-      (λ g b. absurd (omega arith))
-      (λ g b. absurd (omega arith))
-      (λ g b. absurd (omega arith))
-      (λ g b. absurd (omega arith))
-      (λ e g b. no-unstuck _ (ap (λ (z : Binary). binaryValue T z τ us σ vs) e) b)
-      l a
+  first-unequal a = first-need (isEqual (matching T τ σ)) _ a ∙ first-truth _
 
 -- index values are in order as their offsets are
 same-leb : (a b c d : ℕ) → (a ≤ b → c ≤ d) → (b < a → d < c) → leb a b ≡ leb c d

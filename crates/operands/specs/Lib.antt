@@ -4,3 +4,4 @@ pub mod Operators
 pub mod Ready
 pub mod Packed
 pub mod Bases
+pub mod Sources

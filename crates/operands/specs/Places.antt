@@ -51,7 +51,7 @@ pub record Rooms (s : List ℕ) (a b n : ℕ) : Type 0 where
   pub first : a + n ≤ locations
   pub second : b + n ≤ locations
 
--- the first i of n words at a and b are the same
-pub record Matched (m : Memory) (a b n i : ℕ) : Type 0 where
+-- the first i of n words from a on and from b on are the same
+pub record Matched (f g : Memory) (a b n i : ℕ) : Type 0 where
   pub upto : i ≤ n
-  pub rest : same (wordsAt m (a + i) (n - i)) (wordsAt m (b + i) (n - i)) ≡ same (wordsAt m a n) (wordsAt m b n)
+  pub rest : same (wordsAt f (a + i) (n - i)) (wordsAt g (b + i) (n - i)) ≡ same (wordsAt f a n) (wordsAt g b n)

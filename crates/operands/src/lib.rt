@@ -5,6 +5,7 @@ pub mod eval;
 pub mod operators;
 pub mod packed;
 pub mod places;
+pub mod sources;
 
 // A location, or the failure of the step.
 pub enum Place {

@@ -24,12 +24,13 @@ ghost use Rattle.machine.specs.Outcomes.{ok, failWhere, place};
 ghost use Rattle.machine.specs.Operands.{outside, same};
 ghost use Rattle.machine.specs.Layout.{stateSize, locations};
 ghost use Rattle.code.specs.Code.{decoded};
+ghost use Rattle.operands.specs.Answers.{single};
 ghost use Rattle.operands.specs.Bases.{contextAt, Based};
 ghost use Rattle.operands.specs.Packed.{PlaceIs, WordIs, valueAt};
 ghost use Rattle.operands.specs.Places.{wholeAt, elementAt, Rooms};
-ghost use Rattle.operands.specs.Ready.{Naming, Fielded, Sized, Indexed, Valued};
+ghost use Rattle.operands.specs.Ready.{Naming, Fielded, Sized, Indexed, Valued, Counted};
 
-fn wide(x: u16) -> usize
+pub fn wide(x: u16) -> usize
     ensures { λ r. ⌜ Field x r ⌝ }
 {
     x as usize
@@ -48,7 +49,7 @@ pub fn value_at(state: &[u8], a: usize) -> u32
     requires { ⌜ (length (now state) ≡ stateSize) × (a < locations) ⌝ }
     ensures { λ r. ⌜ WordIs (valueAt (memoryOf (now (state .entry))) a) r ⌝ }
 {
-    if machine::marks::is_marked(state, a) {
+    if marks::is_marked(state, a) {
         return long(word_at(state, a));
     }
     UNSET
@@ -116,6 +117,14 @@ pub fn node_words(c: &code::Slots, n: usize) -> usize
     ensures { λ r. ⌜ (r ≡ wordsOf (decoded (now (c .entry))) (typeOf (decoded (now (c .entry))) n)) × (r ≤ 200) ⌝ }
 {
     words_of(c, code::type_of(c, n))
+}
+
+// The value of node n has one word, and is no text: the type of a string constant has no number, and so no words here.
+pub fn is_single(c: &code::Slots, n: usize) -> bool
+    requires { ⌜ Counted (now c) n ⌝ }
+    ensures { λ r. ⌜ r ≡ single (decoded (now (c .entry))) n ⌝ }
+{
+    code::words_of(c, code::type_of(c, n)) == 1
 }
 
 // The element with index value i of an array of type y at location a (8.5), as one number.

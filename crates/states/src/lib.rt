@@ -53,7 +53,7 @@ fn fill_marks(state: &mut [u8], w: u16)
 {
     let mut k: usize = 0;
     while k < 1024 {
-        machine::set_word(state, machine::marks::MARKS + k, w);
+        machine::set_word(state, marks::MARKS + k, w);
         k += 1;
     }
 }
@@ -189,7 +189,7 @@ fn word_there(state: &[u8], a: usize) -> u32
     requires { ⌜ a < locations ⌝ }
     ensures { λ r. ⌜ r ≡ wordThere (memoryOf (now (state .entry))) a ⌝ }
 {
-    if machine::marks::is_marked(state, a) {
+    if marks::is_marked(state, a) {
         return 65536 + machine::word_of(state, a) as u32;
     }
     32

@@ -1,16 +1,17 @@
 -- Assignments that are not stuck (11.2): what each call may ask, and each return. Assumes nothing.
 use Prim.Native.Nat.{ℕ, _+_, _<_, _≤_}
 use mathlib.Core.Path.{_≡_, refl, sym, ap, subst, _∙_}
-use mathlib.Core.Bool.{true}
+use mathlib.Core.Bool.{Bool, true, false}
 use mathlib.Core.List.{List, [], _∷_}
 use lib.ListN.{length}
 use native.Mathlib.Nat.{add-zero}
 use native.Mathlib.Omega.{arith}
-use Rattle.table.specs.Entries.{nodeCount, nodeP, stmtKind, stmtA, stmtB}
-use Rattle.types.specs.Types.{typeOf}
-use Rattle.types.specs.Match.{matches}
+use Rattle.table.specs.Entries.{nodeCount, nodeKind, nodeP, nodeQ, stmtKind, stmtA, stmtB}
+use Rattle.types.specs.Types.{NodeType, numbered, evened, typeOf}
+use Rattle.types.specs.Match.{matching, isEqual}
 use Rattle.sizes.specs.Sizes.{wordsOf}
 use Rattle.numbers.proofs.OperandPromise.{assign-variable, assign-value}
+use Rattle.typing.proofs.Promise.{assignment}
 use Rattle.words.specs.Values.{failureNumber, outcomeOf}
 use Rattle.words.specs.declared.values.Failure.{Failure}
 use Rattle.words.specs.declared.values.Value.{Value}
@@ -19,7 +20,8 @@ use Rattle.machine.specs.Memory.{Memory, memoryOf, update, store, wordsAt}
 use Rattle.machine.specs.Layout.{statementAt, failureAt, locations}
 use Rattle.machine.specs.Lent.{State, Becomes}
 use Rattle.machine.specs.Marks.{mark}
-use Rattle.machine.specs.Outcomes.{ok, fail, stuck, need, place, value, onValue}
+use Rattle.machine.specs.Outcomes.{ok, fail, stuck, need, place, value, text, onTyped}
+use Rattle.machine.specs.Texts.{textAt}
 use Rattle.machine.specs.Entries.{stmtAt}
 use Rattle.machine.specs.Variables.{fits}
 use Rattle.machine.specs.Places.{SameOrApart}
@@ -30,19 +32,21 @@ use Rattle.code.specs.Code.{decoded}
 use Rattle.operands.specs.declared.Context.{Context}
 use Rattle.operands.specs.declared.Place.{Place}
 use Rattle.operands.specs.declared.Place.the-variants as place
-use Rattle.operands.specs.Answers.{selected, firstWord, OneWord, Retrieval, Retrieved}
-use Rattle.operands.specs.Ready.{contextIn, Ready, Valued}
-use Rattle.operands.proofs.Lending.{expression-valued}
-use Rattle.operands.proofs.OneWords.{one-few}
+use Rattle.operands.specs.Answers.{selected, firstWord, single, OneWord, Retrieval, Retrieved}
+use Rattle.operands.specs.Ready.{contextIn, Ready, Valued, Counted}
+use Rattle.operands.proofs.Lending.{expression-valued, expression-counted}
+use Rattle.operands.proofs.Nodes.{is-string}
+use Rattle.operands.proofs.OneWords.{one-true}
 use Rattle.operands.proofs.Typed.{OfType, typed-variable, typed-expression}
-use Rattle.operands.proofs.TypeWords.{some-words, match-words}
-use Rattle.operands.proofs.Yielding.{place-fits, failed, single}
+use Rattle.operands.proofs.TypeWords.{match-words, match-nodes, words-constant, words-numbered}
+use Rattle.operands.proofs.Yielding.{place-fits, failed}
+use Rattle.operands.proofs.Yielding as yielding
 use Rattle.operands.proofs.Selecting.{out, Sel, fits-low, fits-high}
 use Rattle.operands.proofs.Evaluating.{Ev, only-retrieval, got-type, got-failed, got-fits, got-place, got-value}
 use Rattle.effects.specs.Effects.{carried, Stepped, Standing}
 use Rattle.effects.proofs.Carrying.{performs-assign}
 use Rattle.transfers.specs.Assignments.{Assigning, Copying, copied}
-use Rattle.transfers.proofs.Following.{apart, need-true, need-done, place-failed, place-goes, place-unstuck, value-failed, value-goes, value-unstuck, value-gave}
+use Rattle.transfers.proofs.Following.{apart, need-true, need-done, place-failed, place-goes, place-unstuck, typed-failed, typed-goes, typed-reads, typed-unstuck, typed-gave}
 use Rattle.transfers.proofs.Steps.{goes-on, stands-there, stands-below, stands-bounds, stands-lent, stands-fail, stands-done}
 
 -- ---- the laws of `copy`
@@ -121,7 +125,7 @@ module _ (t m p : List ℕ) (x : Context) (i : ℕ) (c : Assigning t m p x i) wh
 
   -- the value, then the test that it matches
   then : perform (decoded t) (memoryOf m) (memoryOf p) (contextIn x) (stmtAt (decoded t) (x .statement))
-      ≡ onValue (out t m p x (stmtB (decoded t) (x .statement))) (λ σ ws. need (matches (decoded t) (typeOf (decoded t) (stmtA (decoded t) (x .statement))) σ) (goOn (decoded t) (memoryOf m) (memoryOf p) (contextIn x) (mark (store (memoryOf m) i ws) i (length ws))))
+      ≡ onTyped (out t m p x (stmtB (decoded t) (x .statement))) (λ κ ws. need (isEqual (matching (decoded t) (numbered (typeOf (decoded t) (stmtA (decoded t) (x .statement)))) κ)) (goOn (decoded t) (memoryOf m) (memoryOf p) (contextIn x) (mark (store (memoryOf m) i ws) i (length ws))))
   unfolding doAssign
   then = does t m p x (c .standing) (c .kind) ∙ place-goes _ _ i _ (c .target)
 
@@ -129,79 +133,114 @@ module _ (t m p : List ℕ) (x : Context) (i : ℕ) (c : Assigning t m p x i) wh
   value-there =
       record {
         expression = assign-value (decoded t) (c .standing .ready .ranged) (x .statement) (stands-there t m p x (c .standing)) (c .kind);
-        unstuck = value-unstuck _ _ (apart _ _ then (c .standing .unstuck));
+        unstuck = typed-unstuck _ _ (apart _ _ then (c .standing .unstuck));
       }
+
+  -- words ws, of type κ
+  stores : (κ : NodeType) (ws : List ℕ)
+      → perform (decoded t) (memoryOf m) (memoryOf p) (contextIn x) (stmtAt (decoded t) (x .statement))
+      ≡ need (isEqual (matching (decoded t) (numbered (typeOf (decoded t) (stmtA (decoded t) (x .statement)))) κ)) (goOn (decoded t) (memoryOf m) (memoryOf p) (contextIn x) (mark (store (memoryOf m) i ws) i (length ws)))
+      → perform (decoded t) (memoryOf m) (memoryOf p) (contextIn x) (stmtAt (decoded t) (x .statement))
+      ≡ ok (effect 0 (update (mark (store (memoryOf m) i ws) i (length ws)) (statementAt (x .process)) (x .statement + 1)) (memoryOf p))
+  stores κ ws e =
+      e ∙ (need-done _ _ (apart _ _ e (c .standing .unstuck)) ∙ goes-on (decoded t) (memoryOf m) (memoryOf p) (mark (store (memoryOf m) i ws) i (length ws)) x)
 
   -- a value of words ws
   module _ (ws : List ℕ) (e : out t m p x (stmtB (decoded t) (x .statement)) ≡ ok (value (typeOf (decoded t) (stmtB (decoded t) (x .statement))) ws)) where
     tests : perform (decoded t) (memoryOf m) (memoryOf p) (contextIn x) (stmtAt (decoded t) (x .statement))
-        ≡ need (matches (decoded t) (typeOf (decoded t) (stmtA (decoded t) (x .statement))) (typeOf (decoded t) (stmtB (decoded t) (x .statement)))) (goOn (decoded t) (memoryOf m) (memoryOf p) (contextIn x) (mark (store (memoryOf m) i ws) i (length ws)))
-    tests = then ∙ value-goes _ _ _ ws e
+        ≡ need (isEqual (matching (decoded t) (numbered (typeOf (decoded t) (stmtA (decoded t) (x .statement)))) (numbered (typeOf (decoded t) (stmtB (decoded t) (x .statement)))))) (goOn (decoded t) (memoryOf m) (memoryOf p) (contextIn x) (mark (store (memoryOf m) i ws) i (length ws)))
+    tests = then ∙ typed-goes _ _ _ ws e
 
     same-words : wordsOf (decoded t) (typeOf (decoded t) (stmtA (decoded t) (x .statement))) ≡ wordsOf (decoded t) (typeOf (decoded t) (stmtB (decoded t) (x .statement)))
-    same-words =
-        match-words (decoded t) (typeOf (decoded t) (stmtA (decoded t) (x .statement))) (typeOf (decoded t) (stmtB (decoded t) (x .statement)))
-        (need-true _ _ (apart _ _ tests (c .standing .unstuck)))
+    same-words = match-words (decoded t) (typeOf (decoded t) (stmtA (decoded t) (x .statement))) (typeOf (decoded t) (stmtB (decoded t) (x .statement))) (need-true _ _ (apart _ _ tests (c .standing .unstuck)))
 
-    stores : perform (decoded t) (memoryOf m) (memoryOf p) (contextIn x) (stmtAt (decoded t) (x .statement))
+    keeps : perform (decoded t) (memoryOf m) (memoryOf p) (contextIn x) (stmtAt (decoded t) (x .statement))
         ≡ ok (effect 0 (update (mark (store (memoryOf m) i ws) i (length ws)) (statementAt (x .process)) (x .statement + 1)) (memoryOf p))
-    stores =
-        tests ∙ (need-done _ _ (apart _ _ tests (c .standing .unstuck)) ∙ goes-on (decoded t) (memoryOf m) (memoryOf p) (mark (store (memoryOf m) i ws) i (length ws)) x)
+    keeps = stores (numbered (typeOf (decoded t) (stmtB (decoded t) (x .statement)))) ws tests
 
   module _ (b : ℕ) (hb : b ≡ stmtB (decoded t) (x .statement)) where
     pub assigning-evaluable : Ev t m p x b
     assigning-evaluable = rw hb value-there
 
-    pub assigning-valued : Valued t b
-    assigning-valued = rw hb (expression-valued t m p x (c .standing .ready) _ (value-there .expression))
+    pub assigning-counted : Counted t b
+    assigning-counted = rw hb (expression-counted t m p x (c .standing .ready) _ (value-there .expression))
 
-    pub assigning-several : (n : ℕ) → n ≡ wordsOf (decoded t) (typeOf (decoded t) b) → 1 < n
-        → 1 < wordsOf (decoded t) (typeOf (decoded t) (stmtB (decoded t) (x .statement)))
-    assigning-several n hn l = rw (← hb, ← hn) l
+    module _ (r : Bool) (hr : r ≡ single (decoded t) b) where
+      pub assigning-one : r ≡ true → OneWord (decoded t) (stmtB (decoded t) (x .statement))
+      assigning-one e = rw (← hb) (one-true (decoded t) b (sym hr ∙ e))
 
-    pub assigning-one : (n : ℕ) → n ≡ wordsOf (decoded t) (typeOf (decoded t) b) → n ≤ 1 → OneWord (decoded t) b
-    assigning-one n hn l = one-few t m p x (c .standing .ready) b (assigning-evaluable .expression) n hn l
+      module _ (k : ℕ) (hk : k ≡ nodeKind (decoded t) b) where
+        pub assigning-text : k ≡ 8 → nodeKind (decoded t) (stmtB (decoded t) (x .statement)) ≡ 8
+        assigning-text e = rw (← hb, ← hk) e
+
+        pub assigning-words : r ≡ false → (k ≡ 8 → ⊥) → nodeKind (decoded t) (stmtB (decoded t) (x .statement)) ≡ 4
+        assigning-words e n =
+            only-retrieval (decoded t) (nodeCount (decoded t)) (stmtB (decoded t) (x .statement)) (c .standing .ready .ranged)
+            (c .standing .ready .typed) (value-there .expression .below) (value-there .expression) (rw hb at (sym hr ∙ e)) (λ g. n (hk ∙ rw hb g))
+
+  -- ---- the laws of `assign_word`
+
+  module _ (o : OneWord (decoded t) (stmtB (decoded t) (x .statement))) (b : ℕ) (hb : b ≡ stmtB (decoded t) (x .statement)) where
+    pub word-one : OneWord (decoded t) b
+    word-one = rw hb o
 
     module _ (v : Value) (hv : outcomeOf v ≡ firstWord (out t m p x b)) where
-      pub assigning-fails : (e : Failure) (r : ℕ) (s1 : List ℕ) → v ≡ Fail e → r ≡ failureNumber e
+      pub word-fails : (e : Failure) (r : ℕ) (s1 : List ℕ) → v ≡ Fail e → r ≡ failureNumber e
           → Becomes s1 (update (memoryOf m) failureAt (failureNumber e))
           → Stepped r s1 p (carried (decoded t) (memoryOf m) (memoryOf p) (contextIn x))
-      assigning-fails e r s1 g k d =
+      word-fails e r s1 g k d =
           let q : out t m p x (stmtB (decoded t) (x .statement)) ≡ fail (failureNumber e) = rw hb at (failed _ _ (rw g at hv)) in
-          stands-fail t m p x (c .standing) (failureNumber e) r s1 (then ∙ value-failed _ _ (failureNumber e) q) k d
+          stands-fail t m p x (c .standing) (failureNumber e) r s1 (then ∙ typed-failed _ _ (failureNumber e) q) k d
 
-      pub assigning-returns : (n w : ℕ) (s1 s2 : List ℕ) → n ≡ wordsOf (decoded t) (typeOf (decoded t) b) → n ≤ 1 → v ≡ Word w
+      pub word-returns : (w : ℕ) (s1 s2 : List ℕ) → v ≡ Word w
           → Becomes s1 (mark (update (memoryOf m) i w) i 1) → Becomes s2 (update (memoryOf s1) (statementAt (x .process)) (x .statement + 1))
           → Stepped 0 s2 p (carried (decoded t) (memoryOf m) (memoryOf p) (contextIn x))
-      assigning-returns n w s1 s2 hn l g d₁ d₂ =
-          let q = typed-expression (decoded t) (memoryOf m) (memoryOf p) (contextIn x) (c .standing .ready .ranged) (stmtB (decoded t) (x .statement)) (value-there .expression) in
-          let j = value-gave (decoded t) (typeOf (decoded t) (stmtB (decoded t) (x .statement))) (out t m p x (stmtB (decoded t) (x .statement))) _ w (apart _ _ then (c .standing .unstuck)) q (rw (g, hb) at hv) in
-          let u = expression-valued t m p x (c .standing .ready) _ (value-there .expression) in
-          let k = some-words (decoded t) (c .standing .ready .ranged) (c .standing .ready .sized) (typeOf (decoded t) (stmtB (decoded t) (x .statement))) (u .type .there) in
-          let one : length (j .words) ≡ 1 = one-of (length (j .words)) (wordsOf (decoded t) (typeOf (decoded t) (stmtB (decoded t) (x .statement)))) n (j .long) (hn ∙ rw hb) l k in
-          let only : j .words ≡ w ∷ [] = single (j .words) one ∙ rw (j .first) in
+      word-returns w s1 s2 g d₁ d₂ =
+          let q = typed-expression (decoded t) (memoryOf m) (memoryOf p) (contextIn x) (c .standing .ready .ranged) (stmtB (decoded t) (x .statement)) (value-there .expression) (o .numbered) in
+          let j = typed-gave (decoded t) (typeOf (decoded t) (stmtB (decoded t) (x .statement))) (out t m p x (stmtB (decoded t) (x .statement))) _ w (apart _ _ then (c .standing .unstuck)) q (rw (g, hb) at hv) in
+          let only : j .words ≡ w ∷ [] = yielding.single (j .words) (j .long ∙ o .is) ∙ rw (j .first) in
           stands-done t m p x (c .standing) 0 s2 (update (mark (update (memoryOf m) i w) i 1) (statementAt (x .process)) (x .statement + 1))
-          (stores (j .words) (j .is) ∙ rw (only, store-one (memoryOf m) i w))
+          (keeps (j .words) (j .is) ∙ rw (only, store-one (memoryOf m) i w))
           (record { long = d₂ .long; is = d₂ .is ∙ rw (d₁ .is) })
-        where
-          one-of : (a b n : ℕ) → a ≡ b → n ≡ b → n ≤ 1 → 1 ≤ b → a ≡ 1
-          one-of a b n e g l k = omega arith
+
+  -- ---- the laws of `assign_text`
+
+  module _ (k : nodeKind (decoded t) (stmtB (decoded t) (x .statement)) ≡ 8) (b : ℕ) (hb : b ≡ stmtB (decoded t) (x .statement)) where
+    -- the variable has as many words as the constant has characters
+    text-words : wordsOf (decoded t) (typeOf (decoded t) (stmtA (decoded t) (x .statement))) ≡ evened (nodeQ (decoded t) (stmtB (decoded t) (x .statement)))
+    text-words =
+        let v = variable-there t m p x (c .standing) (c .kind) .variable in
+        let e = match-nodes (decoded t) (stmtA (decoded t) (x .statement)) (stmtB (decoded t) (x .statement)) (assignment (decoded t) (c .standing .ready .typed) (x .statement) (stands-there t m p x (c .standing)) (c .kind)) in
+        sym (words-numbered (decoded t) (stmtA (decoded t) (x .statement)) (λ g. let h = v .high in omega arith)) ∙ (e ∙ words-constant (decoded t) (stmtB (decoded t) (x .statement)) k)
+
+    module _ (v : ℕ) (hv : v ≡ nodeQ (decoded t) b) where
+      pub text-fits : i + evened v ≤ locations
+      text-fits = rw (hv, hb, ← text-words) (fits-high (decoded t) i (typeOf (decoded t) (stmtA (decoded t) (x .statement))) target-fits)
+
+      module _ (u : ℕ) (hu : u ≡ nodeP (decoded t) b) where
+        found-text : out t m p x (stmtB (decoded t) (x .statement)) ≡ ok (text (textAt (decoded t) u v))
+        found-text = is-string (decoded t) (memoryOf m) (memoryOf p) (contextIn x) (stmtB (decoded t) (x .statement)) (value-there .expression .below) k ∙ rw (hu, hv, hb)
+
+        pub text-returns : (s1 s2 : List ℕ)
+            → Becomes s1 (mark (store (memoryOf m) i (textAt (decoded t) u v)) i (length (textAt (decoded t) u v)))
+            → Becomes s2 (update (memoryOf s1) (statementAt (x .process)) (x .statement + 1))
+            → Stepped 0 s2 p (carried (decoded t) (memoryOf m) (memoryOf p) (contextIn x))
+        text-returns s1 s2 d₁ d₂ =
+            stands-done t m p x (c .standing) 0 s2 _ (stores _ (textAt (decoded t) u v) (then ∙ typed-reads _ _ _ found-text))
+            (record { long = d₂ .long; is = d₂ .is ∙ rw (d₁ .is) })
 
   -- ---- the laws of `assign_words`
 
-  module _ (w : 1 < wordsOf (decoded t) (typeOf (decoded t) (stmtB (decoded t) (x .statement)))) where
+  module _ (k : nodeKind (decoded t) (stmtB (decoded t) (x .statement)) ≡ 4) where
     is-retrieval : Retrieval (decoded t) (memoryOf m) (memoryOf p) (contextIn x) (stmtB (decoded t) (x .statement))
-    is-retrieval =
-        record {
-          evaluable = value-there;
-          kind =
-              only-retrieval (decoded t) (nodeCount (decoded t)) (stmtB (decoded t) (x .statement)) (c .standing .ready .ranged)
-              (c .standing .ready .typed) (value-there .expression .below) (value-there .expression) w;
-        }
+    is-retrieval = record { evaluable = value-there; kind = k }
 
     module _ (b : ℕ) (hb : b ≡ stmtB (decoded t) (x .statement)) where
       pub words-retrieval : Retrieval (decoded t) (memoryOf m) (memoryOf p) (contextIn x) b
       words-retrieval = rw hb is-retrieval
+
+      pub words-valued : Valued t b
+      words-valued = rw hb (expression-valued t m p x (c .standing .ready) _ (value-there .expression) (λ e. omega arith))
 
       module _ (l : Place) (hl : Retrieved (decoded t) (memoryOf m) (memoryOf p) (contextIn x) b l) where
         here : Retrieved (decoded t) (memoryOf m) (memoryOf p) (contextIn x) (stmtB (decoded t) (x .statement)) l
@@ -210,9 +249,9 @@ module _ (t m p : List ℕ) (x : Context) (i : ℕ) (c : Assigning t m p x i) wh
         pub words-fails : (e : Failure) (r : ℕ) (s1 : List ℕ) → l ≡ place.Fail e → r ≡ failureNumber e
             → Becomes s1 (update (memoryOf m) failureAt (failureNumber e))
             → Stepped r s1 p (carried (decoded t) (memoryOf m) (memoryOf p) (contextIn x))
-        words-fails e r s1 g k d =
+        words-fails e r s1 g h d =
             stands-fail t m p x (c .standing) (failureNumber e) r s1
-            (then ∙ value-failed _ _ (failureNumber e) (got-failed t m p x (c .standing .ready) _ is-retrieval l here e g)) k d
+            (then ∙ typed-failed _ _ (failureNumber e) (got-failed t m p x (c .standing .ready) _ is-retrieval l here e g)) h d
 
         module _ (j n : ℕ) (g : l ≡ place.At j) (hn : n ≡ wordsOf (decoded t) (typeOf (decoded t) b)) where
           count : n ≡ wordsOf (decoded t) (typeOf (decoded t) (stmtB (decoded t) (x .statement)))
@@ -249,6 +288,6 @@ module _ (t m p : List ℕ) (x : Context) (i : ℕ) (c : Assigning t m p x i) wh
               → Stepped 0 s1 p (carried (decoded t) (memoryOf m) (memoryOf p) (contextIn x))
           unfolding copied
           words-returns s1 d =
-              stands-done t m p x (c .standing) 0 s1 _ (rw (length-words (memoryOf m) j n) at (stores (wordsAt (memoryOf m) j n) found)) d
+              stands-done t m p x (c .standing) 0 s1 _ (rw (length-words (memoryOf m) j n) at (keeps (wordsAt (memoryOf m) j n) found)) d
 
-pub ruleset assigns = (assign-selectable, assign-fails, assign-target, assigning-ready, assigning-lent, assigning-bounds, assigning-low, assigning-evaluable, assigning-one, assigning-valued, assigning-several, assigning-fails, assigning-returns, words-retrieval, words-fails, words-copying, words-returns)
+pub ruleset assigns = (assign-selectable, assign-fails, assign-target, assigning-ready, assigning-lent, assigning-bounds, assigning-low, assigning-evaluable, assigning-counted, assigning-one, assigning-text, assigning-words, word-one, word-fails, word-returns, text-fits, text-returns, words-retrieval, words-valued, words-fails, words-copying, words-returns)

@@ -32,7 +32,7 @@ use Rattle.operands.specs.declared.Place.{Place}
 use Rattle.operands.specs.declared.Place.the-variants as place
 use Rattle.operands.specs.Answers.{selected, Unstuck, goes, fails, Selectable}
 use Rattle.operands.specs.Ready.{contextIn, Ready}
-use Rattle.operands.proofs.TypeWords.{declares}
+use Rattle.types.proofs.Matching.{declared-from}
 use Rattle.operands.proofs.Typed.{OfType, a-place, a-value, a-failure, a-stuck, typed-variable}
 use Rattle.operands.proofs.Selecting.{fits-low}
 use Rattle.transfers.specs.declared.Reference.{Reference}
@@ -47,7 +47,7 @@ module _ (T : Table) (τ : ℕ) where
   pub entry-process : typeKind T τ ≡ 3 → typeAt T τ ≡ processType (typeP T τ)
   unfolding typeAt
   entry-process e =
-      let l = declares T τ 3 e (omega arith) in
+      let l = declared-from T τ 3 e (omega arith) in
       rw (ne-eqb τ 0 (λ q. omega arith), ne-eqb τ 1 (λ q. omega arith), ne-eqb τ 2 (λ q. omega arith), e)
 
   -- of another kind there is no module

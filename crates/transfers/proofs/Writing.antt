@@ -11,7 +11,7 @@ use Rattle.table.specs.Table.{Table}
 use Rattle.table.specs.Entries.{stmtKind, stmtA, stmtB}
 use Rattle.types.specs.Types.{typeOf}
 use Rattle.numbers.proofs.OperandPromise.{write-address, write-value}
-use Rattle.typing.proofs.Promise.{written-address, written-value}
+use Rattle.typing.proofs.Promise.{written-address, written-value, address-numbered, written-numbered}
 use Rattle.words.specs.Memory.{putAtByte, putWord}
 use Rattle.words.specs.Numbers.{intOf}
 use Rattle.words.specs.Devices.{isDevice, positionOf}
@@ -167,7 +167,8 @@ module _ (t m p : List ℕ) (x : Context) (i : ℕ) (c : Writing t m p x i) wher
       d
       ∙ word-goes (decoded t) (typeOf (decoded t) (stmtA (decoded t) (x .statement))) _ _ i (apart _ _ d (c .standing .unstuck))
       (typed-expression (decoded t) (memoryOf m) (memoryOf p) (contextIn x) (c .standing .ready .ranged) (stmtA (decoded t) (x .statement))
-      (address-there t m p x (c .standing) (c .kind) .expression))
+      (address-there t m p x (c .standing) (c .kind) .expression)
+      (address-numbered (decoded t) (c .standing .ready .typed) (x .statement) (stands-there t m p x (c .standing)) (c .kind)))
       (c .address)
 
   value-there : Ev t m p x (stmtB (decoded t) (x .statement))
@@ -202,7 +203,8 @@ module _ (t m p : List ℕ) (x : Context) (i : ℕ) (c : Writing t m p x i) wher
       unfolding carried contextIn
       writing-returns w r s1 d1 g d =
           let e = then ∙ word-goes (decoded t) (typeOf (decoded t) (stmtB (decoded t) (x .statement))) _ _ w (apart _ _ then (c .standing .unstuck))
-          (typed-expression (decoded t) (memoryOf m) (memoryOf p) (contextIn x) (c .standing .ready .ranged) (stmtB (decoded t) (x .statement)) (value-there .expression))
+          (typed-expression (decoded t) (memoryOf m) (memoryOf p) (contextIn x) (c .standing .ready .ranged) (stmtB (decoded t) (x .statement)) (value-there .expression)
+          (written-numbered (decoded t) (c .standing .ready .typed) (x .statement) (stands-there t m p x (c .standing)) (c .kind)))
           (rw (g, hb) at hv) in
           rw (← e) at d
 

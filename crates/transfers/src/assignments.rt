@@ -1,19 +1,19 @@
 // Assignments (11.2): the variable is selected, then the value is found, then its words are stored.
+use code::kinds;
 use operands::Context;
 use operands::Place;
 use operands::eval::eval;
 use operands::eval::retrieve_place;
 use operands::eval::select;
+use operands::places::is_single;
 use operands::places::node_words;
 use words::values::Value;
 ghost use mathlib.Core.Path.{_≡_};
-ghost use Prim.Native.Nat.{_<_};
-ghost use Rattle.table.specs.Entries.{stmtKind, stmtB};
-ghost use Rattle.types.specs.Types.{typeOf};
-ghost use Rattle.sizes.specs.Sizes.{wordsOf};
+ghost use Rattle.table.specs.Entries.{nodeKind, stmtKind, stmtB};
 ghost use Rattle.machine.specs.Memory.{memoryOf};
 ghost use Rattle.machine.specs.Lent.{State, Becomes};
 ghost use Rattle.code.specs.Code.{decoded};
+ghost use Rattle.operands.specs.Answers.{OneWord};
 ghost use Rattle.operands.specs.Ready.{contextIn};
 ghost use Rattle.effects.specs.Effects.{carried, Stepped, Standing};
 ghost use Rattle.transfers.specs.Assignments.{Assigning, Copying, copied};
@@ -28,10 +28,10 @@ fn copy(state: &mut [u8], x: Context, from: usize, to: usize, n: usize)
     effects::go_on(state, x);
 }
 
-// A value of several words is that of a variable (8.7), all of whose words must be marked (02, g).
+// The value of a variable (8.7), all of whose words must be marked (02, g).
 fn assign_words(c: &code::Slots, state: &mut [u8], page: &[u8], x: Context, i: usize) -> u8
     requires { ⌜ Assigning (now c) (now state) (now page) x i ⌝ }
-    requires { ⌜ 1 < wordsOf (decoded (now c)) (typeOf (decoded (now c)) (stmtB (decoded (now c)) (x .statement))) ⌝ }
+    requires { ⌜ nodeKind (decoded (now c)) (stmtB (decoded (now c)) (x .statement)) ≡ 4 ⌝ }
     ensures { λ r. ⌜ Stepped r (now (state .exit)) (now (page .entry)) (carried (decoded (now (c .entry))) (memoryOf (now (state .entry))) (memoryOf (now (page .entry))) (contextIn x)) ⌝ }
 {
     let b = code::stmt_b(c, x.statement);
@@ -46,15 +46,27 @@ fn assign_words(c: &code::Slots, state: &mut [u8], page: &[u8], x: Context, i: u
     }
 }
 
-// The value, to location i.
-fn assign_at(c: &code::Slots, state: &mut [u8], page: &[u8], x: Context, i: usize) -> u8
+// A string constant (02, b). The page is left what it is.
+fn assign_text(c: &code::Slots, state: &mut [u8], page: &[u8], x: Context, i: usize) -> u8
     requires { ⌜ Assigning (now c) (now state) (now page) x i ⌝ }
+    requires { ⌜ nodeKind (decoded (now c)) (stmtB (decoded (now c)) (x .statement)) ≡ 8 ⌝ }
     ensures { λ r. ⌜ Stepped r (now (state .exit)) (now (page .entry)) (carried (decoded (now (c .entry))) (memoryOf (now (state .entry))) (memoryOf (now (page .entry))) (contextIn x)) ⌝ }
 {
     let b = code::stmt_b(c, x.statement);
-    if 1 < node_words(c, b) {
-        return assign_words(c, state, page, x, i);
-    }
+    let p = code::node_p(c, b);
+    let q = code::node_q(c, b);
+    frames::assign_text(c, state, i, p, q);
+    effects::go_on(state, x);
+    0
+}
+
+// A value of one word.
+fn assign_word(c: &code::Slots, state: &mut [u8], page: &[u8], x: Context, i: usize) -> u8
+    requires { ⌜ Assigning (now c) (now state) (now page) x i ⌝ }
+    requires { ⌜ OneWord (decoded (now c)) (stmtB (decoded (now c)) (x .statement)) ⌝ }
+    ensures { λ r. ⌜ Stepped r (now (state .exit)) (now (page .entry)) (carried (decoded (now (c .entry))) (memoryOf (now (state .entry))) (memoryOf (now (page .entry))) (contextIn x)) ⌝ }
+{
+    let b = code::stmt_b(c, x.statement);
     let v = eval(c, state, page, x, b);
     match v {
         Value::Fail(f) => effects::fail(state, f),
@@ -64,6 +76,21 @@ fn assign_at(c: &code::Slots, state: &mut [u8], page: &[u8], x: Context, i: usiz
             0
         }
     }
+}
+
+// The value, to location i: one of several words is a string constant or that of a variable.
+fn assign_at(c: &code::Slots, state: &mut [u8], page: &[u8], x: Context, i: usize) -> u8
+    requires { ⌜ Assigning (now c) (now state) (now page) x i ⌝ }
+    ensures { λ r. ⌜ Stepped r (now (state .exit)) (now (page .entry)) (carried (decoded (now (c .entry))) (memoryOf (now (state .entry))) (memoryOf (now (page .entry))) (contextIn x)) ⌝ }
+{
+    let b = code::stmt_b(c, x.statement);
+    if is_single(c, b) {
+        return assign_word(c, state, page, x, i);
+    }
+    if code::node_kind(c, b) == kinds::STRING {
+        return assign_text(c, state, page, x, i);
+    }
+    assign_words(c, state, page, x, i)
 }
 
 // 11.2.

@@ -29,7 +29,7 @@ fn refer_at(state: &[u8], a: usize) -> Reference
     requires { ⌜ a < locations ⌝ }
     ensures { λ r. ⌜ referred r ≡ placeRefers (memoryOf (now (state .entry))) a ⌝ }
 {
-    if machine::marks::is_marked(state, a) {
+    if marks::is_marked(state, a) {
         return refer(machine::word_of(state, a));
     }
     Reference::Fail(Failure::Unset)

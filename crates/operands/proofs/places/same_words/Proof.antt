@@ -8,7 +8,7 @@ use Rattle.operands.proofs.places.same_words.Statement.{statement}
 use Rattle.operands.proofs.places.same_words.Tie as tie
 
 abbrev Inv-loop : tie.InvT-loop
-Inv-loop state a b n i₀ i = Matched (memoryOf state) a b n i
+Inv-loop state a b n i₀ i = Matched (memoryOf state) (memoryOf state) a b n i
 
 abbrev μ-loop : tie.MeasureT-loop
 μ-loop state a b n i₀ i = n - i
