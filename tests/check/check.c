@@ -1,11 +1,13 @@
 /* Tests of joyce_check as a C program meets it. A line 'ok NAME' or 'FAIL NAME: why' a test. bench/plain.c is the second opinion.
  *
- *     check VERDICTS TABLE..
+ *     check OLDER NEWER TABLE..
  *
- * VERDICTS holds outside vectors: records of a word L, L bytes of table, one byte of verdict. Each TABLE is an accepted table. */
+ * OLDER and NEWER hold outside vectors: records of a word L, L bytes of table, one byte of verdict. Those of OLDER were made before there were
+ * string constants: a verdict that these change, by the rules of has_changed, is the plain checker's. Each TABLE is an accepted table. */
 #define _DEFAULT_SOURCE
 #include "joyce.h"
 #include "plain.h"
+#include "program.h"
 
 #include <pthread.h>
 #include <setjmp.h>
@@ -18,7 +20,7 @@
 #include <sys/mman.h>
 #include <unistd.h>
 
-enum { LONGEST = 7657, ROOM = 65536 }; /* the longest seven sections; the most bytes that a test lends */
+enum { LONGEST = 7913, ROOM = 65536 }; /* the longest eight sections; the most bytes that a test lends */
 
 /* ---- results */
 
@@ -45,13 +47,16 @@ static void on_signal(int number)
     _exit(write(STDOUT_FILENO, message, sizeof message - 1) < 0 ? 2 : 1);
 }
 
+static char found[200]; /* what a test has to say besides */
+
 static void run(const char *name, bool (*test)(void))
 {
     int number = sigsetjmp(crashed, 1);
+    *found = 0;
     alarm(300);
     bool is_ok = number ? bad("signal %d", number) : test();
     if (is_ok) {
-        printf("ok check/%s\n", name);
+        printf("ok check/%s%s\n", name, found);
     } else {
         printf("FAIL check/%s: %s\n", name, why);
         failures++;
@@ -103,7 +108,53 @@ static void add(const uint8_t *bytes, size_t length, uint32_t verdict)
     tables[count++] = (struct table){bytes, length, verdict};
 }
 
-static bool load(const char *name)
+/* Where the first n sections end; 0 where they end early. */
+static size_t sections_end(const uint8_t *bytes, size_t length, int n)
+{
+    static const size_t row_size[] = {7, 1, 2, 8, 1, 5, 6, 1};
+    size_t at = 0;
+    for (int k = 0; k < n; k++) {
+        if (at >= length || length - at - 1 < bytes[at] * row_size[k])
+            return 0;
+        at += 1 + bytes[at] * row_size[k];
+    }
+    return at;
+}
+
+/* A value argument of the program is a string of another length than its parameter. */
+static bool has_fitted(const struct program *g)
+{
+    for (int i = 0; i < g->statements; i++) {
+        struct statement s = g->statement[i];
+        if (s.kind != LOCAL_CALL && s.kind != PROCESS_CALL)
+            continue;
+        int v = g->block[s.kind == LOCAL_CALL ? s.a : s.b].first;
+        for (int k = 0; k < s.d; k++, v++)
+            if (value_words(g, g->type_of[g->argument[s.c + k]]) != g->words[g->variable[v].type])
+                return true;
+    }
+    return false;
+}
+
+/* String constants change the verdict on an older table for these reasons alone: 2, where its last bytes are an eighth section; 3, where a node has
+ * kind 8, which was unknown; 9, where a value argument is fitted and nothing else is wrong. */
+static bool has_changed(const uint8_t *bytes, size_t length, uint32_t old)
+{
+    static struct program g;
+    uint32_t new = plain_decode(&g, bytes, length);
+    if (new == old)
+        return false;
+    if (old == 2)
+        return sections_end(bytes, length, 8) == length;
+    for (int i = 0; old == 3 && i < g.nodes; i++)
+        if (g.node[i].kind == TEXT)
+            return true;
+    return old == 9 && new == 0 && has_fitted(&g);
+}
+
+static size_t changed[10]; /* how many older verdicts, by number */
+
+static bool load(const char *name, bool is_older)
 {
     size_t length;
     const uint8_t *bytes = read_file(name, &length);
@@ -113,7 +164,12 @@ static bool load(const char *name)
         size_t size = bytes[at] + 256u * bytes[at + 1];
         if (length - at < 3 + size)
             return false;
-        add(bytes + at + 2, size, bytes[at + 2 + size]);
+        uint32_t verdict = bytes[at + 2 + size];
+        if (is_older && verdict < 10 && has_changed(bytes + at + 2, size, verdict)) {
+            changed[verdict]++;
+            verdict = plain_check(bytes + at + 2, size);
+        }
+        add(bytes + at + 2, size, verdict);
         at += 3 + size;
     }
     vectors = count;
@@ -199,6 +255,8 @@ static bool vectors_agree(void)
             given = r;
         }
     }
+    snprintf(found, sizeof found, ": %zu tables. String constants changed older verdicts: %zu of 2, %zu of 3, %zu of 9", vectors, changed[2],
+             changed[3], changed[9]);
     return wrong == 0 || bad("%zu of %zu differ, the first is table %zu: %u, not %u", wrong, vectors, first, given, tables[first].verdict);
 }
 
@@ -210,20 +268,27 @@ static bool files_accepted(void)
     return count > vectors || bad("there are none");
 }
 
-/* The sections of a prefix end early, the empty one apart, and a byte more is left over. */
+/* What a table may end with as well: its first seven sections. */
+static uint32_t prefix_verdict(struct table t, size_t length)
+{
+    return length == sections_end(t.bytes, t.length, 7) ? plain_check(t.bytes, length) : JOYCE_SECTIONS;
+}
+
+/* The sections of a prefix end early, the empty one and seven sections of eight apart. */
 static bool prefixes_refused(void)
 {
     for (size_t i = 0; i < accepts; i++) {
         struct table t = tables[accepted[i]];
         for (size_t length = 1; length < t.length; length++) {
             uint32_t r = joyce_check(t.bytes, length);
-            if (r != JOYCE_SECTIONS)
+            if (r != prefix_verdict(t, length))
                 return bad("%zu of %zu bytes of table %zu: the verdict is %u", length, t.length, accepted[i], r);
         }
     }
     return true;
 }
 
+/* A byte more is left over, or an eighth count: 0 characters are as good as none, and others are missing. */
 static bool longer_refused(void)
 {
     static uint8_t buffer[LONGEST + 1];
@@ -232,14 +297,15 @@ static bool longer_refused(void)
         memcpy(buffer, t.bytes, t.length);
         for (int last = 0; last < 256; last += 51) {
             buffer[t.length] = (uint8_t)last;
-            if (!verdict_is(buffer, t.length + 1, JOYCE_SECTIONS))
+            bool is_count = last == 0 && t.length == sections_end(t.bytes, t.length, 7);
+            if (!verdict_is(buffer, t.length + 1, is_count ? JOYCE_ACCEPTED : JOYCE_SECTIONS))
                 return false;
         }
     }
     return true;
 }
 
-/* No seven sections have so many bytes. */
+/* No eight sections have so many bytes. */
 static bool too_long_refused(void)
 {
     static uint8_t buffer[1 << 22];
@@ -284,16 +350,16 @@ static bool random_bytes(void)
     return true;
 }
 
-/* Seven whole sections of random rows, so that the rules above the sections are reached. */
+/* Seven or eight whole sections of random rows, so that the rules above the sections are reached. */
 static bool random_sections(void)
 {
-    static const uint32_t row_size[7] = {7, 1, 2, 8, 1, 5, 6};
+    static const uint32_t row_size[8] = {7, 1, 2, 8, 1, 5, 6, 1};
     static uint8_t buffer[LONGEST];
     seed = 16384;
     for (int round = 0; round < 100000; round++) {
         size_t length = 0;
         uint32_t most = round % 100 ? 6 : 256, limit = round % 3 ? 14 : 3;
-        for (int k = 0; k < 7; k++) {
+        for (int k = 0; k < 7 + round % 2; k++) {
             uint32_t rows = below(most);
             buffer[length++] = (uint8_t)rows;
             for (uint32_t i = 0; i < rows * row_size[k]; i++)
@@ -460,6 +526,95 @@ static bool doubling_sums(void)
     return built_is(&b, JOYCE_USES);
 }
 
+/* Eight sections of 255 entries each: all that a table can be. */
+static bool longest_table(void)
+{
+    static const int row_size[] = {7, 1, 2, 8, 1, 5, 6, 1};
+    struct builder b = {.length = 0};
+    for (int k = 0; k < 8; k++) {
+        PUT(&b, 255);
+        for (int i = 0; i < 255 * row_size[k]; i++)
+            PUT(&b, k == 0 && i % 7 == 0);
+    }
+    return b.length == LONGEST && LONGEST == JOYCE_TABLE_MAX ? built_is(&b, JOYCE_NUMBERS) : bad("%zu bytes", b.length);
+}
+
+/* All sections but the blocks are full: a block has two statements at least. The program calls a procedure with 255 arguments. */
+static bool longest_accepted(void)
+{
+    enum { BLOCKS = 127 };
+    struct builder b = {.length = 0};
+    PUT(&b, 255, 2, 0, 2, 1, 0, 2, 0, 1, 0, 128, 0, 0, 0, 0, 1, 128, 127, 0, 0, 0, 0);
+    for (int i = 3; i < 255; i++)
+        PUT(&b, 2, 0, 0, 1, 0, 1, 0);
+    PUT(&b, 255);
+    for (int i = 0; i < 255; i++)
+        PUT(&b, 0);
+    PUT(&b, 255);
+    for (int i = 0; i < 255; i++)
+        PUT(&b, 1, i == 0 ? 3 : 0);
+    PUT(&b, BLOCKS, 0, 0, 0, 0, 0, 0, 0, 0);
+    for (int i = 1; i < BLOCKS; i++)
+        PUT(&b, 2, 0, i == 1 ? 0 : 255, i == 1 ? 255 : 0, i == 1 ? 255 : 0, 2 * i + 1, 0, 0);
+    PUT(&b, 255);
+    for (int i = 0; i < 255; i++)
+        PUT(&b, i);
+    PUT(&b, 255, 8, 0, 255, 0, 0);
+    for (int i = 1; i < 255; i++)
+        PUT(&b, 0, 0, 0, i, 0);
+    PUT(&b, 255, 2, 1, 0, 0, 255, 0, 0, 0, 0, 0, 0, 0, 13, 0, 0, 0, 0, 0);
+    for (int i = 1; i < BLOCKS; i++)
+        PUT(&b, 0, 0, 0, 0, 0, 0, 13, i, 0, 0, 0, 0);
+    PUT(&b, 255);
+    for (int i = 0; i < 255; i++)
+        PUT(&b, i % 128);
+    return b.length == JOYCE_ACCEPTED_MAX ? built_is(&b, JOYCE_ACCEPTED) : bad("%zu bytes", b.length);
+}
+
+/* A constant of 255 characters, the last of which is given, is passed to a parameter of two. */
+static bool string_passed(int last, uint32_t verdict)
+{
+    struct builder b = {.length = 0};
+    PUT(&b, 1, 2, 0, 2, 1, 0, 2, 0);
+    PUT(&b, 0);
+    PUT(&b, 1, 1, 3);
+    PUT(&b, 2, 0, 0, 0, 0, 0, 0, 0, 0, 2, 0, 0, 1, 1, 2, 0, 0);
+    PUT(&b, 1, 0);
+    PUT(&b, 1, 8, 0, 255, 0, 0);
+    PUT(&b, 4, 2, 1, 0, 0, 1, 0, 13, 0, 0, 0, 0, 0, 0, 0, 0, 0, 0, 0, 13, 1, 0, 0, 0, 0);
+    PUT(&b, 255);
+    for (int i = 0; i < 255; i++)
+        PUT(&b, i < 254 ? i % 128 : last);
+    return built_is(&b, verdict);
+}
+
+static bool longest_string(void)
+{
+    return string_passed(127, JOYCE_ACCEPTED) && string_passed(128, JOYCE_TYPES) && string_passed(255, JOYCE_TYPES);
+}
+
+/* 63 comparisons of constants of two and of one characters, joined by and. */
+static bool many_strings(void)
+{
+    enum { PAIRS = 63 };
+    struct builder b = {.length = 0};
+    PUT(&b, 0, 0);
+    PUT(&b, 1, 0, 1);
+    PUT(&b, 1, 0, 0, 0, 0, 1, 0, 0, 0);
+    PUT(&b, 0);
+    PUT(&b, 4 * PAIRS);
+    for (int i = 0; i < PAIRS; i++)
+        PUT(&b, 8, 3 * i, 2, 0, 0, 8, 3 * i + 2, 1, 0, 0, 6, 3 * i, 3 * i + 1, 1, 0);
+    for (int i = 1; i < PAIRS; i++)
+        PUT(&b, 6, i == 1 ? 2 : 3 * PAIRS + i - 2, 3 * i + 2, 12, 0);
+    PUT(&b, 1, 0, 0, 0, 0);
+    PUT(&b, 2, 1, 4 * PAIRS - 1, 4 * PAIRS - 2, 0, 0, 0, 13, 0, 0, 0, 0, 0);
+    PUT(&b, 3 * PAIRS);
+    for (int i = 0; i < 3 * PAIRS; i++)
+        PUT(&b, i % 3 == 1 ? 0 : 'a');
+    return built_is(&b, JOYCE_ACCEPTED);
+}
+
 /* Every vector with a shut page right after it, and then right before it, in memory that may be read and not written. */
 static bool fenced(bool at_end)
 {
@@ -503,7 +658,7 @@ static bool prefixes_before_shut_page(void)
             if (!open_fence(PROT_READ))
                 return bad("mprotect");
             uint32_t r = joyce_check(place, length);
-            if (r != JOYCE_SECTIONS)
+            if (r != prefix_verdict(t, length))
                 return bad("%zu of %zu bytes of table %zu: the verdict is %u", length, t.length, accepted[i], r);
         }
     }
@@ -547,11 +702,11 @@ static bool threads(void)
 
 int main(int argc, char **argv)
 {
-    if (argc < 2 || !load(argv[1])) {
-        fprintf(stderr, "usage: check VERDICTS TABLE..\n");
+    if (argc < 3 || !load(argv[1], true) || !load(argv[2], false)) {
+        fprintf(stderr, "usage: check OLDER NEWER TABLE..\n");
         return 2;
     }
-    for (int i = 2; i < argc; i++) {
+    for (int i = 3; i < argc; i++) {
         size_t length;
         const uint8_t *bytes = read_file(argv[i], &length);
         add(bytes, length, JOYCE_ACCEPTED);
@@ -583,6 +738,10 @@ int main(int argc, char **argv)
     run("nested_statements", nested_statements);
     run("deep_expression", deep_expression);
     run("doubling_sums", doubling_sums);
+    run("longest_table", longest_table);
+    run("longest_accepted", longest_accepted);
+    run("longest_string", longest_string);
+    run("many_strings", many_strings);
     run("before_shut_page", before_shut_page);
     run("after_shut_page", after_shut_page);
     run("prefixes_before_shut_page", prefixes_before_shut_page);

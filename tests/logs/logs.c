@@ -28,7 +28,7 @@
 #include <stdlib.h>
 #include <string.h>
 
-enum { STATE = 37376, PAGE = 8192, LONGEST = 7657 }; /* the longest seven sections */
+enum { STATE = 37376, PAGE = 8192, LONGEST = 7913 }; /* the longest eight sections */
 enum { EMPTY = 19, UNSET = 31, UNSET_WORD = 32 };
 
 struct calls {
