@@ -12,7 +12,7 @@
 
 #include <stdbool.h>
 
-enum { STATE = 37376, PAGE = 8192, LONGEST = 7657, STEPS = 100000, FAILURE = 2 * (16384 + 9) };
+enum { STATE = 37376, PAGE = 8192, LONGEST = 7913, STEPS = 100000, FAILURE = 2 * (16384 + 9) };
 enum { CALLS = 200, ZEROS = 1 }; /* the boards are of version 1, and begin with zeros */
 
 struct calls {

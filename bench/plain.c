@@ -55,6 +55,13 @@ static bool decode(struct program *g, const uint8_t *table, size_t length)
         return false;
     for (int i = 0; i < g->statements; i++, p += 6)
         g->statement[i] = (struct statement){p[0], p[1], p[2], p[3], p[4], p[5]};
+    g->characters = 0;
+    if (r.at == r.end)
+        return true;
+    if (!(p = rows(&r, 1, &g->characters)))
+        return false;
+    for (int i = 0; i < g->characters; i++)
+        g->character[i] = p[i];
     return r.at == r.end;
 }
 
@@ -67,8 +74,8 @@ static bool is_call(int kind)
 
 /* The bits that must be 0, by kind. */
 enum { X = 0xFF };
-static const uint8_t unused_q[] = {X, X, 0, 0, X, 0, 0, 0};
-static const uint16_t unused_v[] = {0, 0xFFFF, 0xFFFF, 0xFFFF, 0xFFFF, 0xFFFF, 0, 0xFFFF};
+static const uint8_t unused_q[] = {X, X, 0, 0, X, 0, 0, 0, 0};
+static const uint16_t unused_v[] = {0, 0xFFFF, 0xFFFF, 0xFFFF, 0xFFFF, 0xFFFF, 0, 0xFFFF, 0xFFFF};
 static const struct statement unused[] = {
     [SKIP] = {0, X, X, X, X, X}, [ASSIGN] = {0, 0, 0, X, X, X}, [LOCAL_CALL] = {0, 0, X, 0, 0, X}, [PROCESS_CALL] = {0, 0, 0, 0, 0, X},
     [CREATE] = {0, 0, X, X, X, X}, [START] = {0, 0, X, 0, 0, X}, [IF] = {0, X, X, X, X, X}, [WHILE] = {0, X, X, X, X, X},
@@ -91,7 +98,7 @@ static bool kinds(const struct program *g)
             return false;
     for (int i = 0; i < g->nodes; i++) {
         const struct node *n = &g->node[i];
-        if (n->kind > TRANSFER || (n->q & unused_q[n->kind]) || (n->v & unused_v[n->kind]))
+        if (n->kind > TEXT || (n->q & unused_q[n->kind]) || (n->v & unused_v[n->kind]))
             return false;
         if ((n->kind == UNARY && (n->q < 1 || n->q > 3)) || (n->kind == BINARY && (n->v < 1 || n->v > 13)))
             return false;
@@ -184,7 +191,8 @@ static int variable_type(const struct program *g, const struct node *n)
     return n->kind == FIELD ? g->field[g->type[t].p + n->q] : g->type[t].q;
 }
 
-static bool node_numbered(struct program *g, int i)
+/* `free` is the next character that no node before has taken. */
+static bool node_numbered(struct program *g, int i, int *free)
 {
     const struct node *n = &g->node[i];
     switch (n->kind) {
@@ -202,7 +210,12 @@ static bool node_numbered(struct program *g, int i)
     case VALUE: return is_variable(g, i, n->p);
     case UNARY: return is_expression(g, i, n->p);
     case BINARY: return is_expression(g, i, n->p) && is_expression(g, i, n->q);
-    default: return is_expression(g, i, n->p) && n->q <= CHARACTER;
+    case TRANSFER: return is_expression(g, i, n->p) && n->q <= CHARACTER;
+    default: {
+        bool is_next = n->p == *free && n->q >= 1 && n->p + n->q <= g->characters;
+        *free = n->p + n->q;
+        return is_next;
+    }
     }
     g->type_of[i] = (int16_t)variable_type(g, n);
     return true;
@@ -231,15 +244,17 @@ static bool statement_numbered(const struct program *g, const struct statement *
 
 static bool numbers(struct program *g)
 {
-    int free = 0;
+    int free = 0, free_character = 0;
     if (!types_numbered(g) || !blocks_numbered(g))
         return false;
     for (int i = 0; i < g->arguments; i++)
         if (g->argument[i] >= g->nodes)
             return false;
     for (int i = 0; i < g->nodes; i++)
-        if (!node_numbered(g, i))
+        if (!node_numbered(g, i, &free_character))
             return false;
+    if (free_character != g->characters)
+        return false;
     for (int i = 0; i < g->statements; i++)
         if (!statement_numbered(g, &g->statement[i], &free))
             return false;
@@ -250,7 +265,7 @@ static bool numbers(struct program *g)
 
 /* Which fields name nodes, by kind: of a node p and q, of a statement a and b. */
 enum { FIRST = 1, SECOND = 2 };
-static const uint8_t node_operands[] = {0, 0, FIRST, FIRST | SECOND, FIRST, FIRST, FIRST | SECOND, FIRST};
+static const uint8_t node_operands[] = {0, 0, FIRST, FIRST | SECOND, FIRST, FIRST, FIRST | SECOND, FIRST, 0};
 static const uint8_t statement_operands[] = {0, FIRST | SECOND, 0, FIRST, FIRST, FIRST, 0, 0, 0, 0, FIRST, 0, FIRST | SECOND, 0};
 
 static bool uses(const struct program *g)
@@ -401,23 +416,30 @@ static bool scopes(struct program *g)
 
 static int kind_of(const struct program *g, int type)
 {
-    return type < DECLARED ? 0 : g->type[type].kind;
+    return type < DECLARED || type >= TEXT_TYPE ? 0 : g->type[type].kind;
 }
 
 static bool is_string(const struct program *g, int type)
 {
-    return kind_of(g, type) == ARRAY && g->type[type].q == CHARACTER;
+    return type >= TEXT_TYPE || (kind_of(g, type) == ARRAY && g->type[type].q == CHARACTER);
 }
 
-static bool match(const struct program *g, int a, int b)
+/* Two strings of two lengths fit as value arguments only. */
+enum matching { UNFIT, FITTED, EQUAL };
+
+static enum matching match(const struct program *g, int a, int b)
 {
-    return a == b || (is_string(g, a) && is_string(g, b) && elements(&g->type[a]) == elements(&g->type[b]));
+    if (a == b)
+        return EQUAL;
+    if (!is_string(g, a) || !is_string(g, b))
+        return UNFIT;
+    return value_words(g, a) == value_words(g, b) ? EQUAL : FITTED;
 }
 
 static int binary_type(const struct program *g, int operator, int a, int b)
 {
     if (operator <= 2)
-        return match(g, a, b) ? BOOLEAN : NONE;
+        return match(g, a, b) == EQUAL ? BOOLEAN : NONE;
     if (a != b)
         return NONE;
     if (operator <= 6)
@@ -429,7 +451,7 @@ static int binary_type(const struct program *g, int operator, int a, int b)
 
 static int node_type(const struct program *g, const struct node *n)
 {
-    int p = n->kind == CONSTANT || n->kind == WHOLE ? NONE : g->type_of[n->p];
+    int p = node_operands[n->kind] & FIRST ? g->type_of[n->p] : NONE;
     switch (n->kind) {
     case CONSTANT: return in_type(n->p, integer(n->v)) ? n->p : NONE;
     case WHOLE:
@@ -438,7 +460,8 @@ static int node_type(const struct program *g, const struct node *n)
     case VALUE: return p;
     case UNARY: return p == INTEGER || (p == BOOLEAN && n->q == 2) ? p : NONE;
     case BINARY: return binary_type(g, n->v, p, g->type_of[n->q]);
-    default: return p <= CHARACTER ? n->q : NONE;
+    case TRANSFER: return p <= CHARACTER ? n->q : NONE;
+    default: return TEXT_TYPE + n->q + n->q % 2;
     }
 }
 
@@ -450,7 +473,7 @@ static bool arguments_typed(const struct program *g, const struct block *b, cons
         struct variable x = g->variable[b->first + k];
         int n = g->argument[s->c + k];
         bool is_var = g->node[n].kind >= WHOLE && g->node[n].kind <= ELEMENT;
-        if (x.mode == VAR_PARAMETER ? !is_var || g->type_of[n] != x.type : is_var || !match(g, g->type_of[n], x.type))
+        if (x.mode == VAR_PARAMETER ? !is_var || g->type_of[n] != x.type : is_var || match(g, g->type_of[n], x.type) == UNFIT)
             return false;
     }
     return true;
@@ -460,7 +483,7 @@ static bool statement_typed(const struct program *g, const struct statement *s)
 {
     int a;
     switch (s->kind) {
-    case ASSIGN: return match(g, g->type_of[s->a], g->type_of[s->b]);
+    case ASSIGN: return match(g, g->type_of[s->a], g->type_of[s->b]) == EQUAL;
     case LOCAL_CALL: return arguments_typed(g, &g->block[s->a], s);
     case PROCESS_CALL:
         a = g->type_of[s->a];
@@ -489,6 +512,9 @@ static bool types(struct program *g)
             if (x.mode != VALUE_PARAMETER || (x.type >= DECLARED && g->type[x.type].kind != PROCESS))
                 return false;
         }
+    for (int i = 0; i < g->characters; i++)
+        if (g->character[i] > 127)
+            return false;
     return true;
 }
 
@@ -500,7 +526,8 @@ uint32_t plain_decode(struct program *g, const uint8_t *table, size_t length)
         table = empty_slot;
         length = sizeof empty_slot;
     }
-    return !decode(g, table, length) ? 2 : !kinds(g) ? 3 : !numbers(g) ? 4 : !uses(g) ? 5 : !nesting(g) ? 6 : !sizes(g) ? 7 : !scopes(g) ? 8 : !types(g) ? 9 : 0;
+    return !decode(g, table, length) ? 2 : !kinds(g) ? 3 : !numbers(g) ? 4 : !uses(g) ? 5 : !nesting(g) ? 6 : !sizes(g) ? 7 : !scopes(g) ? 8
+           : !types(g) ? 9 : 0;
 }
 
 uint32_t plain_check(const uint8_t *table, size_t length)

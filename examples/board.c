@@ -1,7 +1,8 @@
 /* A board of three chips and its clock. Each chip is a module, and one process carries it out; the text that its table stands for is written
  * above it, in the report's grammar. The device addresses are constants of the whole text, in octal, for the grammar has no negative numerals:
  *
- *    const pads = #160000; film = #164000; sounds = #170000; clock = #174000; last = 31
+ *    const pads = #160000; film = #164000; sounds = #170000; clock = #174000; screen = #176000; last = 31
+ *    type line = array 0..15 of char
  *
  * Every variable is given a value before it is retrieved, so the board is begun with JOYCE_START_UNSET.
  */
@@ -217,11 +218,19 @@ static void write_pad(const struct pad *p, const struct sprite *sprite)
     end_body(&b);
 }
 
-/*  The program: it puts the chips on the board, and then is the clock. A beat takes four of its turns, and a frame sixteen beats. After 1,024
- *  frames it counts from 0 again.
+/*  The program: it shows the title, puts the chips on the board, and then is the clock. The title has eleven characters and is filled up with
+ *  characters 0 to the sixteen of a line. A beat takes four turns of the clock, and a frame sixteen beats. After 1,024 frames it counts from 0
+ *  again.
  *
  *    var s: sound; p: sprite; r: pad; beat: integer
+ *    procedure show(title: line)
+ *      var i: integer
+ *    begin
+ *      i := 0;
+ *      while i < 16 do write(screen + 2 * i, title[i]: integer); i := i + 1 end
+ *    end
  *  begin
+ *    show('Joyce board');
  *    create s; start s;
  *    create p; start p(s);
  *    create r; start r(p);
@@ -233,9 +242,35 @@ static void write_pad(const struct pad *p, const struct sprite *sprite)
  *  end. */
 enum { FRAME_BEATS = TURNS / 4 };
 
-static void write_program(int s, int p, int r, int beat)
+struct show {
+    int procedure, title, i;
+};
+
+static void declare_show(struct show *s, int line_type)
+{
+    s->procedure = add_procedure(&b, 0);
+    s->title = add_value_parameter(&b, s->procedure, line_type);
+    s->i = add_local(&b, s->procedure, INTEGER);
+}
+
+static void write_show(const struct show *s)
+{
+    begin_body(&b, s->procedure);
+    put_assign(&b, whole(&b, s->i), integer(&b, 0));
+    put_while(&b);
+    put_arm(&b, binary(&b, '<', value(&b, s->i), integer(&b, TITLE_WORDS)));
+    {
+        put_write(&b, strip(TITLE, s->i), transfer(&b, value_at(&b, element(&b, whole(&b, s->title), value(&b, s->i))), INTEGER));
+        put_assign(&b, whole(&b, s->i), binary(&b, '+', value(&b, s->i), integer(&b, 1)));
+    }
+    put_end(&b);
+    end_body(&b);
+}
+
+static void write_program(int show, int s, int p, int r, int beat)
 {
     begin_body(&b, 0);
+    put_call(&b, show, 1, text(&b, BOARD_TITLE));
     put_create(&b, whole(&b, s));
     put_start(&b, whole(&b, s), 0);
     put_create(&b, whole(&b, p));
@@ -259,11 +294,13 @@ size_t build_board(uint8_t *table, size_t room, struct board_variables *variable
     struct sound sound;
     struct sprite sprite;
     struct pad pad;
+    struct show show;
 
-    /* block 0 is the program; then come a module and its procedure, twice, and a module: blocks 1, 3 and 5 */
+    /* block 0 is the program; then come a module and its procedure, twice, a module, and the program's procedure: the modules are blocks 1, 3, 5 */
     enum { SOUND_MODULE = 1, SPRITE_MODULE = 3, PAD_MODULE = 5 };
     start_table(&b);
     int sound_type = process_type(&b, SOUND_MODULE), sprite_type = process_type(&b, SPRITE_MODULE), pad_type = process_type(&b, PAD_MODULE);
+    int line_type = array_type(&b, INTEGER, CHARACTER, 0, TITLE_WORDS - 1);
 
     int program = add_program(&b);
     int s = add_local(&b, program, sound_type), p = add_local(&b, program, sprite_type), r = add_local(&b, program, pad_type);
@@ -271,11 +308,13 @@ size_t build_board(uint8_t *table, size_t room, struct board_variables *variable
     declare_sound(&sound);
     declare_sprite(&sprite, sound_type);
     declare_pad(&pad, sprite_type);
+    declare_show(&show, line_type);
 
-    write_program(s, p, r, beat);
+    write_program(show.procedure, s, p, r, beat);
     write_sound(&sound);
     write_sprite(&sprite, &sound);
     write_pad(&pad, &sprite);
+    write_show(&show);
     *variables = (struct board_variables){sprite.column, sound.tone, pad.buttons};
     size_t length = finish_table(&b, table, room);
     if (length == 0)
@@ -286,6 +325,12 @@ size_t build_board(uint8_t *table, size_t room, struct board_variables *variable
 int strip_address(int strip, long frame)
 {
     return strip + 2 * (int)(frame % STRIP_FRAMES);
+}
+
+void boot_turns(uint8_t *schedule)
+{
+    for (size_t i = 0; i < BOOT_STEPS; i++)
+        schedule[i] = CLOCK;
 }
 
 void frame_turns(uint8_t *schedule, size_t frames)

@@ -7,7 +7,7 @@
 enum { RECORD = 1, ARRAY, PROCESS };
 enum { PROGRAM, MODULE, PROCEDURE };
 enum { LOCAL, VALUE_PARAMETER, VAR_PARAMETER };
-enum { CONSTANT, WHOLE, FIELD, ELEMENT, VALUE, UNARY, BINARY, TRANSFER };
+enum { CONSTANT, WHOLE, FIELD, ELEMENT, VALUE, UNARY, BINARY, TRANSFER, STRING };
 enum { SKIP, ASSIGN, CALL, PROCESS_CALL, CREATE, START, IF, WHILE, WHEN, CYCLE, ARM, END, WRITE, BLOCK_END };
 enum { NONE = -1, DECLARED = 3, WORD_MIN = -32768, WORD_MAX = 32767, CHARACTER_MAX = 127, BYTE_MAX = 255 };
 
@@ -303,6 +303,37 @@ int character(struct builder *b, int number)
 {
     enter(b, "character");
     return is_between(b, number, 0, CHARACTER_MAX, "%d is no character, 0..127") ? add_node(b, CONSTANT, CHARACTER, 0, number) : NONE;
+}
+
+static int add_text(struct builder *b, const char *characters, size_t length)
+{
+    int first = b->character_count;
+    if (length == 0) {
+        blame(b, "a string constant has at least 1 character", 0);
+        return NONE;
+    }
+    for (size_t i = 0; i < length; i++)
+        if (!is_between(b, (unsigned char)characters[i], 0, CHARACTER_MAX, "%d is no character, 0..127"))
+            return NONE;
+    if (length > (size_t)(ENTRIES - first)) {
+        blame(b, "a table has at most %d characters", ENTRIES);
+        return NONE;
+    }
+    memcpy(b->characters + first, characters, length);
+    b->character_count += (int)length;
+    return add_node(b, STRING, first, (int)length, 0);
+}
+
+int text(struct builder *b, const char *characters)
+{
+    enter(b, "text");
+    return add_text(b, characters, strlen(characters));
+}
+
+int text_of(struct builder *b, const char *characters, size_t length)
+{
+    enter(b, "text_of");
+    return add_text(b, characters, length);
 }
 
 int value(struct builder *b, int variable)
@@ -611,7 +642,7 @@ static void put_word(struct output *o, int word)
 static void number_node(const struct builder *b, struct order *o, int node)
 {
     struct node n = b->nodes[node];
-    if (n.kind != CONSTANT && n.kind != WHOLE)
+    if (n.kind != CONSTANT && n.kind != WHOLE && n.kind != STRING)
         number_node(b, o, n.p);
     if (n.kind == ELEMENT || n.kind == BINARY)
         number_node(b, o, n.q);
@@ -696,8 +727,20 @@ static void write_blocks(const struct builder *b, struct output *out)
     }
 }
 
+/* What a table has in field p of a node. String constants take the characters in the order of the table. */
+static int first_operand(const struct order *o, struct node n, int *next_character)
+{
+    switch (n.kind) {
+    case CONSTANT: return n.p;
+    case WHOLE: return o->variable[n.p];
+    case STRING: *next_character += n.q; return *next_character - n.q;
+    default: return o->node[n.p];
+    }
+}
+
 static void write_nodes(const struct builder *b, const struct order *o, struct output *out)
 {
+    int next_character = 0;
     put_byte(out, o->argument_count);
     for (int i = 0; i < o->argument_count; i++)
         put_byte(out, o->node[o->arguments[i]]);
@@ -706,7 +749,7 @@ static void write_nodes(const struct builder *b, const struct order *o, struct o
         struct node n = b->nodes[o->nodes[i]];
         bool has_second = n.kind == ELEMENT || n.kind == BINARY;
         put_byte(out, n.kind);
-        put_byte(out, n.kind == CONSTANT ? n.p : n.kind == WHOLE ? o->variable[n.p] : o->node[n.p]);
+        put_byte(out, first_operand(o, n, &next_character));
         put_byte(out, has_second ? o->node[n.q] : n.q);
         put_word(out, n.v);
     }
@@ -736,10 +779,23 @@ static void write_statements(const struct builder *b, const struct order *o, str
             }
 }
 
+/* The eighth section, where there is a string constant. */
+static void write_characters(const struct builder *b, const struct order *o, struct output *out)
+{
+    if (b->character_count == 0)
+        return;
+    put_byte(out, b->character_count);
+    for (int i = 0; i < o->node_count; i++) {
+        struct node n = b->nodes[o->nodes[i]];
+        for (int k = 0; n.kind == STRING && k < n.q; k++)
+            put_byte(out, b->characters[n.p + k]);
+    }
+}
+
 static bool has_space(struct builder *b, size_t room)
 {
     int length = 7 + 7 * b->type_count + b->field_count + 2 * b->variable_count + 8 * b->block_count + b->argument_count + 5 * b->node_count +
-                 6 * b->statement_count;
+                 6 * b->statement_count + (b->character_count > 0) + b->character_count;
     return (size_t)length <= room || blame(b, "the table has %d bytes, and there is less room", length);
 }
 
@@ -756,5 +812,6 @@ size_t finish_table(struct builder *b, uint8_t *bytes, size_t room)
     write_blocks(b, &out);
     write_nodes(b, &order, &out);
     write_statements(b, &order, &out);
+    write_characters(b, &order, &out);
     return out.length;
 }

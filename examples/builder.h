@@ -45,12 +45,13 @@ struct statement {
 
 struct builder {
     int types[ENTRIES][5], type_calls[ENTRIES], fields[ENTRIES], arguments[ENTRIES];
+    char characters[ENTRIES];                       /* of the string constants, in the order of the calls */
     int modes[ENTRIES], variable_types[ENTRIES], variable_blocks[ENTRIES];
     int block_kinds[ENTRIES], block_owners[ENTRIES];
     bool has_body[ENTRIES];
     struct node nodes[ENTRIES];
     struct statement statements[ENTRIES];
-    int type_count, field_count, variable_count, block_count, argument_count, node_count, statement_count;
+    int type_count, field_count, variable_count, block_count, argument_count, node_count, statement_count, character_count;
     int body;                                       /* the block whose statements are being written, or -1 */
     int openers[ENTRIES], arms[ENTRIES], depth;     /* the openers not ended yet, each with its last arm */
     int call;                                       /* how many calls there were */
@@ -93,6 +94,8 @@ int element(struct builder *b, int node, int index);
 int integer(struct builder *b, int number);
 int boolean(struct builder *b, bool is_true);
 int character(struct builder *b, int number);
+int text(struct builder *b, const char *characters); /* a string constant: text(b, "Joyce") */
+int text_of(struct builder *b, const char *characters, size_t length); /* one with characters 0 in it */
 int value(struct builder *b, int variable);         /* of a whole variable */
 int value_at(struct builder *b, int node);          /* of a field or an element */
 int minus(struct builder *b, int node);

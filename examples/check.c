@@ -18,15 +18,15 @@ static const char *reason(uint32_t verdict)
     case JOYCE_NESTING: return "statements that do not nest";
     case JOYCE_SIZES: return "a type or a module that is too large, or wrong bounds of an array";
     case JOYCE_SCOPES: return "a variable or a procedure out of scope";
-    case JOYCE_TYPES: return "a wrong type, or wrong arguments";
+    case JOYCE_TYPES: return "a wrong type, wrong arguments, or a constant or character outside its type";
     default: return "no verdict";
     }
 }
 
 int main(int argc, char **argv)
 {
-    /* No table has more than 7,657 bytes. One byte more is kept, so that a longer file is refused. */
-    static uint8_t table[7658];
+    /* One byte more than the longest table is kept, so that a longer file is refused. */
+    static uint8_t table[JOYCE_TABLE_MAX + 1];
     if (argc != 2) {
         fprintf(stderr, "usage: check FILE\n");
         return 2;

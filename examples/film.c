@@ -1,6 +1,7 @@
-/* A small front end: it plays a recording of the pad to a board of chips, and prints what the sprite does as a film, a line a frame.
+/* A small front end: it boots a board of chips and shows its title, plays a recording of the pad to it, and prints what the sprite does as a
+ * film, a line a frame.
  *
- *     film                 one call of joyce_run a frame, as a front end does
+ *     film                 one call of joyce_run for the boot and one a frame, as a front end does
  *     film --pause         one step a call, as a debugger does
  *     film --no-pause      all frames in one call, as a test does
  *     film --files FOLDER  writes board.tab, board.page and board.sch, to try the tool on
@@ -18,7 +19,7 @@ static const char recording[] = "..LLLLLLL....RRRRRRRRRRRRRRRRRR..LLL.";
 enum { FRAMES = sizeof recording - 1 };
 
 static uint8_t table[JOYCE_ACCEPTED_MAX], state[JOYCE_STATE_SIZE], page[JOYCE_PAGE_SIZE];
-static uint8_t schedule[FRAMES * FRAME_STEPS], answers[sizeof schedule];
+static uint8_t schedule[BOOT_STEPS + FRAMES * FRAME_STEPS], answers[sizeof schedule];
 static size_t table_len;
 static struct board_variables variables;
 
@@ -49,6 +50,15 @@ static void run_steps(size_t first, size_t count)
     }
 }
 
+/* The boot screen: a character a word, up to the first 0. */
+static void show_title(void)
+{
+    printf("boot  |");
+    for (int i = 0; i < TITLE_WORDS && joyce_get(page, TITLE + 2 * i) != 0; i++)
+        putchar(joyce_get(page, TITLE + 2 * i));
+    puts("|");
+}
+
 static void show_frame(int frame)
 {
     char screen[COLUMNS + 1];
@@ -61,21 +71,32 @@ static void show_frame(int frame)
     printf(tone ? "  tone %d\n" : "\n", tone);
 }
 
+/* The first step of a frame. */
+static size_t step_of(int frame)
+{
+    return BOOT_STEPS + (size_t)frame * FRAME_STEPS;
+}
+
 static void play_by_frames(void)
 {
+    run_steps(0, BOOT_STEPS);
+    show_title();
     for (int frame = 0; frame < FRAMES; frame++) {
         hold_buttons(frame);
-        run_steps((size_t)frame * FRAME_STEPS, FRAME_STEPS);
+        run_steps(step_of(frame), FRAME_STEPS);
         show_frame(frame);
     }
 }
 
 static void play_by_steps(void)
 {
+    for (size_t step = 0; step < BOOT_STEPS; step++)
+        run_steps(step, 1);
+    show_title();
     for (int frame = 0; frame < FRAMES; frame++) {
         hold_buttons(frame);
         for (size_t step = 0; step < FRAME_STEPS; step++)
-            run_steps((size_t)frame * FRAME_STEPS + step, 1);
+            run_steps(step_of(frame) + step, 1);
         show_frame(frame);
     }
 }
@@ -85,6 +106,7 @@ static void play_at_once(void)
     for (int frame = 0; frame < FRAMES; frame++)
         hold_buttons(frame);
     run_steps(0, sizeof schedule);
+    show_title();
     for (int frame = 0; frame < FRAMES; frame++)
         show_frame(frame);
 }
@@ -128,7 +150,8 @@ int main(int argc, char **argv)
 {
     const char *mode = argc > 1 ? argv[1] : "";
     table_len = build_board(table, sizeof table, &variables);
-    frame_turns(schedule, FRAMES);
+    boot_turns(schedule);
+    frame_turns(schedule + BOOT_STEPS, FRAMES);
     expect_ok("joyce_check", joyce_check(table, table_len));
     expect_ok("joyce_begin", joyce_begin(table, table_len, state, sizeof state, JOYCE_START_UNSET));
 

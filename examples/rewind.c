@@ -25,15 +25,21 @@ static void stop(const char *what, unsigned number)
     exit(1);
 }
 
+/* The first of the turns. */
+static void make_steps(struct console *c, size_t count)
+{
+    uint32_t result = joyce_run(table, table_len, c->state, sizeof c->state, c->page, sizeof c->page, turns, count, answers, sizeof answers);
+    if (result != JOYCE_OK)
+        stop("joyce_run returned", (unsigned)result);
+    if (answers[count - 1] >= JOYCE_FAILURE)
+        stop("a chip failed with", answers[count - 1]);
+}
+
 /* One frame; the sprite's column after it. */
 static int play_frame(struct console *c, int frame, int buttons)
 {
     joyce_put(c->page, strip_address(PAD_STRIP, frame), buttons);
-    uint32_t result = joyce_run(table, table_len, c->state, sizeof c->state, c->page, sizeof c->page, turns, sizeof turns, answers, sizeof answers);
-    if (result != JOYCE_OK)
-        stop("joyce_run returned", (unsigned)result);
-    if (answers[FRAME_STEPS - 1] >= JOYCE_FAILURE)
-        stop("a chip failed with", answers[FRAME_STEPS - 1]);
+    make_steps(c, FRAME_STEPS);
     return joyce_get(c->page, strip_address(FILM_STRIP, frame));
 }
 
@@ -51,10 +57,12 @@ int main(void)
     static struct console now, saved, end;
     struct board_variables variables;
     table_len = build_board(table, sizeof table, &variables);
-    frame_turns(turns, 1);
     uint32_t result = joyce_begin(table, table_len, now.state, sizeof now.state, JOYCE_START_UNSET);
     if (result != JOYCE_OK)
         stop("joyce_begin returned", (unsigned)result);
+    boot_turns(turns);
+    make_steps(&now, BOOT_STEPS);
+    frame_turns(turns, 1);
 
     play(&now, 0, BEFORE, PAD_RIGHT, "to the right:");
     saved = now;

@@ -134,7 +134,7 @@ static uint32_t run(const struct input *in, struct lent *l, size_t first, size_t
 
 #ifdef COUNT
 static struct {
-    unsigned long inputs, verdicts[JOYCE_TYPES + 1], accepted_long, stepped;
+    unsigned long inputs, verdicts[JOYCE_TYPES + 1], accepted_long, stepped, stepped_strings;
     bool has_stepped; /* the input at hand */
 } seen;
 
@@ -145,8 +145,8 @@ static double share(unsigned long part)
 
 static void tell(void)
 {
-    fprintf(stderr, "%lu inputs, %.1f %% step an accepted program; accepted and longer than 100 bytes: %.1f %%; verdicts", seen.inputs,
-            share(seen.stepped), share(seen.accepted_long));
+    fprintf(stderr, "%lu inputs, %.1f %% step an accepted program, %.1f %% one with string constants; accepted and longer than 100 bytes: %.1f %%; "
+                    "verdicts", seen.inputs, share(seen.stepped), share(seen.stepped_strings), share(seen.accepted_long));
     for (int i = 0; i <= JOYCE_TYPES; i++)
         if (i != JOYCE_LENGTH)
             fprintf(stderr, " %d: %.1f %%", i, share(seen.verdicts[i]));
@@ -164,11 +164,22 @@ static void count_steps(const uint8_t *answers, size_t turns)
     seen.has_stepped |= memchr(answers, JOYCE_DONE, turns) != NULL;
 }
 
+/* The eighth section of an accepted table has characters. */
+static bool has_strings(const struct input *in)
+{
+    static const size_t sizes[] = {7, 1, 2, 8, 1, 5, 6};
+    size_t at = 0;
+    for (int i = 0; i < 7 && at < in->table_len; i++)
+        at += 1 + in->table[at] * sizes[i];
+    return at + 1 < in->table_len;
+}
+
 static void count(const struct input *in, uint32_t verdict)
 {
     seen.verdicts[verdict]++;
     seen.accepted_long += verdict == JOYCE_ACCEPTED && in->table_len > 100;
     seen.stepped += seen.has_stepped;
+    seen.stepped_strings += seen.has_stepped && has_strings(in);
     seen.has_stepped = false;
 }
 #else

@@ -13,10 +13,11 @@ size_t LLVMFuzzerCustomMutator(uint8_t *data, size_t size, size_t max_size, unsi
 size_t LLVMFuzzerCustomCrossOver(const uint8_t *one, size_t one_size, const uint8_t *two, size_t two_size, uint8_t *out, size_t max_size,
                                  unsigned int seed);
 
-enum { TYPES, FIELDS, VARIABLES, BLOCKS, ARGUMENTS, NODES, STATEMENTS, SECTIONS };
+enum { TYPES, FIELDS, VARIABLES, BLOCKS, ARGUMENTS, NODES, STATEMENTS, CHARACTERS, SECTIONS };
 enum { ENTRIES = 255, POOL = 1024, ROOM = 64, DEPTH = 8, ARGUMENTS_MAX = 16, HEAD_MAX = 2 + 3 * 7 + 1 + 255 + 3, KEPT = 64, TRIES = 12 };
+enum { TEXT_POOL = 8192 };
 
-static const int sizes[SECTIONS] = {7, 1, 2, 8, 1, 5, 6};
+static const int sizes[SECTIONS] = {7, 1, 2, 8, 1, 5, 6, 1};
 
 static uint64_t random_state = 1979;
 
@@ -39,6 +40,7 @@ struct node {
     uint8_t kind, p, q; /* p and q where they are no nodes */
     uint16_t v;
     int left, right;    /* operands in the pool; -1 for none */
+    int text;           /* of a string constant: its first character in the pool; q is their number */
 };
 
 struct statement {
@@ -54,10 +56,13 @@ struct program {
     int node_count;
     struct statement statements[ENTRIES + 8];
     int statement_count;
+    uint8_t text[TEXT_POOL];
+    int text_length;
+    bool has_characters; /* the eighth section is written, though it may be empty */
 };
 
 /* Which fields of a node, and of a statement, are nodes: 1 for p or a, 2 for q or b. */
-static const uint8_t node_operands[8] = {0, 0, 1, 3, 1, 1, 3, 1};
+static const uint8_t node_operands[9] = {0, 0, 1, 3, 1, 1, 3, 1, 0};
 static const uint8_t statement_operands[14] = {0, 3, 0, 1, 1, 1, 0, 0, 0, 0, 1, 0, 3, 0};
 
 static bool is_call(int kind)
@@ -75,11 +80,15 @@ static bool is_simple(int kind)
     return kind <= JOYCE_STATEMENT_START || kind == JOYCE_STATEMENT_WRITE;
 }
 
-/* Where each section's entries begin; false where the table is not whole. */
+/* Where each section's entries begin; false where the table is not whole. The last section may be left out, and then begins at 0. */
 static bool find_sections(const uint8_t *table, size_t length, size_t *starts, int *counts)
 {
     size_t at = 0;
+    counts[CHARACTERS] = 0;
+    starts[CHARACTERS] = 0;
     for (int s = 0; s < SECTIONS; s++) {
+        if (s == CHARACTERS && at == length)
+            break;
         if (at >= length)
             return false;
         counts[s] = table[at];
@@ -97,14 +106,17 @@ static bool take_apart(struct program *p, const uint8_t *table, size_t length)
     for (int s = 0; s <= BLOCKS; s++)
         for (int i = 0; i < p->counts[s]; i++)
             memcpy(p->bytes[s][i], table + starts[s] + i * sizes[s], (size_t)sizes[s]);
+    p->has_characters = starts[CHARACTERS] > 0;
+    p->text_length = p->counts[CHARACTERS];
+    memcpy(p->text, table + starts[CHARACTERS], (size_t)p->text_length);
     p->node_count = p->counts[NODES];
     for (int i = 0; i < p->node_count; i++) {
         const uint8_t *e = table + starts[NODES] + 5 * i;
-        if (e[0] > JOYCE_NODE_TRANSFER)
+        if (e[0] > JOYCE_NODE_STRING)
             return false;
         int uses = node_operands[e[0]];
-        p->nodes[i] = (struct node){e[0], e[1], e[2], (uint16_t)(e[3] + 256 * e[4]), uses & 1 ? e[1] : -1, uses & 2 ? e[2] : -1};
-        if (p->nodes[i].left >= i || p->nodes[i].right >= i)
+        p->nodes[i] = (struct node){e[0], e[1], e[2], (uint16_t)(e[3] + 256 * e[4]), uses & 1 ? e[1] : -1, uses & 2 ? e[2] : -1, e[1]};
+        if (p->nodes[i].left >= i || p->nodes[i].right >= i || (e[0] == JOYCE_NODE_STRING && e[1] + e[2] > p->text_length))
             return false;
     }
     p->statement_count = p->counts[STATEMENTS];
@@ -129,10 +141,23 @@ static bool take_apart(struct program *p, const uint8_t *table, size_t length)
 
 struct writer {
     const struct program *p;
-    uint8_t nodes[ENTRIES][5], arguments[ENTRIES], statements[ENTRIES][6];
-    int node_count, argument_count, statement_count;
+    uint8_t nodes[ENTRIES][5], arguments[ENTRIES], statements[ENTRIES][6], text[ENTRIES];
+    int node_count, argument_count, statement_count, text_length;
     bool is_full;
 };
+
+/* Writes the characters of a string constant; the first one's number. */
+static int write_text(struct writer *w, const struct node *n)
+{
+    int first = w->text_length;
+    if (first + n->q > ENTRIES) {
+        w->is_full = true;
+        return 0;
+    }
+    memcpy(w->text + first, w->p->text + n->text, n->q);
+    w->text_length += n->q;
+    return first;
+}
 
 /* Writes a tree, operands first; its number. */
 static int write_node(struct writer *w, int from)
@@ -141,6 +166,8 @@ static int write_node(struct writer *w, int from)
     if (w->is_full)
         return 0;
     int left = n->left >= 0 ? write_node(w, n->left) : n->p, right = n->right >= 0 ? write_node(w, n->right) : n->q;
+    if (n->kind == JOYCE_NODE_STRING)
+        left = write_text(w, n);
     if (w->node_count == ENTRIES)
         w->is_full = true;
     if (w->is_full)
@@ -201,7 +228,7 @@ static size_t put_together(struct program *p, uint8_t *to)
 {
     static struct writer w;
     w.p = p;
-    w.node_count = w.argument_count = w.statement_count = 0;
+    w.node_count = w.argument_count = w.statement_count = w.text_length = 0;
     w.is_full = false;
     for (int i = 0, block = 0, at = 0; i < p->statement_count; i++) {
         write_statement(&w, &p->statements[i]);
@@ -218,7 +245,10 @@ static size_t put_together(struct program *p, uint8_t *to)
         length += put_section(to + length, p->bytes[s], p->counts[s], sizes[s], 8);
     length += put_section(to + length, w.arguments, w.argument_count, 1, 1);
     length += put_section(to + length, w.nodes, w.node_count, 5, 5);
-    return length + put_section(to + length, w.statements, w.statement_count, 6, 6);
+    length += put_section(to + length, w.statements, w.statement_count, 6, 6);
+    if (w.text_length > 0 || p->has_characters)
+        length += put_section(to + length, w.text, w.text_length, 1, 1);
+    return length;
 }
 
 /* ---- changes of a program */
@@ -242,7 +272,40 @@ static int add_node(struct program *p, struct node n)
 
 static int add_constant(struct program *p, int type)
 {
-    return add_node(p, (struct node){JOYCE_NODE_CONSTANT, (uint8_t)type, 0, some_value(type), -1, -1});
+    return add_node(p, (struct node){JOYCE_NODE_CONSTANT, (uint8_t)type, 0, some_value(type), -1, -1, 0});
+}
+
+/* Two letters, character 0 and 127 come often, so that strings are equal now and then. */
+static uint8_t some_character(void)
+{
+    static const uint8_t telling[] = {'a', 'a', 'b', 0, 127};
+    return one_in(200) ? 128 : one_in(8) ? (uint8_t)below(128) : telling[below(sizeof telling)];
+}
+
+/* A string constant; change_program sees that there is room. */
+static int add_string(struct program *p, int length)
+{
+    int first = p->text_length;
+    length = length < 0 ? 0 : length > ENTRIES ? ENTRIES : length;
+    for (int i = 0; i < length; i++)
+        p->text[p->text_length++] = some_character();
+    return add_node(p, (struct node){JOYCE_NODE_STRING, 0, (uint8_t)length, 0, -1, -1, first});
+}
+
+/* The length of a string type; 0 for other types. */
+static int string_length(const struct program *p, int type)
+{
+    if (type < JOYCE_DECLARED || type >= JOYCE_DECLARED + p->counts[TYPES])
+        return 0;
+    const uint8_t *t = p->bytes[TYPES][type - JOYCE_DECLARED];
+    int low = t[3] + 256 * t[4], high = t[5] + 256 * t[6];
+    return t[0] == JOYCE_TYPE_ARRAY && t[2] == JOYCE_CHARACTER && high >= low ? high - low + 1 : 0;
+}
+
+/* That of a constant, at times one less, and seldom any. */
+static int some_length(int length)
+{
+    return one_in(10) ? 1 + (int)below(one_in(8) ? 255 : 12) : length - (int)below(2);
 }
 
 /* Some place that names a node, of a statement, an argument or a node; NULL where there is none. The user is the number of that node, or -1. */
@@ -293,6 +356,10 @@ static void change_node(struct program *p)
         n->v = (uint16_t)(JOYCE_BINARY_AND + below(2));
     else if (n->kind == JOYCE_NODE_TRANSFER)
         n->q = (uint8_t)below(3);
+    else if (n->kind == JOYCE_NODE_STRING && n->q > 0) {
+        p->text[n->text + (int)below(n->q)] = some_character();
+        n->q = (uint8_t)(n->q - (n->q > 1 && one_in(4)));
+    }
 }
 
 /* An operand becomes another tree of the program, or is put under an operator. What a node of the table reaches, through nodes that were added
@@ -308,12 +375,14 @@ static void change_use(struct program *p)
             *use = other;
         return;
     }
-    struct node wrapped = {JOYCE_NODE_UNARY, 0, (uint8_t)(1 + below(3)), 0, from, -1};
+    struct node wrapped = {JOYCE_NODE_UNARY, 0, (uint8_t)(1 + below(3)), 0, from, -1, 0};
+    if (p->nodes[from].kind == JOYCE_NODE_STRING && one_in(2))
+        return; /* no operand of these */
     if (one_in(3))
-        wrapped = (struct node){JOYCE_NODE_TRANSFER, 0, (uint8_t)below(3), 0, from, -1};
+        wrapped = (struct node){JOYCE_NODE_TRANSFER, 0, (uint8_t)below(3), 0, from, -1, 0};
     else if (one_in(2)) {
         int right = add_constant(p, one_in(3) ? (int)below(3) : JOYCE_INTEGER);
-        wrapped = (struct node){JOYCE_NODE_BINARY, 0, 0, (uint16_t)(1 + below(13)), from, right};
+        wrapped = (struct node){JOYCE_NODE_BINARY, 0, 0, (uint16_t)(1 + below(13)), from, right, 0};
     }
     *use = add_node(p, wrapped);
 }
@@ -354,8 +423,18 @@ static void remove_statement(struct program *p)
     p->statement_count--;
 }
 
+/* Two strings of one length, as a rule, are equal or not. */
+static int add_comparison(struct program *p)
+{
+    int length = 1 + (int)below(one_in(8) ? 120 : 4), left = add_string(p, length);
+    int right = add_string(p, length % 2 ? some_length(length + 1) : length);
+    return add_node(p, (struct node){JOYCE_NODE_BINARY, 0, 0, (uint16_t)(1 + below(2)), left, right, 0});
+}
+
 static int some_guard(struct program *p)
 {
+    if (one_in(4))
+        return add_comparison(p);
     for (int tries = 0; tries < 8 && one_in(2) == false; tries++) {
         int i = (int)below((uint32_t)p->node_count);
         if (p->nodes[i].kind == JOYCE_NODE_BINARY && p->nodes[i].v <= JOYCE_BINARY_AT_LEAST)
@@ -437,7 +516,10 @@ static void add_type(struct program *p)
         int element = some_type(p), index = (int)below(3);
         uint8_t *array = add_entry(p, TYPES);
         array[0] = JOYCE_TYPE_ARRAY, array[1] = (uint8_t)index, array[2] = (uint8_t)element;
-        array[3] = (uint8_t)below(2), array[5] = (uint8_t)(index == JOYCE_BOOLEAN ? 1 : 1 + below(one_in(8) ? 120 : 4));
+        if (one_in(3)) /* a string */
+            array[1] = JOYCE_INTEGER, array[2] = JOYCE_CHARACTER, array[3] = 1, array[5] = (uint8_t)(2 + 2 * below(one_in(8) ? 100 : 4));
+        else
+            array[3] = (uint8_t)below(2), array[5] = (uint8_t)(index == JOYCE_BOOLEAN ? 1 : 1 + below(one_in(8) ? 120 : 4));
     }
 }
 
@@ -508,7 +590,7 @@ static int some_variable(const struct program *p, int block, int type)
 
 static int add_whole(struct program *p, int v)
 {
-    return add_node(p, (struct node){JOYCE_NODE_WHOLE, (uint8_t)v, 0, 0, -1, -1});
+    return add_node(p, (struct node){JOYCE_NODE_WHOLE, (uint8_t)v, 0, 0, -1, -1, 0});
 }
 
 /* Goes down from a variable to a part that is no record and no array; its node, and its type. */
@@ -522,12 +604,12 @@ static int add_part(struct program *p, int v, int *type)
         if (t[0] == JOYCE_TYPE_RECORD && t[2] > 0) {
             int place = (int)below(t[2]);
             lower = p->bytes[FIELDS][(t[1] + place) % ENTRIES][0];
-            node = add_node(p, (struct node){JOYCE_NODE_FIELD, 0, (uint8_t)place, 0, node, -1});
+            node = add_node(p, (struct node){JOYCE_NODE_FIELD, 0, (uint8_t)place, 0, node, -1, 0});
         } else if (t[0] == JOYCE_TYPE_ARRAY) {
-            struct node index = {JOYCE_NODE_CONSTANT, t[1], 0, (uint16_t)(one_in(8) ? some_value(t[1]) : t[one_in(2) ? 3 : 5]), -1, -1};
+            struct node index = {JOYCE_NODE_CONSTANT, t[1], 0, (uint16_t)(one_in(8) ? some_value(t[1]) : t[one_in(2) ? 3 : 5]), -1, -1, 0};
             int at = add_node(p, index);
             lower = t[2];
-            node = add_node(p, (struct node){JOYCE_NODE_ELEMENT, 0, 0, 0, node, at});
+            node = add_node(p, (struct node){JOYCE_NODE_ELEMENT, 0, 0, 0, node, at, 0});
         }
         if (lower < 0 || lower >= *type)
             break;
@@ -536,16 +618,30 @@ static int add_part(struct program *p, int v, int *type)
     return node;
 }
 
+static int add_value(struct program *p, int v)
+{
+    int whole = add_whole(p, v);
+    return add_node(p, (struct node){JOYCE_NODE_VALUE, 0, 0, 0, whole, -1, 0});
+}
+
 /* An expression of a type: a constant, or the value of a variable; -1 for none. */
 static int add_expression(struct program *p, int block, int type)
 {
-    int v = some_variable(p, block, type);
+    int v = some_variable(p, block, type), length = string_length(p, type);
     if (type < JOYCE_DECLARED && (v < 0 || one_in(2)))
         return add_constant(p, type);
-    if (v < 0)
-        return -1;
-    int whole = add_whole(p, v);
-    return add_node(p, (struct node){JOYCE_NODE_VALUE, 0, 0, 0, whole, -1});
+    if (length > 0 && (v < 0 || one_in(2)))
+        return add_string(p, some_length(length));
+    return v < 0 ? -1 : add_value(p, v);
+}
+
+/* A value argument: where its parameter is a string, a string of any length. */
+static int add_argument(struct program *p, int block, int type)
+{
+    int v = some_variable(p, block, -1);
+    if (string_length(p, type) == 0 || one_in(3))
+        return add_expression(p, block, type);
+    return v >= 0 && string_length(p, p->bytes[VARIABLES][v][1]) > 0 ? add_value(p, v) : add_string(p, some_length(1 + (int)below(12)));
 }
 
 static bool add_arguments(struct program *p, struct statement *s, int caller, int block)
@@ -555,7 +651,7 @@ static bool add_arguments(struct program *p, struct statement *s, int caller, in
     for (int i = 0; i < s->count; i++) {
         const uint8_t *parameter = p->bytes[VARIABLES][(b[FIRST] + i) % ENTRIES];
         int v = parameter[0] == JOYCE_MODE_VAR ? some_variable(p, caller, parameter[1]) : -1;
-        s->arguments[i] = v >= 0 ? add_whole(p, v) : add_expression(p, caller, parameter[1]);
+        s->arguments[i] = v >= 0 ? add_whole(p, v) : add_argument(p, caller, parameter[1]);
         if (s->arguments[i] < 0)
             return false;
     }
@@ -581,7 +677,9 @@ static void add_statement(struct program *p)
             return;
     } else {
         s.first = add_part(p, v, &type);
-        if (type < JOYCE_DECLARED || one_in(4)) {
+        if (string_length(p, p->bytes[VARIABLES][v][1]) > 0 && one_in(2)) /* a string, and not its element */
+            s.first = add_whole(p, v), type = p->bytes[VARIABLES][v][1];
+        if (type < JOYCE_DECLARED || string_length(p, type) > 0 || one_in(4)) {
             s.kind = JOYCE_STATEMENT_ASSIGN, s.second = add_expression(p, block, type);
             if (s.second < 0)
                 return;
@@ -605,8 +703,10 @@ static void add_statement(struct program *p)
 static void change_program(struct program *p)
 {
     uint32_t what = below(22);
-    if (p->statement_count == 0 || p->counts[BLOCKS] == 0 || p->node_count > POOL - ROOM)
+    if (p->statement_count == 0 || p->counts[BLOCKS] == 0 || p->node_count > POOL - ROOM || p->text_length > TEXT_POOL - 20 * ENTRIES)
         return;
+    if (one_in(20))
+        p->has_characters = !p->has_characters;
     if (p->node_count == 0 || what >= 18)
         add_statement(p);
     else if (what < 5)

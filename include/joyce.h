@@ -42,14 +42,14 @@
  * States are bytes. A state may be copied, stored, compared and put back at any time. With the same table, and the same device words, equal
  * states behave alike, wherever the schedule is cut into calls, if nobody changes the page between them.
  *
- * States across versions. Within one JOYCE_VERSION_MAJOR, a state that one release left is read by all others, with the same table, and
+ * States across versions. Within one JOYCE_VERSION_MAJOR, a state that one release left is read by all others that accept its table, and
  * means the same. A new major number may refuse it, with JOYCE_LENGTH or JOYCE_STATE, and will say so here. Keep the number with what you store.
  * Version 2 refuses the states of version 1, which had 35,328 bytes, with JOYCE_LENGTH; docs/ADOPT.md has how to carry them over.
  *
  * ---- Tables
  *
- * A program table holds a program of Joyce (P. Brinch Hansen, Joyce, a language for computer networks, November 1979) as numbers: seven
- * sections, each a one-byte count and then as many entries. The sections in order, with their fields; a field has one byte but low,
+ * A program table holds a program of Joyce (P. Brinch Hansen, Joyce, a language for computer networks, November 1979) as numbers: seven or
+ * eight sections, each a one-byte count and then as many entries. The sections in order, with their fields; a field has one byte but low,
  * high, space and v, which are words of two bytes, low byte first:
  *
  *     types       kind, p, q, low, high
@@ -59,6 +59,9 @@
  *     arguments   node
  *     nodes       kind, p, q, v
  *     statements  kind, a, b, c, d, link
+ *     characters  character, 0..127
+ *
+ * The eighth section holds the characters of string constants. A table may end after the statements, and then has none; a count of 0 says the same.
  *
  * Zero bytes are a table too, an empty cartridge slot: every call that takes a table reads them, from any pointer, as the program that skips and
  * ends.
@@ -79,15 +82,15 @@ extern "C" {
 /* The version of this interface. The first number changes where a host must be changed, the second where something is added. There is no
  * function for it: the archive exports the five proved calls and nothing else, and is linked statically with the header that it came with. */
 #define JOYCE_VERSION_MAJOR 2
-#define JOYCE_VERSION_MINOR 0
+#define JOYCE_VERSION_MINOR 1
 #define JOYCE_VERSION_PATCH 0
-#define JOYCE_VERSION "2.0.0"
+#define JOYCE_VERSION "2.1.0"
 
 /* Sizes, in bytes. */
 #define JOYCE_STATE_SIZE 37376 /* a state: 64 areas of 512 bytes, 64 control records of 40, then a mark for each word of the areas */
 #define JOYCE_PAGE_SIZE 8192   /* a device page */
-#define JOYCE_TABLE_MAX 7657   /* the longest seven sections; every longer table is refused with JOYCE_SECTIONS */
-#define JOYCE_ACCEPTED_MAX 6633 /* the longest table that can be accepted */
+#define JOYCE_TABLE_MAX 7913   /* the longest eight sections; every longer table is refused with JOYCE_SECTIONS */
+#define JOYCE_ACCEPTED_MAX 6889 /* the longest table that can be accepted */
 #define JOYCE_TEXT_MAX 65535   /* the longest text */
 #define JOYCE_SYMBOL_SIZE 7    /* what joyce_symbols writes for a symbol */
 
@@ -99,6 +102,7 @@ extern "C" {
 #define JOYCE_INTEGER_MIN (-32768)
 #define JOYCE_INTEGER_MAX 32767
 #define JOYCE_CHARACTER_MAX 127
+#define JOYCE_STRING_MAX 255      /* characters of one string constant */
 
 /* A program reads and writes the device page by even addresses, -8192..-2. The word with an address stands in the two bytes from address +
  * JOYCE_PAGE_SIZE on, low byte first. */
@@ -112,7 +116,7 @@ extern "C" {
 /* A number of a type: a standard one, or JOYCE_DECLARED plus its place in the section of types. */
 enum joyce_standard { JOYCE_INTEGER = 0, JOYCE_BOOLEAN = 1, JOYCE_CHARACTER = 2, JOYCE_DECLARED = 3 };
 
-/* The kind of a type. */
+/* The kind of a type. An array of characters is a string; it has an even number of elements. */
 enum joyce_type {
     JOYCE_TYPE_RECORD = 1, /* p first field, q number of fields, at least 1 */
     JOYCE_TYPE_ARRAY = 2,  /* p index type, a standard one; q element type; low, high the bounds */
@@ -142,8 +146,18 @@ enum joyce_node {
     JOYCE_NODE_VALUE = 4,    /* expression: p variable node */
     JOYCE_NODE_UNARY = 5,    /* expression: p expression node, q enum joyce_unary */
     JOYCE_NODE_BINARY = 6,   /* expression: p, q expression nodes, v enum joyce_binary */
-    JOYCE_NODE_TRANSFER = 7  /* expression: p expression node, q standard type */
+    JOYCE_NODE_TRANSFER = 7, /* expression: p expression node, q standard type */
+    JOYCE_NODE_STRING = 8    /* expression, a string constant: p first character, q number of characters, 1..JOYCE_STRING_MAX */
 };
+
+/* ---- String constants
+ *
+ * The nodes of kind JOYCE_NODE_STRING take the characters in the order of the node numbers, each from the next free one on, until none is left. A
+ * constant is a string of its length; where that is odd, a character 0 is added.
+ *
+ * Strings of one length match, whatever their types; so a string can be assigned to, and compared with, one of its own length. As the argument of a
+ * value parameter that is a string, of a local or process call, a string may have any length: a shorter one is filled with characters 0, and a
+ * longer one is cut. The value of a variable is retrieved whole before it is cut. */
 
 enum joyce_unary {
     JOYCE_UNARY_MINUS = 1,
@@ -236,7 +250,7 @@ enum joyce_result {
     JOYCE_SCOPES = 8,
     /* an operand, guard, index, argument or parameter has a wrong type; a process call names a procedure of another module than its
      * variable's; there are too few or too many arguments, or one is no variable for a var parameter, or no expression for another; a constant
-     * lies outside its type */
+     * lies outside its type; a character of the eighth section is above 127 */
     JOYCE_TYPES = 9,
     /* the state breaks the state rule for this program: it is another program's, was damaged, or was never begun */
     JOYCE_STATE = 10,

@@ -24,7 +24,7 @@ import struct
 import subprocess
 import tempfile
 
-STATE_SIZE, PAGE_SIZE, TABLE_MAX = 37376, 8192, 7657
+STATE_SIZE, PAGE_SIZE, TABLE_MAX = 37376, 8192, 7913
 TEXT_MAX, SYMBOL_SIZE = 65535, 7
 ADDRESS_MIN, ADDRESS_MAX = -8192, -2
 WORD, SYMBOLS, FAILURE = 65536, 65536, 16
@@ -33,7 +33,7 @@ Standard = enum.IntEnum("Standard", "INTEGER BOOLEAN CHARACTER DECLARED", start=
 Type = enum.IntEnum("Type", "RECORD ARRAY PROCESS", start=1)
 Mode = enum.IntEnum("Mode", "LOCAL VALUE VAR", start=0)
 Block = enum.IntEnum("Block", "PROGRAM MODULE PROCEDURE", start=0)
-Node = enum.IntEnum("Node", "CONSTANT WHOLE FIELD ELEMENT VALUE UNARY BINARY TRANSFER", start=0)
+Node = enum.IntEnum("Node", "CONSTANT WHOLE FIELD ELEMENT VALUE UNARY BINARY TRANSFER STRING", start=0)
 Unary = enum.IntEnum("Unary", "MINUS NOT VAL", start=1)
 Binary = enum.IntEnum("Binary", "EQUAL UNEQUAL LESS AT_MOST GREATER AT_LEAST ADD SUBTRACT MULTIPLY DIVIDE MOD AND OR", start=1)
 Statement = enum.IntEnum(
@@ -47,9 +47,9 @@ Answer = enum.IntEnum("Answer", {
     "DONE": 0, "WAITS": 1, "ENDED": 2, "NO_PROCESS": 3, "OVERFLOW": 16, "DIVISOR": 17, "INDEX": 18, "EMPTY": 19, "TWICE": 20,
     "ADDRESS": 21, "AREA": 22, "TRANSFER": 23, "PROCESSES": 24, "UNSET": 31})
 
-# The sections of a table in order, each with the layout of an entry.
+# The sections of a table in order, each with the layout of an entry. The last may be left out.
 SECTIONS = {"types": "<BBBHH", "fields": "<B", "variables": "<BB", "blocks": "<BBBBBBH", "arguments": "<B", "nodes": "<BBBH",
-            "statements": "<BBBBBB"}
+            "statements": "<BBBBBB", "characters": "<B"}
 
 
 class Refused(Exception):
@@ -63,13 +63,17 @@ class Refused(Exception):
 # ---- tables
 
 def pack(**sections):
-    """The table with these sections: lists of entries, each a number or a tuple of its first fields; the fields after them are 0."""
+    """The table with these sections: lists of entries, each a number or a tuple of its first fields; the fields after them are 0. The
+    characters of string constants may be a str or bytes; where they are not named the table ends after the statements."""
     unknown = set(sections) - set(SECTIONS)
     if unknown:
         raise TypeError(f"no section: {', '.join(sorted(unknown))}")
     table = bytearray()
     for name, layout in SECTIONS.items():
-        entries = list(sections.get(name, []))
+        entries = sections.get(name, [])
+        if name == "characters" and name not in sections:
+            break
+        entries = list(entries.encode("ascii") if isinstance(entries, str) else entries)
         table.append(len(entries))
         for entry in entries:
             fields = list(entry) if isinstance(entry, (list, tuple)) else [entry]
@@ -81,11 +85,14 @@ def pack(**sections):
 
 
 def unpack(table):
-    """The sections of a table as lists of tuples, words as 0..65,535; ValueError where they end early or bytes are left over."""
+    """The sections of a table as lists of tuples, words as 0..65,535, the characters only where the table has them; ValueError where they end
+    early or bytes are left over."""
     if len(table) == 0:     # an empty cartridge slot: block 0 skips and ends
-        return {**{name: [] for name in SECTIONS}, "blocks": [(0,) * 7], "statements": [(0,) * 6, (13,) + (0,) * 5]}
+        return {**{name: [] for name in SECTIONS if name != "characters"}, "blocks": [(0,) * 7], "statements": [(0,) * 6, (13,) + (0,) * 5]}
     sections, at = {}, 0
     for name, layout in SECTIONS.items():
+        if name == "characters" and at == len(table):
+            break
         size = struct.calcsize(layout)
         count = table[at] if at < len(table) else 0
         end = at + 1 + count * size

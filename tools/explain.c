@@ -52,7 +52,7 @@ static bool judge_sections(struct judge *j, const uint8_t *table, size_t length)
         return true;
     f->section = broken;
     f->entry = f->field = NOWHERE;
-    f->byte = broken == SECTIONS ? j->t.first[STATEMENTS] + (size_t)(count(j, STATEMENTS) * entry_size(STATEMENTS)) : j->t.first[broken] - 1;
+    f->byte = broken == SECTIONS ? j->t.first[CHARACTERS] + (size_t)count(j, CHARACTERS) : j->t.first[broken] - 1;
     if (f->byte < length)
         snprintf(f->there, sizeof f->there, "%d", table[f->byte]);
     else
@@ -61,6 +61,10 @@ static bool judge_sections(struct judge *j, const uint8_t *table, size_t length)
         snprintf(f->why, sizeof f->why, "after the last section %zu bytes are left over", length - f->byte);
     else if (f->byte >= length)
         snprintf(f->why, sizeof f->why, "the table ends before this section");
+    else if (broken == CHARACTERS)
+        snprintf(f->why, sizeof f->why,
+                 "a table ends after the statements, or an eighth section follows: this one has a count of %d, and %zu bytes are left",
+                 count(j, broken), length - f->byte - 1);
     else
         snprintf(f->why, sizeof f->why, "the section has %d entries of %d bytes, %d bytes, and %zu are left", count(j, broken), entry_size(broken),
                  count(j, broken) * entry_size(broken), length - f->byte - 1);
@@ -76,7 +80,7 @@ bool has_arguments(int kind)
 
 int node_fields(const struct judge *j, int section, int entry)
 {
-    static const int of_nodes[] = {0, 0, BIT(N_P), BIT(N_P) | BIT(N_Q), BIT(N_P), BIT(N_P), BIT(N_P) | BIT(N_Q), BIT(N_P)};
+    static const int of_nodes[] = {0, 0, BIT(N_P), BIT(N_P) | BIT(N_Q), BIT(N_P), BIT(N_P), BIT(N_P) | BIT(N_Q), BIT(N_P), 0};
     static const int of_statements[] = {[ASSIGN] = BIT(S_A) | BIT(S_B), [PROCESS_CALL] = BIT(S_A), [CREATE] = BIT(S_A), [START] = BIT(S_A),
                                         [ARM] = BIT(S_A), [WRITE] = BIT(S_A) | BIT(S_B), [BLOCK_END] = 0};
     if (section == ARGUMENTS)

@@ -10,7 +10,7 @@ static const int type_uses[] = {0, KIND | BIT(T_P) | BIT(T_Q), ALL, KIND | BIT(T
 static const int node_uses[] = {
     [CONSTANT] = KIND | BIT(N_P) | BIT(N_V), [WHOLE] = KIND | BIT(N_P), [FIELD] = KIND | BIT(N_P) | BIT(N_Q),
     [ELEMENT] = KIND | BIT(N_P) | BIT(N_Q), [VALUE] = KIND | BIT(N_P), [UNARY] = KIND | BIT(N_P) | BIT(N_Q), [BINARY] = ALL,
-    [TRANSFER] = KIND | BIT(N_P) | BIT(N_Q)};
+    [TRANSFER] = KIND | BIT(N_P) | BIT(N_Q), [STRING] = KIND | BIT(N_P) | BIT(N_Q)};
 static const int statement_uses[] = {
     [SKIP] = KIND, [ASSIGN] = KIND | BIT(S_A) | BIT(S_B), [CALL] = KIND | BIT(S_A) | BIT(S_C) | BIT(S_D),
     [PROCESS_CALL] = KIND | BIT(S_A) | BIT(S_B) | BIT(S_C) | BIT(S_D), [CREATE] = KIND | BIT(S_A),

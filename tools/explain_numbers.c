@@ -166,7 +166,17 @@ static bool is_field_numbered(struct judge *j, int node)
            blame(j, NODES, node, N_Q, "there is no such field: type %d, a record, has %d, from 0 on", type, at(j, TYPES, type - DECLARED, T_Q));
 }
 
-static bool is_node_numbered(struct judge *j, int node)
+/* String constants take the characters in the order of their nodes. */
+static bool is_string_numbered(struct judge *j, int node, int *next)
+{
+    if (!j->t.has_characters)
+        return blame(j, NODES, node, N_KIND, "a string constant needs characters; the table ends after the statements, without an eighth section");
+    if (at(j, NODES, node, N_Q) < 1)
+        return blame(j, NODES, node, N_Q, "a string constant has at least 1 character");
+    return takes_next(j, NODES, node, N_P, N_Q, CHARACTERS, next);
+}
+
+static bool is_node_numbered(struct judge *j, int node, int *next)
 {
     switch (at(j, NODES, node, N_KIND)) {
     case CONSTANT:
@@ -179,6 +189,7 @@ static bool is_node_numbered(struct judge *j, int node)
     case VALUE: return is_operand(j, NODES, node, N_P, true);
     case UNARY: return is_operand(j, NODES, node, N_P, false);
     case BINARY: return is_operand(j, NODES, node, N_P, false) && is_operand(j, NODES, node, N_Q, false);
+    case STRING: return is_string_numbered(j, node, next);
     default:
         return is_operand(j, NODES, node, N_P, false) &&
                (at(j, NODES, node, N_Q) <= CHARACTER || blame(j, NODES, node, N_Q, "a transfer leads to type 0 (integer), 1 (boolean) or 2 (char)"));
@@ -187,15 +198,16 @@ static bool is_node_numbered(struct judge *j, int node)
 
 static bool are_nodes_numbered(struct judge *j)
 {
+    int next = 0;
     for (int i = 0; i < count(j, ARGUMENTS); i++)
         if (!has_entry(&j->t, NODES, at(j, ARGUMENTS, i, A_NODE)))
             return blame(j, ARGUMENTS, i, A_NODE, "there is no such node: there are %d", count(j, NODES));
     for (int i = 0; i < count(j, NODES); i++) {
-        if (!is_node_numbered(j, i))
+        if (!is_node_numbered(j, i, &next))
             return false;
         j->type_of[i] = is_variable_kind(at(j, NODES, i, N_KIND)) ? variable_type(j, i) : NO_TYPE;
     }
-    return true;
+    return are_all_taken(j, CHARACTERS, next, "string constants");
 }
 
 static bool is_procedure_named(struct judge *j, int statement, int field)

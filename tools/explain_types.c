@@ -120,17 +120,28 @@ bool judge_scopes(struct judge *j)
 
 static int kind_of(const struct judge *j, int type)
 {
-    return type < DECLARED ? 0 : at(j, TYPES, type - DECLARED, T_KIND);
+    return type < DECLARED || type >= STRING_TYPE ? 0 : at(j, TYPES, type - DECLARED, T_KIND);
 }
 
 static bool is_string(const struct judge *j, int type)
 {
-    return kind_of(j, type) == ARRAY && at(j, TYPES, type - DECLARED, T_Q) == CHARACTER;
+    return type >= STRING_TYPE || (kind_of(j, type) == ARRAY && at(j, TYPES, type - DECLARED, T_Q) == CHARACTER);
+}
+
+static int length_of(const struct judge *j, int string)
+{
+    return string >= STRING_TYPE ? string - STRING_TYPE : elements_of(j, string);
+}
+
+/* Strings of two lengths: as a value argument the one is filled or cut to the other. */
+static bool are_fitted(const struct judge *j, int a, int b)
+{
+    return is_string(j, a) && is_string(j, b) && length_of(j, a) != length_of(j, b);
 }
 
 static bool do_match(const struct judge *j, int a, int b)
 {
-    return a == b || (is_string(j, a) && is_string(j, b) && elements_of(j, a) == elements_of(j, b));
+    return a == b || (is_string(j, a) && is_string(j, b) && length_of(j, a) == length_of(j, b));
 }
 
 static const char *sort_name(int kind)
@@ -138,7 +149,8 @@ static const char *sort_name(int kind)
     return kind == RECORD ? "a record" : kind == ARRAY ? "an array" : "a process";
 }
 
-/* A type in words, after 'type': 'integer', or '5, a record'. Two may be asked for in one sentence. */
+/* A type in words, after 'type': 'integer', '5, a record', '6, a string of 4'; a constant's is 'string of 4'. Two may be asked for in one
+ * sentence. */
 static const char *words_of(const struct judge *j, int type)
 {
     static char words[4][40];
@@ -146,8 +158,22 @@ static const char *words_of(const struct judge *j, int type)
     if (type < DECLARED)
         return standard_name(type);
     char *into = words[turn++ % 4];
-    snprintf(into, sizeof words[0], "%d, %s", type, sort_name(kind_of(j, type)));
+    if (type >= STRING_TYPE)
+        snprintf(into, sizeof words[0], "string of %d", length_of(j, type));
+    else if (is_string(j, type))
+        snprintf(into, sizeof words[0], "%d, a string of %d", type, length_of(j, type));
+    else
+        snprintf(into, sizeof words[0], "%d, %s", type, sort_name(kind_of(j, type)));
     return into;
+}
+
+/* Where matching types are needed: says so, or that strings of two lengths do not match. */
+static bool blame_unmatched(struct judge *j, int section, int entry, int field, int a, int b, const char *rule)
+{
+    if (are_fitted(j, a, b))
+        return blame(j, section, entry, field, "a string of %d does not match one of %d: only value arguments are filled or cut", length_of(j, b),
+                     length_of(j, a));
+    return blame(j, section, entry, field, rule, words_of(j, a), words_of(j, b));
 }
 
 /* The field names a node of this type. */
@@ -211,8 +237,8 @@ static bool is_binary_typed(struct judge *j, int node)
     int sign = at(j, NODES, node, N_V), a = j->type_of[at(j, NODES, node, N_P)], b = j->type_of[at(j, NODES, node, N_Q)];
     j->type_of[node] = sign <= NOT_LESS ? BOOLEAN : a;
     if (sign <= UNEQUAL)
-        return do_match(j, a, b) || blame(j, NODES, node, N_Q, "= and <> take matching types; the left is of type %s, the right of type %s",
-                                          words_of(j, a), words_of(j, b));
+        return do_match(j, a, b) ||
+               blame_unmatched(j, NODES, node, N_Q, a, b, "= and <> take matching types; the left is of type %s, the right of type %s");
     if (!is_left_typed(j, node, sign, a))
         return false;
     return a == b || blame(j, NODES, node, N_Q, "both operands are of one type; the left is of type %s, the right of type %s", words_of(j, a),
@@ -234,6 +260,7 @@ static bool is_node_typed(struct judge *j, int node)
     case VALUE: j->type_of[node] = j->type_of[p]; return true;
     case UNARY: return is_unary_typed(j, node);
     case BINARY: return is_binary_typed(j, node);
+    case STRING: j->type_of[node] = STRING_TYPE + (at(j, NODES, node, N_Q) + 1) / 2 * 2; return true;
     default:
         j->type_of[node] = at(j, NODES, node, N_Q);
         return j->type_of[p] <= CHARACTER ||
@@ -248,7 +275,7 @@ static bool is_argument_typed(struct judge *j, int argument, int variable)
     if (is_var != is_node_var)
         return blame(j, ARGUMENTS, argument, A_NODE, "parameter %d is a %s parameter and takes %s; node %d is %s", variable, is_var ? "var" : "value",
                      is_var ? "a variable" : "an expression", node, is_node_var ? "a variable" : "an expression");
-    if (is_var ? found != type : !do_match(j, found, type))
+    if (is_var ? found != type : !do_match(j, found, type) && !are_fitted(j, found, type))
         return blame(j, ARGUMENTS, argument, A_NODE, "parameter %d takes %s type, type %s; node %d is of type %s", variable,
                      is_var ? "the same" : "a matching", words_of(j, type), node, words_of(j, found));
     return true;
@@ -286,8 +313,7 @@ static bool is_assignment_typed(struct judge *j, int i)
 {
     int a = j->type_of[at(j, STATEMENTS, i, S_A)], b = j->type_of[at(j, STATEMENTS, i, S_B)];
     return do_match(j, a, b) ||
-           blame(j, STATEMENTS, i, S_B, "an assignment takes matching types; the variable is of type %s, the expression of type %s", words_of(j, a),
-                 words_of(j, b));
+           blame_unmatched(j, STATEMENTS, i, S_B, a, b, "an assignment takes matching types; the variable is of type %s, the expression of type %s");
 }
 
 static bool is_statement_typed(struct judge *j, int i)
@@ -328,5 +354,8 @@ bool judge_types(struct judge *j)
     for (int block = 0; block < count(j, BLOCKS); block++)
         if (at(j, BLOCKS, block, B_KIND) == MODULE && !are_parameters_simple(j, block))
             return false;
+    for (int i = 0; i < count(j, CHARACTERS); i++)
+        if (!is_in_type(CHARACTER, at(j, CHARACTERS, i, C_CHARACTER)))
+            return blame(j, CHARACTERS, i, C_CHARACTER, "a character is 0..127");
     return true;
 }

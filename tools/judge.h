@@ -6,6 +6,7 @@
 #include "table.h"
 
 enum { ENTRIES = 256, NO_TYPE = -1 };
+enum { STRING_TYPE = DECLARED + ENTRIES }; /* plus its even length: the type of a string constant */
 
 /* What the rules find on the way, each for those after it. */
 struct judge {

@@ -15,7 +15,7 @@ const char *result_words(uint32_t result)
     case JOYCE_NESTING: return "statements that do not nest";
     case JOYCE_SIZES: return "a type or a module that is too large, or wrong bounds of an array";
     case JOYCE_SCOPES: return "a variable or a procedure out of scope";
-    case JOYCE_TYPES: return "a wrong type, or wrong arguments";
+    case JOYCE_TYPES: return "a wrong type, wrong arguments, or a constant or character outside its type";
     case JOYCE_STATE: return "the state is no state of this program";
     case JOYCE_ABSENT: return "no such word: the process is not started, the variable is not of its module, or the place lies outside it";
     case JOYCE_NO_SYMBOL: return "at some place of the text neither a symbol nor a comment begins";

@@ -173,6 +173,7 @@ static void draw_columns(const struct picture *p, FILE *file, unsigned process, 
     const uint32_t *count = p->counts[process][from];
     uint64_t last = to * p->width < p->done ? to * p->width : p->done, turns = 0, drawn = 0;
     int left = x_of(p, from * p->width), right = x_of(p, last), bottom = y_of(lane) + LANE;
+    left -= left == right && left > LEFT; /* a short last column is seen too */
     for (int sort = 0; sort < SORTS; sort++)
         turns += count[sort];
     for (int sort = 0; sort < SORTS; sort++) {

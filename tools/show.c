@@ -91,6 +91,7 @@ static void show_meaning(struct text *x, int section, int entry)
     case TYPES: write_type(x, DECLARED + entry); break;
     case ARGUMENTS: write_node(x, at(x, ARGUMENTS, entry, A_NODE)); break;
     case NODES: write_node(x, entry); break;
+    case CHARACTERS: write_constant(x, CHARACTER, at(x, CHARACTERS, entry, C_CHARACTER)); break;
     default: write_statement(x, entry);
     }
 }
@@ -107,8 +108,8 @@ static void show_mark(const struct text *x, const struct fault *f, int section, 
 
 void show_entries(struct text *x, const struct fault *fault)
 {
-    static const char prefixes[SECTIONS] = {'t', 'f', 'v', 'b', 'a', 'n', 's'};
-    for (int section = 0; section < SECTIONS; section++) {
+    static const char prefixes[SECTIONS] = {'t', 'f', 'v', 'b', 'a', 'n', 's', 'c'};
+    for (int section = 0; section < (x->table->has_characters ? SECTIONS : CHARACTERS); section++) {
         fprintf(x->out, "%s: %d", section_name(section), x->table->count[section]);
         show_mark(x, fault, section, NOWHERE);
         fputc('\n', x->out);
@@ -161,16 +162,31 @@ static int statement_of_node(const struct text *x, int node)
     return -1;
 }
 
+/* The string constant that a character is of; -1 where there is none. */
+static int node_of_character(const struct text *x, int character)
+{
+    for (int i = 0; i < x->table->count[NODES]; i++) {
+        int first = at(x, NODES, i, N_P);
+        if (at(x, NODES, i, N_KIND) == STRING && character >= first && character < first + at(x, NODES, i, N_Q))
+            return i;
+    }
+    return -1;
+}
+
 void show_place(struct text *x, const struct fault *f)
 {
-    int statement = f->section == STATEMENTS ? f->entry : -1;
-    if (f->verdict <= 2 || f->entry == NOWHERE)
+    int section = f->section, entry = f->entry, statement = section == STATEMENTS ? entry : -1;
+    if (f->verdict <= 2 || entry == NOWHERE)
         return;
-    if (f->section == TYPES || f->section == ARGUMENTS || f->section == NODES) {
+    if (section == CHARACTERS) {
+        section = NODES;
+        entry = node_of_character(x, entry);
+    }
+    if (entry >= 0 && (section == TYPES || section == ARGUMENTS || section == NODES)) {
         fputs("  in words: ", x->out);
-        show_meaning(x, f->section, f->entry);
+        show_meaning(x, section, entry);
         fputc('\n', x->out);
-        statement = f->section == NODES ? statement_of_node(x, f->entry) : f->section == ARGUMENTS ? statement_of_argument(x, f->entry) : -1;
+        statement = section == NODES ? statement_of_node(x, entry) : section == ARGUMENTS ? statement_of_argument(x, entry) : -1;
     }
     if (statement < 0)
         return;

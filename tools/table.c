@@ -21,13 +21,14 @@ static const struct form {
     [ARGUMENTS] = {"arguments", 1, 1, {{"node", 0, 0}}},
     [NODES] = {"nodes", 5, 4, {{"kind", 0, 0}, {"p", 1, 0}, {"q", 2, 0}, {"v", 3, 1}}},
     [STATEMENTS] = {"statements", 6, 6, {{"kind", 0, 0}, {"a", 1, 0}, {"b", 2, 0}, {"c", 3, 0}, {"d", 4, 0}, {"link", 5, 0}}},
+    [CHARACTERS] = {"characters", 1, 1, {{"character", 0, 0}}},
 };
 
 static const char *const kinds[SECTIONS][KINDS_MAX] = {
     [TYPES] = {NULL, "record", "array", "process"},
     [VARIABLES] = {"local", "value parameter", "var parameter"},
     [BLOCKS] = {"program", "process module", "procedure"},
-    [NODES] = {"constant", "whole", "field", "element", "value", "unary", "binary", "transfer"},
+    [NODES] = {"constant", "whole", "field", "element", "value", "unary", "binary", "transfer", "string"},
     [STATEMENTS] = {"skip", "assign", "local call", "process call", "create", "start", "if", "while", "when", "cycle", "arm", "end", "write",
                     "block end"},
 };
@@ -46,6 +47,9 @@ bool read_sections(struct table *t, const uint8_t *bytes, size_t length, int *br
     for (int i = 0; i < SECTIONS; i++) {
         *broken = i;
         t->first[i] = at + 1;
+        t->has_characters = i == CHARACTERS && at < length;
+        if (i == CHARACTERS && !t->has_characters)
+            break;
         if (at >= length)
             return false;
         t->count[i] = bytes[at];

@@ -6,7 +6,7 @@
 #include <stddef.h>
 #include <stdint.h>
 
-enum section { TYPES, FIELDS, VARIABLES, BLOCKS, ARGUMENTS, NODES, STATEMENTS, SECTIONS };
+enum section { TYPES, FIELDS, VARIABLES, BLOCKS, ARGUMENTS, NODES, STATEMENTS, CHARACTERS, SECTIONS };
 
 /* the fields of an entry, in order */
 enum { T_KIND, T_P, T_Q, T_LOW, T_HIGH };
@@ -16,13 +16,14 @@ enum { B_KIND, B_OWNER, B_FIRST, B_PARAMETERS, B_VARIABLES, B_STATEMENT, B_SPACE
 enum { A_NODE };
 enum { N_KIND, N_P, N_Q, N_V };
 enum { S_KIND, S_A, S_B, S_C, S_D, S_LINK };
+enum { C_CHARACTER };
 
 /* kinds, modes, operators, and the standard types */
 enum { INTEGER, BOOLEAN, CHARACTER, DECLARED };
 enum { RECORD = 1, ARRAY, PROCESS };
 enum { LOCAL, VALUE_PARAMETER, VAR_PARAMETER };
 enum { PROGRAM, MODULE, PROCEDURE };
-enum { CONSTANT, WHOLE, FIELD, ELEMENT, VALUE, UNARY, BINARY, TRANSFER };
+enum { CONSTANT, WHOLE, FIELD, ELEMENT, VALUE, UNARY, BINARY, TRANSFER, STRING };
 enum { MINUS = 1, NOT, VAL };
 enum { EQUAL = 1, UNEQUAL, LESS, NOT_GREATER, GREATER, NOT_LESS, PLUS, DIFFERENCE, TIMES, DIVIDE, MOD, AND, OR };
 enum { SKIP, ASSIGN, CALL, PROCESS_CALL, CREATE, START, IF, WHILE, WHEN, CYCLE, ARM, END, WRITE, BLOCK_END };
@@ -32,11 +33,11 @@ struct table {
     size_t length;
     int count[SECTIONS];
     size_t first[SECTIONS]; /* the byte of the section's first entry */
+    bool has_characters;    /* the last section is there; else its count is 0 */
 };
 
-/* Finds the sections. True where all seven are there and nothing is left over; else *broken is the section that is cut, or SECTIONS where bytes are
- * left over. */
-/* Zero bytes are read as the program of an empty cartridge slot. */
+/* Finds the sections. True where all are there, the characters apart, and nothing is left over; else *broken is the section that is cut, or
+ * SECTIONS where bytes are left over. Zero bytes are read as the program of an empty cartridge slot. */
 bool read_sections(struct table *t, const uint8_t *bytes, size_t length, int *broken);
 
 bool has_entry(const struct table *t, int section, int entry);

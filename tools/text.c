@@ -98,6 +98,13 @@ void write_type(const struct text *x, int type)
     }
 }
 
+void write_in_string(FILE *out, int character, bool *is_number)
+{
+    bool is_digit = character >= '0' && character <= '9', is_graphic = character >= 32 && character < 127;
+    *is_number = !is_graphic || character == '\'' || character == '@' || (is_digit && *is_number);
+    fprintf(out, *is_number ? "@%d" : "%c", character);
+}
+
 void write_constant(const struct text *x, int type, int number)
 {
     if (type == BOOLEAN && (number == 0 || number == 1))
@@ -144,6 +151,19 @@ static void write_number(struct text *x, int node, struct place place)
     open_bracket(x, level, place);
     write_constant(x, type, number);
     close_bracket(x, level, place);
+}
+
+/* A string constant. One character is written with the character 0 that it gains, for 'a' would be no string. */
+static void write_string(struct text *x, int node)
+{
+    int first = at(x, NODES, node, N_P), count = at(x, NODES, node, N_Q);
+    bool is_number = false;
+    fputc('\'', x->out);
+    for (int i = first; i < first + count && has_entry(x->table, CHARACTERS, i); i++)
+        write_in_string(x->out, at(x, CHARACTERS, i, C_CHARACTER), &is_number);
+    fputs(count == 1 ? "@0'" : "'", x->out);
+    if (count == 0 || first + count > x->table->count[CHARACTERS])
+        fputc('?', x->out);
 }
 
 static void write_unary(struct text *x, int node, struct place place)
@@ -220,6 +240,7 @@ static void write_in(struct text *x, int node, int user, struct place place)
     case VALUE: write_in(x, at(x, NODES, node, N_P), node, place); break;
     case UNARY: write_unary(x, node, place); break;
     case BINARY: write_binary(x, node, place); break;
+    case STRING: write_string(x, node); break;
     case TRANSFER:
         write_in(x, at(x, NODES, node, N_P), node, (struct place){FACTOR, false});
         fputs(": ", x->out);

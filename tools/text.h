@@ -24,6 +24,8 @@ void write_field_name(const struct text *x, int record, int place);
 /* What a type is: 'array 1..4 of integer' */
 void write_type(const struct text *x, int type);
 void write_constant(const struct text *x, int type, int number);
+/* A character between the apostrophes of a string. *is_number says whether the one before was written as its number: a digit is then one too. */
+void write_in_string(FILE *out, int character, bool *is_number);
 void write_node(struct text *x, int node);
 void write_statement(struct text *x, int statement);
 

@@ -42,6 +42,8 @@ static int type_of(const struct search *s, int node)
 
 static unsigned words_of(const struct search *s, int node)
 {
+    if (kind(s, node) == STRING)
+        return (unsigned)(at(s, NODES, node, N_Q) + 1) / 2 * 2;
     return s->view->words[type_of(s, node)];
 }
 
@@ -128,24 +130,37 @@ static int apply(struct search *s, int sign, int a, int b)
     }
 }
 
-/* Values of several words are values of variables. */
+/* Values of several words are values of variables and string constants. */
+static unsigned retrieve_words(struct search *s, int node)
+{
+    return s->is_over || kind(s, node) == STRING ? 0 : retrieve(s, at(s, NODES, node, N_P));
+}
+
+/* A word of one, which stands at the location if it is a variable's. */
+static unsigned value_word(const struct search *s, int node, unsigned location, unsigned i)
+{
+    if (kind(s, node) != STRING)
+        return state_word(s->view->state, location + i);
+    return (int)i < at(s, NODES, node, N_Q) ? (unsigned)at(s, CHARACTERS, at(s, NODES, node, N_P) + (int)i, C_CHARACTER) : 0;
+}
+
 static int compare(struct search *s, int node)
 {
     int left = at(s, NODES, node, N_P), right = at(s, NODES, node, N_Q);
-    unsigned words = words_of(s, left), a = retrieve(s, at(s, NODES, left, N_P)), i = 0;
-    unsigned b = s->is_over ? 0 : retrieve(s, at(s, NODES, right, N_P));
-    while (!s->is_over && i < words && state_word(s->view->state, a + i) == state_word(s->view->state, b + i))
+    unsigned words = words_of(s, left), a = retrieve_words(s, left), b = retrieve_words(s, right), i = 0;
+    while (!s->is_over && i < words && value_word(s, left, a, i) == value_word(s, right, b, i))
         i++;
     return (i == words) == (at(s, NODES, node, N_V) == EQUAL);
 }
 
-/* The value of an expression. Of one of several words, which is the value of a variable, only that it can be retrieved. */
+/* The value of an expression. Of one of several words, a variable's or a string constant, only that it can be retrieved. */
 static int evaluate(struct search *s, int node)
 {
     int p = at(s, NODES, node, N_P), q = at(s, NODES, node, N_Q), a;
     unsigned location;
     switch (kind(s, node)) {
     case CONSTANT: return at(s, NODES, node, N_V);
+    case STRING: return 0;
     case VALUE:
         location = retrieve(s, p);
         return s->is_over ? 0 : joyce_integer(state_word(s->view->state, location));

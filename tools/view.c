@@ -96,14 +96,10 @@ static void print_record(struct view *v, unsigned location, unsigned type)
 /* A string, in the report's symbols. */
 static void print_characters(struct view *v, unsigned location, unsigned count)
 {
+    bool is_number = false;
     fputc('\'', v->text.out);
-    for (unsigned i = 0; i < count; i++) {
-        unsigned c = state_word(v->state, location + i);
-        if (c >= 32 && c < 127 && c != '\'' && c != '@')
-            fputc((int)c, v->text.out);
-        else
-            fprintf(v->text.out, "@%u", c);
-    }
+    for (unsigned i = 0; i < count; i++)
+        write_in_string(v->text.out, (int)state_word(v->state, location + i), &is_number);
     fputc('\'', v->text.out);
 }
 

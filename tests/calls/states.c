@@ -38,7 +38,7 @@ static bool steps_safely(const struct lent *lent)
     memcpy(page, left(PAGE), sizeof page);
     if (joyce_run(lent->bytes[TABLE], lent->lengths[TABLE], state, sizeof state, page, sizeof page, NULL, 0, NULL, 0) != JOYCE_OK)
         return bad("the state after a run is refused");
-    read_program(&program, lent->bytes[TABLE]);
+    read_program(&program, lent->bytes[TABLE], lent->lengths[TABLE]);
     return references_hold(&program, state, &named) || bad("a reference is not of its module");
 }
 
@@ -112,7 +112,7 @@ static bool looks_by_layout(void)
     for (int round = 0; round < 300 / SHARE; round++) {
         if (!begin_with(&r, round % 10 ? table_of(JOYCE_ACCEPTED, below(100000)) : board, below(2)) || !advance(&r, below(300)))
             return false;
-        read_program(&program, r.table.bytes);
+        read_program(&program, r.table.bytes, r.table.length);
         for (int i = 0; i < 100; i++) {
             uint32_t process = below(6), variable = below(12), place = below(below(2) ? 2 : 12);
             uint32_t result = joyce_look(r.table.bytes, r.table.length, r.state, sizeof r.state, process, variable, place);
@@ -150,11 +150,11 @@ static bool kept_states(void)
 enum { THREADS = 4, FRAMES = 40 };
 
 struct player {
-    uint8_t state[JOYCE_STATE_SIZE], page[JOYCE_PAGE_SIZE], answers[FRAMES * FRAME_STEPS];
+    uint8_t state[JOYCE_STATE_SIZE], page[JOYCE_PAGE_SIZE], answers[FRAMES * FRAME_STEPS + BOOT_STEPS];
     bool is_done;
 };
 
-static uint8_t frames[FRAMES * FRAME_STEPS];
+static uint8_t frames[FRAMES * FRAME_STEPS + BOOT_STEPS]; /* and before them the boot */
 
 static void *play(void *argument)
 {
@@ -163,9 +163,10 @@ static void *play(void *argument)
         joyce_put(p->page, PAD_STRIP + 2 * i, i % 3);
     if (joyce_begin(board.bytes, board.length, p->state, sizeof p->state, JOYCE_START_UNSET) != JOYCE_OK)
         return NULL;
-    for (size_t at = 0; at < sizeof frames; at += FRAME_STEPS) {
-        if (joyce_run(board.bytes, board.length, p->state, sizeof p->state, p->page, sizeof p->page, frames + at, FRAME_STEPS,
-                      p->answers + at, FRAME_STEPS) != JOYCE_OK)
+    for (size_t at = 0, count; at < sizeof frames; at += count) {
+        count = at == 0 ? BOOT_STEPS + FRAME_STEPS : FRAME_STEPS;
+        if (joyce_run(board.bytes, board.length, p->state, sizeof p->state, p->page, sizeof p->page, frames + at, count, p->answers + at,
+                      count) != JOYCE_OK)
             return NULL;
         if (joyce_look(board.bytes, board.length, p->state, sizeof p->state, CLOCK, 3, 0) < JOYCE_WORD)
             return NULL;
@@ -181,7 +182,8 @@ static bool threads(void)
     pthread_t thread[THREADS];
     pthread_attr_t small;
     bool is_same = true;
-    frame_turns(frames, FRAMES);
+    boot_turns(frames);
+    frame_turns(frames + BOOT_STEPS, FRAMES);
     if (!players || pthread_attr_init(&small) || pthread_attr_setstacksize(&small, 256 * 1024))
         return bad("no threads");
     for (int i = 0; i < THREADS; i++)

@@ -25,9 +25,12 @@ static bool start_film(struct film *film)
 {
     static uint8_t bytes[JOYCE_ACCEPTED_MAX];
     build_board(bytes, sizeof bytes, &variables);
-    frame_turns(turns, FRAMES);
+    boot_turns(turns);
     memset(film, 0, sizeof *film);
-    return begin_with(&film->run, board, JOYCE_START_UNSET);
+    if (!begin_with(&film->run, board, JOYCE_START_UNSET) || !run_turns(&film->run, turns, BOOT_STEPS, film->answers))
+        return false;
+    frame_turns(turns, FRAMES);
+    return true;
 }
 
 static void hold(struct film *film, int frame, int buttons)
@@ -265,7 +268,7 @@ static bool references_of_their_module(struct table table, uint32_t number, int 
     if (joyce_check(table.bytes, table.length) != JOYCE_ACCEPTED)
         return bad("the verdict on the board is %u", (unsigned)joyce_check(table.bytes, table.length));
     r.table = table;
-    read_program(&program, table.bytes);
+    read_program(&program, table.bytes, table.length);
     for (int order = 0; order < orders; order++) {
         seed = (uint64_t)(order + 1) * 1000003u;
         if (!try_order(&r, &program, number, &named))

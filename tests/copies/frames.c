@@ -104,7 +104,7 @@ static bool run_to_end(void)
 
 static bool run_turn(int width, int depth, int first, int second, bool is_far)
 {
-    static uint8_t table[7657];
+    static uint8_t table[7913];
     int words[MOST];
     size_t length = build(width, depth, first, second, is_far, table, sizeof table);
     if (length == 0)

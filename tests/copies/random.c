@@ -486,7 +486,7 @@ static bool run_program(bool is_cut, bool *has_failed)
 
 static int test(const char *name, bool is_wide, uint64_t first_seed)
 {
-    static uint8_t table[7657];
+    static uint8_t table[7913];
     int failed = 0;
     unsigned long steps = run.steps, copies = run.copies;
     bool is_ok = true;

@@ -534,7 +534,7 @@ static bool run_to_end(const struct program *g)
 
 static bool run_program(struct program *g, int words)
 {
-    static uint8_t table[7657];
+    static uint8_t table[7913];
     size_t length = build(g, table, sizeof table);
     unsigned long copies = run.copies;
     if (length == 0)

@@ -68,9 +68,15 @@ int main(int argc, char **argv)
     struct model model = {.column = START_COLUMN};
     size_t length = build_board(table, sizeof table, &variables);
     long frames = argc > 1 ? atol(argv[1]) : 100000;
-    frame_turns(schedule, 1);
-    if (joyce_begin(table, length, state, sizeof state, JOYCE_START_UNSET) != JOYCE_OK)
+    boot_turns(schedule);
+    if (joyce_begin(table, length, state, sizeof state, JOYCE_START_UNSET) != JOYCE_OK ||
+        joyce_run(table, length, state, sizeof state, page, sizeof page, schedule, BOOT_STEPS, answers, FRAME_STEPS) != JOYCE_OK)
         return 1;
+    for (size_t i = 0; i < strlen(BOARD_TITLE); i++)
+        joyce_put(wanted, TITLE + 2 * (int)i, BOARD_TITLE[i]);
+    if (compare_pages(-1))
+        return 1;
+    frame_turns(schedule, 1);
     for (long frame = 0; frame < frames; frame++) {
         int buttons = next_buttons();
         joyce_put(page, strip_address(PAD_STRIP, frame), buttons);

@@ -1,9 +1,9 @@
 /* The explanations of refused tables, held to outside verdicts and to the library's:
  *
- *     explain [--show] VERDICTS.. -- TABLE..
+ *     explain [--show] [--older VERDICTS] VERDICTS.. -- TABLE..
  *
- * of the files of verdicts, every table; of the tables, which are accepted, every one with one byte changed, to each of some values. --show also
- * shows each. */
+ * of the files of verdicts, every table, of the older ones by the library's verdict, for string constants have changed some; of the tables, which
+ * are accepted, every one with one byte changed, to each of some values. --show also shows each. */
 #include "explain.h"
 #include "joyce.h"
 #include "show.h"
@@ -79,7 +79,7 @@ static bool is_explained(const uint8_t *bytes, size_t length, uint32_t verdict)
     return is_right;
 }
 
-static void test_verdicts(const char *name)
+static void test_verdicts(const char *name, bool is_older)
 {
     size_t length, at = 0;
     long count = 0;
@@ -87,7 +87,8 @@ static void test_verdicts(const char *name)
     bool is_ok = bytes != NULL;
     while (is_ok && at + 2 < length) {
         size_t size = bytes[at] + 256u * bytes[at + 1];
-        is_ok = at + 2 + size < length && is_explained(bytes + at + 2, size, bytes[at + 2 + size]);
+        is_ok = at + 2 + size < length &&
+                is_explained(bytes + at + 2, size, is_older ? joyce_check(bytes + at + 2, size) : bytes[at + 2 + size]);
         at += 3 + size;
         count++;
     }
@@ -122,8 +123,12 @@ int main(int argc, char **argv)
         nowhere = fopen("/dev/null", "w");
         i = 2;
     }
+    if (i + 1 < argc && strcmp(argv[i], "--older") == 0) {
+        test_verdicts(argv[i + 1], true);
+        i += 2;
+    }
     for (; i < argc && strcmp(argv[i], "--") != 0; i++)
-        test_verdicts(argv[i]);
+        test_verdicts(argv[i], false);
     for (i++; i < argc; i++)
         test_changed(argv[i]);
     for (int verdict = 2; verdict <= 9; verdict++)

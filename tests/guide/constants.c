@@ -153,31 +153,33 @@ static void operators(void)
 
 /* ---- every kind of entry
  *
- *     type pair = record u: integer; v: integer end; row = array 1..2 of pair
+ *     type pair = record u: integer; v: integer end; row = array 1..2 of pair; title = array 1..4 of char
  *     process server(k: integer)
  *       var open: boolean
  *       procedure ask(var x: integer; y: integer) begin when open do x := k + y end end
  *       begin open := true; cycle false do skip end end
  *     var s: server; r: row; n: integer
- *     procedure mark begin if n > 0 do write(-2, n) end end
- *     begin create s; start s(5); while n < 1 do n := n + 1 end; s.ask(r[2].v, n); n := r[2].v; mark; skip end
+ *     procedure mark(t: title) begin if t = 'Joyc' do write(-2, n) end end
+ *     begin create s; start s(5); while n < 1 do n := n + 1 end; s.ask(r[2].v, n); n := r[2].v; mark('Joyce'); skip end
  *
  * It counts from 0, and so begins with zeros. */
 
-enum { PAIR = JOYCE_DECLARED, ROW, SERVER };
-enum { TYPES_AT = 1, FIELDS_AT = TYPES_AT + 3 * 7 + 1, VARIABLES_AT = FIELDS_AT + 2 + 1, BLOCKS_AT = VARIABLES_AT + 7 * 2 + 1,
-       ARGUMENTS_AT = BLOCKS_AT + 4 * 8 + 1, NODES_AT = ARGUMENTS_AT + 3 + 1, STATEMENTS_AT = NODES_AT + 44 * 5 + 1 };
+enum { PAIR = JOYCE_DECLARED, ROW, SERVER, TITLE };
+enum { TYPES_AT = 1, FIELDS_AT = TYPES_AT + 4 * 7 + 1, VARIABLES_AT = FIELDS_AT + 2 + 1, BLOCKS_AT = VARIABLES_AT + 8 * 2 + 1,
+       ARGUMENTS_AT = BLOCKS_AT + 4 * 8 + 1, NODES_AT = ARGUMENTS_AT + 4 + 1, STATEMENTS_AT = NODES_AT + 45 * 5 + 1,
+       CHARACTERS_AT = STATEMENTS_AT + 27 * 6 + 1 };
 
 static void whole_program(void)
 {
     length = 0;
-    put(3);
+    put(4);
     type(JOYCE_TYPE_RECORD, 0, 2, 0, 0);
     type(JOYCE_TYPE_ARRAY, JOYCE_INTEGER, PAIR, 1, 2);
     type(JOYCE_TYPE_PROCESS, 1, 0, 0, 0);
+    type(JOYCE_TYPE_ARRAY, JOYCE_INTEGER, JOYCE_CHARACTER, 1, 4);
     put(2);
     put(JOYCE_INTEGER), put(JOYCE_INTEGER);
-    put(7);
+    put(8);
     variable(JOYCE_MODE_LOCAL, SERVER);         /* 0 s */
     variable(JOYCE_MODE_LOCAL, ROW);            /* 1 r */
     variable(JOYCE_MODE_LOCAL, JOYCE_INTEGER);  /* 2 n */
@@ -185,14 +187,15 @@ static void whole_program(void)
     variable(JOYCE_MODE_LOCAL, JOYCE_BOOLEAN);  /* 4 open */
     variable(JOYCE_MODE_VAR, JOYCE_INTEGER);    /* 5 x */
     variable(JOYCE_MODE_VALUE, JOYCE_INTEGER);  /* 6 y */
+    variable(JOYCE_MODE_VALUE, TITLE);          /* 7 t */
     put(4);
     block(JOYCE_BLOCK_PROGRAM, 0, 0, 0, 3, 0);
     block(JOYCE_BLOCK_MODULE, 1, 3, 1, 2, 11);
     block(JOYCE_BLOCK_PROCEDURE, 1, 5, 2, 2, 17);
-    block(JOYCE_BLOCK_PROCEDURE, 0, 7, 0, 0, 22);
-    put(3);
-    put(2), put(16), put(18);
-    put(44);
+    block(JOYCE_BLOCK_PROCEDURE, 0, 7, 1, 1, 22);
+    put(4);
+    put(2), put(16), put(18), put(44);
+    put(45);
     node(JOYCE_NODE_WHOLE, 0, 0, 0);                            /* 0 s */
     node(JOYCE_NODE_WHOLE, 0, 0, 0);                            /* 1 s */
     node(JOYCE_NODE_CONSTANT, JOYCE_INTEGER, 0, 5);             /* 2 */
@@ -233,10 +236,11 @@ static void whole_program(void)
     node(JOYCE_NODE_CONSTANT, JOYCE_INTEGER, 0, -2);            /* 37 */
     node(JOYCE_NODE_WHOLE, 2, 0, 0);
     node(JOYCE_NODE_VALUE, 38, 0, 0);                           /* 39 n */
-    node(JOYCE_NODE_WHOLE, 2, 0, 0);
+    node(JOYCE_NODE_WHOLE, 7, 0, 0);
     node(JOYCE_NODE_VALUE, 40, 0, 0);
-    node(JOYCE_NODE_CONSTANT, JOYCE_INTEGER, 0, 0);
-    node(JOYCE_NODE_BINARY, 41, 42, JOYCE_BINARY_GREATER);      /* 43 n > 0 */
+    node(JOYCE_NODE_STRING, 0, 4, 0);
+    node(JOYCE_NODE_BINARY, 41, 42, JOYCE_BINARY_EQUAL);        /* 43 t = 'Joyc' */
+    node(JOYCE_NODE_STRING, 4, 5, 0);                           /* 44 'Joyce' */
     put(27);
     statement(JOYCE_STATEMENT_CREATE, 0, 0, 0, 0, 0);
     statement(JOYCE_STATEMENT_START, 1, 0, 0, 1, 0);
@@ -246,7 +250,7 @@ static void whole_program(void)
     statement(JOYCE_STATEMENT_END, 0, 0, 0, 0, 2);
     statement(JOYCE_STATEMENT_PROCESS_CALL, 12, 2, 1, 2, 0);    /* 6 */
     statement(JOYCE_STATEMENT_ASSIGN, 19, 24, 0, 0, 0);
-    statement(JOYCE_STATEMENT_CALL, 3, 0, 3, 0, 0);
+    statement(JOYCE_STATEMENT_CALL, 3, 0, 3, 1, 0);
     statement(JOYCE_STATEMENT_SKIP, 0, 0, 0, 0, 0);
     statement(JOYCE_STATEMENT_BLOCK_END, 0, 0, 0, 0, 0);
     statement(JOYCE_STATEMENT_ASSIGN, 25, 27, 0, 0, 0);         /* 11 */
@@ -265,6 +269,9 @@ static void whole_program(void)
     statement(JOYCE_STATEMENT_WRITE, 37, 39, 0, 0, 0);
     statement(JOYCE_STATEMENT_END, 0, 0, 0, 0, 22);
     statement(JOYCE_STATEMENT_BLOCK_END, 3, 0, 0, 0, 0);
+    put(9);
+    for (const char *at = "JoycJoyce"; *at; at++)
+        put(*at);
 }
 
 static int unknown(size_t at, int kind)
@@ -287,8 +294,13 @@ static void entries(void)
     report("no_type", unknown(TYPES_AT, JOYCE_TYPE_PROCESS + 1) && unknown(TYPES_AT, JOYCE_TYPE_RECORD - 1));
     report("no_mode", unknown(VARIABLES_AT, JOYCE_MODE_VAR + 1));
     report("no_block", unknown(BLOCKS_AT, JOYCE_BLOCK_PROCEDURE + 1));
-    report("no_node", unknown(NODES_AT, JOYCE_NODE_TRANSFER + 1));
+    report("no_node", unknown(NODES_AT, JOYCE_NODE_STRING + 1));
     report("no_statement", unknown(STATEMENTS_AT, JOYCE_STATEMENT_BLOCK_END + 1));
+    whole_program();
+    table[CHARACTERS_AT] = JOYCE_CHARACTER_MAX;
+    report("character", joyce_check(table, length) == JOYCE_ACCEPTED);
+    table[CHARACTERS_AT] = JOYCE_CHARACTER_MAX + 1;
+    report("no_character", joyce_check(table, length) == JOYCE_TYPES);
 }
 
 int main(void)

@@ -9,7 +9,7 @@ import joyce  # noqa: E402
 
 FIELDS = {"types": ["kind", "p", "q", "low", "high"], "fields": ["type"], "variables": ["mode", "type"],
           "blocks": ["kind", "owner", "first", "parameters", "variables", "statement", "space"], "arguments": ["node"],
-          "nodes": ["kind", "p", "q", "v"], "statements": ["kind", "a", "b", "c", "d", "link"]}
+          "nodes": ["kind", "p", "q", "v"], "statements": ["kind", "a", "b", "c", "d", "link"], "characters": ["character"]}
 RECORDS, RECORD, HOLDER = 32768, 40, 12     # see docs/STATE.md
 failures = 0
 

@@ -68,13 +68,37 @@ def tables_both_ways():
         assert joyce.pack(**joyce.unpack(table)) == table, path
         assert joyce.check(table) == 0, path
     assert joyce.unpack(b"") == joyce.unpack(SMALLEST) and joyce.check(b"") == 0    # an empty cartridge slot
-    for table in [SMALLEST[:1], SMALLEST[:-1], SMALLEST + b"\0"]:
+    assert joyce.pack(**joyce.unpack(SMALLEST + b"\0")) == SMALLEST + b"\0" and joyce.check(SMALLEST + b"\0") == 0    # an eighth count of 0
+    for table in [SMALLEST[:1], SMALLEST[:-1], SMALLEST + b"\1", SMALLEST + b"\0\0"]:
         try:
             joyce.unpack(table)
         except ValueError:
             assert joyce.check(table) == joyce.Result.SECTIONS
         else:
             raise AssertionError(table.hex())
+
+
+@test
+def title_strings():
+    """A string constant is cut to the parameter that it is passed to, whose words are written to the device page. It may be of str, bytes or
+    numbers."""
+    line = (joyce.Type.ARRAY, joyce.Standard.INTEGER, joyce.Standard.CHARACTER, 1, 4)
+    nodes = [(joyce.Node.STRING, 0, 5)]
+    for i in range(4):
+        at = len(nodes)
+        nodes += [(0, 0, 0, 2 * i - 8), joyce.Node.WHOLE, (0, 0, 0, i + 1), (joyce.Node.ELEMENT, at + 1, at + 2), (joyce.Node.VALUE, at + 3),
+                  (joyce.Node.TRANSFER, at + 4, joyce.Standard.INTEGER)]
+    sections = {
+        "types": [line], "variables": [(joyce.Mode.VALUE, joyce.Standard.DECLARED)],
+        "blocks": [0, (joyce.Block.PROCEDURE, 0, 0, 1, 1, 2)], "arguments": [0], "nodes": nodes,
+        "statements": [(joyce.Statement.CALL, 1, 0, 0, 1), joyce.Statement.BLOCK_END]
+        + [(joyce.Statement.WRITE, 6 * i + 1, 6 * i + 6) for i in range(4)] + [(joyce.Statement.BLOCK_END, 1)]}
+    table = joyce.pack(**sections, characters="Joyce")
+    assert table == joyce.pack(**sections, characters=b"Joyce") == joyce.pack(**sections, characters=list(b"Joyce"))
+    assert joyce.pack(**joyce.unpack(table)) == table and joyce.check(joyce.pack(**sections)) == joyce.Result.NUMBERS
+    run = joyce.Run(table)
+    assert list(run.run([1] * 7)) == [0] * 6 + [2]
+    assert bytes(run.get(address) for address in range(-8, 0, 2)) == b"Joyc"
 
 
 @test
