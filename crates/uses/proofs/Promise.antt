@@ -68,7 +68,7 @@ module _ (T : Table) (h : usedOnce T ≡ true) (n : ℕ) (l : n < nodeCount T) w
   used = eqb-true (occurs n (uses T)) 1 (all-at (nodeCount T) (once (uses T)) h n l)
 
   -- its use is in one of the three sections
-  sum : occurs n (gather (entryUses T 4) (argCount T)) + (occurs n (gather (entryUses T 6) (stmtCount T)) + occurs n (gather (entryUses T 5) (nodeCount T))) ≡ 1
+  pub sum : occurs n (gather (entryUses T 4) (argCount T)) + (occurs n (gather (entryUses T 6) (stmtCount T)) + occurs n (gather (entryUses T 5) (nodeCount T))) ≡ 1
   unfolding sectionUses
   sum =
       let a = occurs-append n (gather (entryUses T 6) (stmtCount T)) (gather (entryUses T 5) (nodeCount T) ++ gather (entryUses T 4) (argCount T)) in
