@@ -28,8 +28,10 @@ use Rattle.operands.specs.Ready.{contextIn}
 use Rattle.frames.specs.Frames.{ended, Called}
 use Rattle.effects.specs.Effects.{carried, Stepped, Standing}
 use Rattle.effects.proofs.Carrying.{performs-block-end}
+use Rattle.transfers.proofs.Steps.{stands-lent, stands-done}
 use Rattle.calls.proofs.Passing.{kept}
-use Rattle.calls.proofs.Entering.{stand-lent, stand-done, stand-works, stand-frame, moved-ok, moved-stuck}
+use Rattle.calls.proofs.Limits.{stand-works}
+use Rattle.calls.proofs.Entering.{stand-frame, moved-ok, moved-stuck}
 
 -- a statement that is returned to exists, and is a call
 module _ (T : Table) (m page : Memory) (x : machine.Context) (e : ℕ) where
@@ -104,14 +106,14 @@ module _ (t m p : List ℕ) (x : Context) (h : Standing t m p x) (k : stmtKind (
   pub ends-process : (w : ℕ) (s1 : List ℕ) → w ≡ memoryOf m (depthAt (x .process)) → w ≡ 0
       → Becomes s1 (ended (memoryOf m) (x .process)) → Stepped 2 s1 p (carried (decoded t) (memoryOf m) (memoryOf p) (contextIn x))
   ends-process w s1 hw e c =
-      stand-done t m p x h 2 s1 (ended (memoryOf m) (x .process))
+      stands-done t m p x h 2 s1 (ended (memoryOf m) (x .process))
       (end-is ∙ ends-at (decoded t) (memoryOf m) (memoryOf p) x (sym hw ∙ e)) c
 
   pub ends-call : (w : ℕ) → w ≡ memoryOf m (depthAt (x .process)) → (w ≡ 0 → ⊥) → memoryOf m (depthAt (x .process)) ≡ 0 → ⊥
   ends-call w hw n e = n (hw ∙ e)
 
   pub ending-lent : State m
-  ending-lent = stand-lent t m p x h
+  ending-lent = stands-lent t m p x h
 
   pub ending-low : 1 ≤ x .process
   ending-low = h .ready .context .processLow
@@ -169,7 +171,7 @@ module _ (t m p : List ℕ) (x : Context) (h : Standing t m p x) (k : stmtKind (
           → Stepped 0 s1 p (carried (decoded t) (memoryOf m) (memoryOf p) (contextIn x))
       return-process i s1 hi e g =
           let d = of-kind ∙ by-process (decoded t) (memoryOf m) (memoryOf p) (contextIn x) c _ _ _ _ _ _ (sym hi ∙ e) in
-          stand-done t m p x h 0 s1 _ (return-is ∙ moved-ok _ _ _ _ _ _ d)
+          stands-done t m p x h 0 s1 _ (return-is ∙ moved-ok _ _ _ _ _ _ d)
           (rw (h .here) (popped-works (decoded t) m (memoryOf p) (x .process) c s1 (g (decoded t) (memoryOf p))))
 
       pub return-local : (i : ℕ) (s1 : List ℕ) → i ≡ stmtKind (decoded t) c → (i ≡ 3 → ⊥)
@@ -179,7 +181,7 @@ module _ (t m p : List ℕ) (x : Context) (h : Standing t m p x) (k : stmtKind (
           let u = kept _ _ of-kind return-unstuck in
           let j = a-call (decoded t) (memoryOf m) (memoryOf p) (contextIn x) c _ _ _ _ _ _ u (λ q. e (hi ∙ q)) in
           let d = of-kind ∙ by-local (decoded t) (memoryOf m) (memoryOf p) (contextIn x) c _ _ _ _ _ _ j in
-          stand-done t m p x h 0 s1 _ (return-is ∙ moved-ok _ _ _ _ _ _ d)
+          stands-done t m p x h 0 s1 _ (return-is ∙ moved-ok _ _ _ _ _ _ d)
           (rw (h .here) (g (decoded t) (memoryOf p)))
 
 pub ruleset ends = (ends-process, ends-call, ending-lent, ending-low, ending-high, works-low, works-high, return-fits, return-room, return-called, return-below, return-process, return-local)

@@ -8,11 +8,11 @@ use lib.Seq.{ext-getD, take-all}
 use lib.Dec.{eqb, ltb}
 use native.Mathlib.Omega.{arith}
 use borrow.Author.Tests.{eqb-true, le-ltb, ltb-true, ltb-false}
-use Rattle.basics.specs.Choice.{pick, both}
+use Rattle.basics.specs.Choice.{both}
 use Rattle.basics.specs.Cases.{cases}
 use Rattle.basics.proofs.Bools.{no-true}
 use Rattle.table.specs.Table.{Table}
-use Rattle.table.specs.Entries.{typeCount, character}
+use Rattle.table.specs.Entries.{typeCount}
 use Rattle.types.specs.Types.{evened, numbered, string}
 use Rattle.types.specs.Match.{elements, isString, isText, sameNumber, Match, equal, fitted, unfit, matching, isEqual, isFit}
 use Rattle.sizes.specs.Sizes.{wordsOf, sized}
@@ -25,6 +25,7 @@ use Rattle.machine.specs.Outcomes.{ok, stuck}
 use Rattle.machine.specs.Calls.{passed}
 use Rattle.machine.proofs.Memories.{length-words, words-at}
 use Rattle.machine.proofs.TextLaws.{fit-long, fit-at, fit-same, text-long, text-at, evened-low}
+use Rattle.code.specs.Code.{textWord}
 use Rattle.operands.proofs.TypeWords.{match-words}
 
 -- ---- as words of a memory
@@ -58,10 +59,6 @@ zeros-are n =
     (λ i l.
     let g : i < n = omega (arith, length-words zeros 0 n) in
     words-at zeros 0 n i g ∙ sym (getD-replicate {A = ℕ} n i 0 0 g))
-
--- word i of the string constant of q characters from p on, and character 0 ever after
-unfoldable pub textWord : Table → ℕ → ℕ → Memory
-textWord T p q i = pick (ltb i q) (character T (p + i)) 0
 
 module _ (T : Table) (p q : ℕ) where
   text-any : (i : ℕ) → getD (textAt T p q) i 0 ≡ textWord T p q i

@@ -5,31 +5,22 @@ use mathlib.Core.Bool.{true}
 use mathlib.Core.List.{List}
 use native.Mathlib.Omega.{arith}
 use borrow.Author.Needs.{needs}
-use borrow.Author.Tests.{ne-eqb, lt-ltb, le-leb}
+use borrow.Author.Tests.{lt-ltb, le-leb}
 use Rattle.basics.proofs.Bools.{both-i}
 use Rattle.table.specs.Table.{Table}
-use Rattle.table.specs.Entries.{varCount, varMode, varType, firstVar, vars}
+use Rattle.table.specs.Entries.{varCount, varType, firstVar, vars}
 use Rattle.table.specs.Reading.{Field}
 use Rattle.numbers.proofs.BlockPromise.{vars-there}
 use Rattle.numbers.proofs.TypePromise.{var-type}
-use Rattle.sizes.specs.Sizes.{wordsOf, sumBelow}
+use Rattle.sizes.specs.Sizes.{sumBelow}
 use Rattle.sizes.proofs.Sums.{sum-more}
 use Rattle.machine.specs.Memory.{within}
 use Rattle.machine.specs.Variables.{varWords, firstWords, frameWords, offsetOf, belongs}
 use Rattle.code.specs.Code.{slotIn, decoded}
+use Rattle.prepare.proofs.Preparing.{var-one, var-type-words}
 use Rattle.operands.specs.Ready.{Sized}
 use Rattle.operands.proofs.Standing.{same-sized}
 use Rattle.calls.specs.Framing.{Framing, Counted}
-
--- the words of a variable
-module _ (T : Table) (v d : ℕ) (hd : d ≡ varMode T v) where
-  pub var-one : d ≡ 2 → 1 ≡ varWords T v
-  unfolding varWords
-  var-one e = rw (← hd, e)
-
-  pub var-type-words : (τ r : ℕ) → (d ≡ 2 → ⊥) → τ ≡ varType T v → r ≡ wordsOf T τ → r ≡ varWords T v
-  unfolding varWords
-  var-type-words τ r n e g = rw (← hd, ne-eqb d 2 n, ← e) g
 
 module _ (T : Table) (b : ℕ) where
   no-words : vars T b ≡ 0 → frameWords T b ≡ 0

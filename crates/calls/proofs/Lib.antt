@@ -3,6 +3,7 @@ pub mod Putting
 pub mod Framing
 pub mod Passing
 pub mod Gathering
+pub mod Limits
 pub mod Entering
 pub mod Ending
 pub mod Serving

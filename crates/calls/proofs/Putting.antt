@@ -7,17 +7,16 @@ use native.Mathlib.Omega.{arith}
 use borrow.Author.Needs.{needs}
 use lib.ListN.{length, set, take, replicate, length-set, length-append}
 use lib.Seq.{take-suc-set}
-use lib.Dec.{ltb}
-use Rattle.basics.specs.Choice.{pick}
 use Rattle.table.specs.Table.{Table}
-use Rattle.table.specs.Entries.{nodeP, nodeQ, character}
+use Rattle.table.specs.Entries.{nodeP, nodeQ}
 use Rattle.table.specs.Reading.{Field}
 use Rattle.machine.specs.Memory.{Memory, wordsAt}
 use Rattle.machine.specs.Texts.{fit, textAt}
 use Rattle.machine.specs.Outcomes.{ok}
 use Rattle.machine.proofs.Copies.{words-more}
+use Rattle.code.specs.Code.{textWord}
 use Rattle.calls.specs.Gathering.{Buffer, Appended, Added}
-use Rattle.calls.proofs.Fitting.{zeros, zeros-are, textWord, text-words, cut-words, filled-words}
+use Rattle.calls.proofs.Fitting.{zeros, zeros-are, text-words, cut-words, filled-words}
 
 module _ (l : List ℕ) (n : ℕ) where
   pub appended-none : Buffer l n → Appended l n [] l n
@@ -80,9 +79,8 @@ module _ (k : ℕ) (l : List ℕ) (n : ℕ) (b : List ℕ) (j count : ℕ) where
     zeros-all h = rw (zeros-are k) at (putting-all zeros 0 k l n b j count p h)
 
   module _ (T : Table) (a q : ℕ) (p : Putting (textWord T a q) 0 k l n b j count) where
-    pub text-more : (w r : ℕ) (c : List ℕ) → j < k → Field (pick (ltb j q) (character T (a + j)) 0) w → Appended b count (w ∷ []) c r
+    pub text-more : (w r : ℕ) (c : List ℕ) → j < k → Field (textWord T a q j) w → Appended b count (w ∷ []) c r
         → Putting (textWord T a q) 0 k l n c (j + 1) r
-    unfolding textWord
     text-more w r c h f g = let z : 0 + j ≡ j = omega arith in putting-more (textWord T a q) 0 k l n b j count p w r c h (f .is ∙ rw z) g
 
     pub text-all : k ≤ j → Appended l n (fit k (textAt T a q)) b count

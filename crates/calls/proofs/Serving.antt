@@ -18,7 +18,7 @@ use Rattle.words.specs.declared.values.Failure.{Failure}
 use Rattle.machine.specs.Memory.{Memory, memoryOf, update}
 use Rattle.machine.specs.Layout.{statusAt, topAt, holderAt, failureAt}
 use Rattle.machine.specs.Lent.{State, Becomes}
-use Rattle.machine.specs.Outcomes.{Outcome, ok}
+use Rattle.machine.specs.Outcomes.{Outcome, ok, failWhere}
 use Rattle.machine.specs.Entries.{stmtAt}
 use Rattle.machine.specs.Variables.{isProcedure}
 use Rattle.machine.specs.Context as machine
@@ -35,11 +35,13 @@ use Rattle.transfers.specs.declared.Reference.{Reference}
 use Rattle.transfers.specs.declared.Reference.the-variants as reference
 use Rattle.transfers.specs.References.{referenceOf, referred, Referring}
 use Rattle.transfers.proofs.Referring.{follows, call-follows, follows-referring, follows-fails, follows-to, follows-refers}
+use Rattle.transfers.proofs.Steps.{stands-lent, stands-there, stands-fail, stands-done}
 use Rattle.calls.specs.Framing.{Counted}
 use Rattle.calls.specs.Entering.{invoked, Invoking, Entering}
 use Rattle.calls.specs.Serving.{served, Serving}
 use Rattle.calls.proofs.Passing.{kept}
-use Rattle.calls.proofs.Entering.{stand-lent, stand-there, stand-fail, stand-done, entering-done, invoking-none}
+use Rattle.calls.proofs.Limits.{limits-area}
+use Rattle.calls.proofs.Entering.{entering-done, invoking-none}
 
 -- ---- the laws of `is_free`
 
@@ -55,13 +57,13 @@ module _ (m : List ℕ) (r w : ℕ) (hw : w ≡ memoryOf m (statusAt r)) where
 -- ---- the laws of `enter_process`
 
 module _ (t m p : List ℕ) (x : Context) (q r : ℕ) (l : List ℕ) (n : ℕ)
-    (h : Entering t m p x q (update (memoryOf m) (holderAt r) (x .process)) r l n) (size : ℕ) (hs : Counted (decoded t) q size) (b : Bool)
+    (h : Entering t m p x q 256 (update (memoryOf m) (holderAt r) (x .process)) r l n) (size : ℕ) (hs : Counted (decoded t) q size) (b : Bool)
     (hb : b ≡ ltb 256 (memoryOf m (topAt (x .process)) + 4 + size)) (e : b ≡ false) where
   pub entering-process : (s1 : List ℕ)
       → ((page : Memory) → Becomes s1 (frameMarked (decoded t) (memoryOf m) page (contextOf (memoryOf m) (x .process)) (pushed (decoded t) (memoryOf m) page (contextOf (memoryOf m) (x .process)) (update (memoryOf m) (holderAt r) (x .process)) q r (take n l)) q (take n l)))
       → Stepped 0 s1 p (carried (decoded t) (memoryOf m) (memoryOf p) (contextIn x))
   entering-process s1 c =
-      entering-done t m p x q (update (memoryOf m) (holderAt r) (x .process)) r l n h size hs b hb e s1 (c (memoryOf p))
+      entering-done t m p x q 256 (update (memoryOf m) (holderAt r) (x .process)) r l n h size 256 hs refl b hb e s1 (c (memoryOf p))
 
 -- ---- the laws of `serve` and `call_on`
 
@@ -70,13 +72,13 @@ unfolding served wait
 served-not T m page x q c d r e = rw e
 
 served-free : (T : Table) (m page : Memory) (x : Context) (q c d r : ℕ) → free m r ≡ true
-    → served T m page (contextIn x) q c d r ≡ invoked T m page (contextIn x) (update m (holderAt r) (x .process)) q r (arguments T m page (contextIn x) q c d)
+    → served T m page (contextIn x) q c d r ≡ invoked T m page (contextIn x) false (update m (holderAt r) (x .process)) q r (arguments T m page (contextIn x) q c d)
 unfolding served contextIn
 served-free T m page x q c d r e = rw e
 
 module _ (t m p : List ℕ) (x : Context) (r : ℕ) (h : Serving t m p x r) where
   pub serving-lent : State m
-  serving-lent = stand-lent t m p x (h .standing)
+  serving-lent = stands-lent t m p x (h .standing)
 
   pub serving-low : 1 ≤ r
   serving-low = h .low
@@ -87,7 +89,7 @@ module _ (t m p : List ℕ) (x : Context) (r : ℕ) (h : Serving t m p x r) wher
   module _ (b : Bool) (hb : b ≡ free (memoryOf m) r) where
     pub serving-waits : b ≡ false → Stepped 1 m p (carried (decoded t) (memoryOf m) (memoryOf p) (contextIn x))
     serving-waits e =
-        stand-done t m p x (h .standing) 1 m (memoryOf m) (h .performs ∙ served-not _ _ _ _ _ _ _ _ (sym hb ∙ e))
+        stands-done t m p x (h .standing) 1 m (memoryOf m) (h .performs ∙ served-not _ _ _ _ _ _ _ _ (sym hb ∙ e))
         (record { long = h .standing .ready .state; is = refl })
 
     pub serving-free : b ≡ true → free (memoryOf m) r ≡ true
@@ -95,24 +97,28 @@ module _ (t m p : List ℕ) (x : Context) (r : ℕ) (h : Serving t m p x r) wher
 
   pub serving-invoking : (q c d : ℕ) → free (memoryOf m) r ≡ true → q ≡ stmtB (decoded t) (x .statement)
       → c ≡ stmtC (decoded t) (x .statement) → d ≡ stmtD (decoded t) (x .statement) → q < 65536
-      → Invoking t m p x q c d (update (memoryOf m) (holderAt r) (x .process)) r
+      → Invoking t m p x q c d 256 (update (memoryOf m) (holderAt r) (x .process)) r
   serving-invoking q c d e hq hc hd l =
-      let i = stand-there t m p x (h .standing) in
+      let i = stands-there t m p x (h .standing) in
       let g = h .standing .ready in
+      let k = call-procedure (decoded t) (g .ranged) (x .statement) i (h .kind) in
       rw (hq, hc, hd)
       record {
         standing = h .standing;
         small = rw hq at l;
-        there = call-procedure (decoded t) (g .ranged) (x .statement) i (h .kind) .0;
+        there = k .0;
+        kind = k .1;
+        full = false;
+        limits = limits-area (decoded t) (memoryOf m) (x .process) (stmtB (decoded t) (x .statement));
         fit = called-arguments (decoded t) (g .typed) (x .statement) i (h .kind);
         performs = h .performs ∙ served-free _ _ _ x _ _ _ r e;
       }
 
   pub serving-none : (q d : ℕ) (l : List ℕ) → free (memoryOf m) r ≡ true → q ≡ stmtB (decoded t) (x .statement)
       → d ≡ stmtD (decoded t) (x .statement) → q < 65536 → d ≡ 0
-      → Entering t m p x q (update (memoryOf m) (holderAt r) (x .process)) r l 0
+      → Entering t m p x q 256 (update (memoryOf m) (holderAt r) (x .process)) r l 0
   serving-none q d l e hq hd g k =
-      invoking-none t m p x q _ d (update (memoryOf m) (holderAt r) (x .process)) r (serving-invoking q _ d e hq refl hd g) l k
+      invoking-none t m p x q _ d 256 (update (memoryOf m) (holderAt r) (x .process)) r (serving-invoking q _ d e hq refl hd g) l k
 
 -- ---- the laws of `process_call`
 
@@ -124,7 +130,7 @@ module _ (T : Table) (m page : Memory) (x : machine.Context) (q c d : ℕ) where
   serves v r = served T m page x q c d r
 
   call-is : (a : ℕ) → doProcessCall T m page x a q c d ≡ follows T m page x a tests serves
-  unfolding doProcessCall served free invoked
+  unfolding doProcessCall served free invoked failWhere
   call-is a = call-follows T m page x a tests serves
 
 module _ (t m p : List ℕ) (x : Context) (h : Standing t m p x)
@@ -144,7 +150,7 @@ module _ (t m p : List ℕ) (x : Context) (h : Standing t m p x)
       ∙ call-is (decoded t) (memoryOf m) (memoryOf p) (contextIn x) _ _ _ _)
 
   process-variable : Variable (decoded t) (nodeCount (decoded t)) a
-  process-variable = rw ha (call-variable (decoded t) (h .ready .ranged) (x .statement) (stand-there t m p x h) k)
+  process-variable = rw ha (call-variable (decoded t) (h .ready .ranged) (x .statement) (stands-there t m p x h) k)
 
   pub process-referring : Referring (decoded t) (memoryOf m) (memoryOf p) (contextIn x) a
   process-referring =
@@ -156,7 +162,7 @@ module _ (t m p : List ℕ) (x : Context) (h : Standing t m p x)
         → Becomes s1 (update (memoryOf m) failureAt (failureNumber e))
         → Stepped w s1 p (carried (decoded t) (memoryOf m) (memoryOf p) (contextIn x))
     process-fails e w s1 g v c =
-        stand-fail t m p x h (failureNumber e) w s1
+        stands-fail t m p x h (failureNumber e) w s1
         (process-is
         ∙ follows-fails (decoded t) (memoryOf m) (memoryOf p) (contextIn x) (h .ready .ranged) a process-variable the-tests the-serves
         (kept _ _ process-is (h .unstuck)) l hl e g)

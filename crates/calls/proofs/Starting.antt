@@ -45,14 +45,14 @@ use Rattle.transfers.specs.declared.Reference.{Reference}
 use Rattle.transfers.specs.declared.Reference.the-variants as reference
 use Rattle.transfers.specs.References.{referenceOf, referred, Referring}
 use Rattle.transfers.proofs.Referring.{follows, start-follows, follows-referring, follows-fails, follows-to, follows-refers}
-use Rattle.transfers.proofs.Steps.{goes-on, stands-below}
+use Rattle.transfers.proofs.Steps.{goes-on, stands-below, stands-lent, stands-there, stands-fail, stands-done}
 use Rattle.calls.specs.declared.Gathered.{Gathered}
 use Rattle.calls.specs.declared.Gathered.the-variants as gathered
 use Rattle.calls.specs.Gathering.{Added, Adds, Calling}
 use Rattle.calls.specs.Framing.{Framing, Counted}
 use Rattle.calls.specs.Serving.{begun, startOf, Starting, Beginning}
 use Rattle.calls.proofs.Passing.{need-through, need-is, kept}
-use Rattle.calls.proofs.Entering.{stand-lent, stand-there, stand-fail, stand-done, stand-framing}
+use Rattle.calls.proofs.Entering.{stand-framing}
 
 -- ---- the words of a module: it has no var parameters (13)
 
@@ -75,7 +75,7 @@ module _ (t m p : List ℕ) (x : Context) (r b : ℕ) (l : List ℕ) (n : ℕ) (
   beginning-framing = stand-framing t m p x (h .standing) b (h .there)
 
   pub beginning-lent : State m
-  beginning-lent = stand-lent t m p x (h .standing)
+  beginning-lent = stands-lent t m p x (h .standing)
 
   pub beginning-words : (size : ℕ) → size ≤ 457 → (n ≤ 256) × ((n ≤ length l) × (size < 65536))
   beginning-words size e = (h .few, (h .room, omega arith))
@@ -86,7 +86,7 @@ module _ (t m p : List ℕ) (x : Context) (r b : ℕ) (l : List ℕ) (n : ℕ) (
   pub beginning-done : (s1 : List ℕ) (c : ℕ) → c ≡ x .statement + 1
       → Becomes s1 (update (mark (started (decoded t) (memoryOf m) r b (take n l)) (location r 0) (length (take n l))) (statementAt (x .process)) c)
       → Stepped 0 s1 p (carried (decoded t) (memoryOf m) (memoryOf p) (contextIn x))
-  beginning-done s1 c e i = stand-done t m p x (h .standing) 0 s1 _ (h .performs) (rw e at i)
+  beginning-done s1 c e i = stands-done t m p x (h .standing) 0 s1 _ (h .performs) (rw e at i)
 
 -- ---- the laws of `start_once` and `start_created`
 
@@ -114,7 +114,7 @@ begun-ok T m page x v r o ws e = rw e
 
 module _ (t m p : List ℕ) (x : Context) (r : ℕ) (h : Starting t m p x r) where
   pub starting-lent : State m
-  starting-lent = stand-lent t m p x (h .standing)
+  starting-lent = stands-lent t m p x (h .standing)
 
   pub starting-low : 1 ≤ r
   starting-low = h .low
@@ -129,7 +129,7 @@ module _ (t m p : List ℕ) (x : Context) (r : ℕ) (h : Starting t m p x r) whe
     pub starting-twice : (a : ℕ) (s1 : List ℕ) → (w ≡ 1 → ⊥) → a ≡ 20 → Becomes s1 (update (memoryOf m) failureAt 20)
         → Stepped a s1 p (carried (decoded t) (memoryOf m) (memoryOf p) (contextIn x))
     starting-twice a s1 n e c =
-        stand-fail t m p x (h .standing) 20 a s1 (h .performs ∙ start-twice _ _ _ _ _ _ _ r (λ q. n (hw ∙ q))) e c
+        stands-fail t m p x (h .standing) 20 a s1 (h .performs ∙ start-twice _ _ _ _ _ _ _ r (λ q. n (hw ∙ q))) e c
 
     pub starting-new : w ≡ 1 → memoryOf m (statusAt r) ≡ 1
     starting-new e = sym hw ∙ e
@@ -137,7 +137,7 @@ module _ (t m p : List ℕ) (x : Context) (r : ℕ) (h : Starting t m p x r) whe
   module _ (e : memoryOf m (statusAt r) ≡ 1) (a τ b c d : ℕ) (ha : a ≡ stmtA (decoded t) (x .statement)) (hs : τ ≡ slotIn t a 23)
       (hb : b ≡ typeP (decoded t) τ) (hc : c ≡ stmtC (decoded t) (x .statement)) (hd : d ≡ stmtD (decoded t) (x .statement)) where
     start-there : x .statement < stmtCount (decoded t)
-    start-there = stand-there t m p x (h .standing)
+    start-there = stands-there t m p x (h .standing)
 
     started-node : Variable (decoded t) (nodeCount (decoded t)) a
     started-node = rw ha (start-variable (decoded t) (h .standing .ready .ranged) (x .statement) start-there (h .kind))
@@ -170,7 +170,7 @@ module _ (t m p : List ℕ) (x : Context) (r : ℕ) (h : Starting t m p x r) whe
           → Becomes s1 (update (memoryOf m) failureAt (failureNumber k))
           → Stepped w s1 p (carried (decoded t) (memoryOf m) (memoryOf p) (contextIn x))
       start-fails k w s1 q v j =
-          stand-fail t m p x (h .standing) (failureNumber k) w s1 (begin-is ∙ begun-fail _ _ _ _ _ _ _ _ (rw q at i)) v j
+          stands-fail t m p x (h .standing) (failureNumber k) w s1 (begin-is ∙ begun-fail _ _ _ _ _ _ _ _ (rw q at i)) v j
 
       pub start-begins : (n : ℕ) → g ≡ gathered.Count n → Beginning t m p x r b l n
       start-begins n q =
@@ -221,7 +221,7 @@ module _ (t m p : List ℕ) (x : Context) (h : Standing t m p x)
       ∙ the-start (decoded t) (memoryOf m) (memoryOf p) (contextIn x) _ _ _)
 
   start-node : Variable (decoded t) (nodeCount (decoded t)) a
-  start-node = rw ha (start-variable (decoded t) (h .ready .ranged) (x .statement) (stand-there t m p x h) k)
+  start-node = rw ha (start-variable (decoded t) (h .ready .ranged) (x .statement) (stands-there t m p x h) k)
 
   pub start-referring : Referring (decoded t) (memoryOf m) (memoryOf p) (contextIn x) a
   start-referring =
@@ -233,7 +233,7 @@ module _ (t m p : List ℕ) (x : Context) (h : Standing t m p x)
         → Becomes s1 (update (memoryOf m) failureAt (failureNumber e))
         → Stepped w s1 p (carried (decoded t) (memoryOf m) (memoryOf p) (contextIn x))
     start-refuses e w s1 g v c =
-        stand-fail t m p x h (failureNumber e) w s1
+        stands-fail t m p x h (failureNumber e) w s1
         (start-is
         ∙ follows-fails (decoded t) (memoryOf m) (memoryOf p) (contextIn x) (h .ready .ranged) a start-node (λ v. true) the-starts
         (kept _ _ start-is (h .unstuck)) l hl e g)

@@ -2,7 +2,7 @@
 -- Calls of other processes, and starts (11.3, 11.5, 13). Assumes nothing.
 use Prim.Native.Nat.{ℕ, _+_, _<_, _≤_}
 use mathlib.Core.Path.{_≡_}
-use mathlib.Core.Bool.{not}
+use mathlib.Core.Bool.{false, not}
 use mathlib.Core.List.{List}
 use lib.ListN.{length, take}
 use lib.Dec.{eqb, leb}
@@ -27,11 +27,11 @@ use Rattle.operands.specs.Ready.{contextIn}
 use Rattle.effects.specs.Effects.{Standing}
 use Rattle.calls.specs.Entering.{invoked}
 
--- process r is called: it serves, or the caller waits
+-- process r is called: it serves, whatever the caller's module reserves, or the caller waits
 unfoldable pub served : Table → Memory → Memory → machine.Context → ℕ → ℕ → ℕ → ℕ → Outcome Effect
 served T m page x q c d r =
     pick (free m r)
-    (invoked T m page x (update m (holderAt r) (x .process)) q r (arguments T m page x q c d))
+    (invoked T m page x false (update m (holderAt r) (x .process)) q r (arguments T m page x q c d))
     (wait T m page x m)
 
 -- the parameters of process r, of module μ, which are marked (02, g), and its start

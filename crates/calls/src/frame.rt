@@ -1,9 +1,10 @@
 // The words of frames (01, A step).
 ghost use mathlib.Core.Path.{_≡_};
-ghost use Prim.Native.Nat.{_≤_};
-ghost use Rattle.table.specs.Entries.{varType};
+ghost use Prim.Native.Nat.{_≤_, _<_};
+ghost use Rattle.table.specs.Entries.{blockCount, blockKind, varType};
 ghost use Rattle.machine.specs.Variables.{varWords};
 ghost use Rattle.code.specs.Code.{decoded};
+ghost use Rattle.prepare.specs.Prepared.{Prepared};
 ghost use Rattle.operands.specs.Ready.{Sized};
 ghost use Rattle.calls.specs.Framing.{Framing, Counted};
 
@@ -16,6 +17,15 @@ fn var_words(c: &code::Slots, v: usize) -> usize
         return 1;
     }
     operands::places::words_of(c, code::var_type(c, v))
+}
+
+// The words of procedure q's variables, which stand beside the table.
+pub fn call_words(c: &code::Slots, q: usize) -> usize
+    requires { ⌜ Prepared (now c) ⌝ }
+    requires { ⌜ (q < blockCount (decoded (now c))) × (blockKind (decoded (now c)) q ≡ 2) ⌝ }
+    ensures { λ r. ⌜ Counted (decoded (now (c .entry))) q r ⌝ }
+{
+    code::room_of(c, q)
 }
 
 // The words of block b's variables: where its last one begins, and the words of that one.

@@ -1,29 +1,42 @@
 // Procedure calls of a process's own module (11.3, 12).
 use super::Gathered;
 use super::arguments::arguments;
-use super::frame::frame_words;
+use super::frame::call_words;
 use operands::Context;
 use words::values::Failure;
 ghost use mathlib.Core.Path.{_≡_};
 ghost use Prim.Native.Nat.{_+_, _<_, _≤_};
 ghost use lib.Dec.{ltb};
-ghost use Rattle.table.specs.Entries.{stmtKind};
+ghost use Rattle.table.specs.Entries.{blockCount, blockKind, stmtKind};
 ghost use Rattle.machine.specs.Memory.{memoryOf};
 ghost use Rattle.machine.specs.Layout.{topAt, depthAt};
 ghost use Rattle.machine.specs.Lent.{State};
 ghost use Rattle.code.specs.Code.{decoded};
+ghost use Rattle.prepare.specs.Prepared.{Prepared};
 ghost use Rattle.operands.specs.Ready.{contextIn};
 ghost use Rattle.effects.specs.Effects.{carried, Stepped, Standing};
-ghost use Rattle.calls.specs.Entering.{Invoking, Entering};
+ghost use Rattle.calls.specs.Entering.{limitOf, Invoking, Entering};
 
-// A frame with variables of `size` words does not fit the area of process p.
-pub fn is_over(state: &[u8], p: usize, size: usize) -> bool
+// The word of its area up to which a process may call: while it works on its own variables its module tells it (13; 02, i).
+fn limit_of(c: &code::Slots, x: Context) -> usize
+    requires { ⌜ Prepared (now c) ⌝ }
+    requires { ⌜ (x .owner < blockCount (decoded (now c))) × (blockKind (decoded (now c)) (x .owner) ≡ 2 → ⊥) ⌝ }
+    ensures { λ r. ⌜ r ≡ limitOf (decoded (now (c .entry))) x ⌝ }
+{
+    if x.works == x.process {
+        return code::room_of(c, x.owner);
+    }
+    machine::AREA
+}
+
+// A frame with variables of `size` words goes above the limit in the area of process p.
+pub fn is_over(state: &[u8], p: usize, size: usize, limit: usize) -> bool
     requires { ⌜ State (now state) ⌝ }
     requires { ⌜ (1 ≤ p) × ((p ≤ 64) × (size ≤ 457)) ⌝ }
-    ensures { λ r. ⌜ r ≡ ltb 256 (memoryOf (now (state .entry)) (topAt p) + 4 + size) ⌝ }
+    ensures { λ r. ⌜ r ≡ ltb limit (memoryOf (now (state .entry)) (topAt p) + 4 + size) ⌝ }
 {
     let top = machine::record_word(state, p, machine::TOP);
-    256 < top as usize + 4 + size
+    limit < top as usize + 4 + size
 }
 
 // The frame of a call of procedure q, whose arguments are the first n words of the buffer (01, A step).
@@ -36,11 +49,11 @@ fn enter_local(
     buffer: &[u16],
     n: usize,
 ) -> u8
-    requires { ⌜ Entering (now c) (now state) (now page) x q (memoryOf (now state)) (x .works) (now buffer) n ⌝ }
+    requires { ⌜ Entering (now c) (now state) (now page) x q (limitOf (decoded (now c)) x) (memoryOf (now state)) (x .works) (now buffer) n ⌝ }
     ensures { λ r. ⌜ Stepped r (now (state .exit)) (now (page .entry)) (carried (decoded (now (c .entry))) (memoryOf (now (state .entry))) (memoryOf (now (page .entry))) (contextIn x)) ⌝ }
 {
-    let size = frame_words(c, q);
-    if is_over(state, x.process, size) {
+    let size = call_words(c, q);
+    if is_over(state, x.process, size, limit_of(c, x)) {
         return effects::fail(state, Failure::AreaFull);
     }
     frames::push_local(c, state, x.process, q, size, n, buffer);
@@ -57,7 +70,7 @@ fn call_local(
     from: usize,
     d: usize,
 ) -> u8
-    requires { ⌜ Invoking (now c) (now state) (now page) x q from d (memoryOf (now state)) (x .works) ⌝ }
+    requires { ⌜ Invoking (now c) (now state) (now page) x q from d (limitOf (decoded (now c)) x) (memoryOf (now state)) (x .works) ⌝ }
     requires { ⌜ (from < 65536) × (d < 65536) ⌝ }
     ensures { λ r. ⌜ Stepped r (now (state .exit)) (now (page .entry)) (carried (decoded (now (c .entry))) (memoryOf (now (state .entry))) (memoryOf (now (page .entry))) (contextIn x)) ⌝ }
 {

@@ -1,6 +1,7 @@
 // Calls of other processes, and starts (11.3, 11.5, 13).
 use super::Gathered;
 use super::arguments::arguments;
+use super::frame::call_words;
 use super::frame::frame_words;
 use super::procedures::is_over;
 use operands::Context;
@@ -44,12 +45,12 @@ fn enter_process(
     buffer: &[u16],
     n: usize,
 ) -> u8
-    requires { ⌜ Entering (now c) (now state) (now page) x q (update (memoryOf (now state)) (holderAt r) (x .process)) r (now buffer) n ⌝ }
+    requires { ⌜ Entering (now c) (now state) (now page) x q 256 (update (memoryOf (now state)) (holderAt r) (x .process)) r (now buffer) n ⌝ }
     requires { ⌜ (1 ≤ r) × (r ≤ 64) ⌝ }
     ensures { λ a. ⌜ Stepped a (now (state .exit)) (now (page .entry)) (carried (decoded (now (c .entry))) (memoryOf (now (state .entry))) (memoryOf (now (page .entry))) (contextIn x)) ⌝ }
 {
-    let size = frame_words(c, q);
-    if is_over(state, x.process, size) {
+    let size = call_words(c, q);
+    if is_over(state, x.process, size, machine::AREA) {
         return effects::fail(state, Failure::AreaFull);
     }
     frames::push_process(c, state, x.process, q, r, size, n, buffer);
@@ -67,7 +68,7 @@ fn call_process(
     d: usize,
     r: usize,
 ) -> u8
-    requires { ⌜ Invoking (now c) (now state) (now page) x q from d (update (memoryOf (now state)) (holderAt r) (x .process)) r ⌝ }
+    requires { ⌜ Invoking (now c) (now state) (now page) x q from d 256 (update (memoryOf (now state)) (holderAt r) (x .process)) r ⌝ }
     requires { ⌜ (from < 65536) × ((d < 65536) × ((1 ≤ r) × (r ≤ 64))) ⌝ }
     ensures { λ a. ⌜ Stepped a (now (state .exit)) (now (page .entry)) (carried (decoded (now (c .entry))) (memoryOf (now (state .entry))) (memoryOf (now (page .entry))) (contextIn x)) ⌝ }
 {

@@ -2,29 +2,23 @@
 use Prim.Native.Nat.{ℕ, _+_, _-_, _<_, _≤_}
 use mathlib.Core.Path.{_≡_, sym, _∙_}
 use mathlib.Core.List.{List, [], _∷_, _++_}
-use lib.Dec.{ltb}
 use native.Mathlib.Numerals.{add-one}
 use native.Mathlib.Omega.{arith}
 use borrow.Author.Needs.{needs}
 use lib.ListN.{length, getD, take}
 use lib.Seq.{take-suc, take-all, length-take-le}
-use Rattle.basics.specs.Choice.{pick}
 use Rattle.table.specs.Table.{Table}
-use Rattle.table.specs.Entries.{character}
 use Rattle.table.specs.Reading.{Field}
 use Rattle.types.specs.Types.{evened}
 use Rattle.machine.specs.Memory.{Memory, memoryOf, update, store, clear, wordsAt}
-use Rattle.machine.specs.Lent.{Lent, Changed, State, Becomes}
+use Rattle.machine.specs.Lent.{State, Becomes}
 use Rattle.machine.specs.Texts.{textAt}
 use Rattle.machine.specs.Places.{SameOrApart, same, before, after}
 use Rattle.machine.proofs.Memories.{length-words, store-below, store-above}
 use Rattle.machine.proofs.Copies.{store-words, store-none, store-more, clear-none, clear-more, words-more}
 use Rattle.machine.proofs.TextLaws.{text-long, text-at}
+use Rattle.code.specs.Code.{textWord}
 use Rattle.frames.specs.Frames.{Direct}
-
--- a changed memory is still lent
-pub still-lent : (n : ℕ) (s : List ℕ) (m : Memory) → Changed n s m → Lent n s
-still-lent n s m c = record { long = c .long }
 
 -- the loop that writes a buffer
 pub record Storing (m : Memory) (a n : ℕ) (b s : List ℕ) (k : ℕ) : Type 0 where
@@ -62,8 +56,9 @@ module _ (s₀ : List ℕ) (a n : ℕ) (b : List ℕ) where
 -- the loop that writes a string constant, word by word
 module _ (T : Table) (s₀ : List ℕ) (a p q n : ℕ) (e : n ≡ evened q) where
   pub texts-more : (s r : List ℕ) (k w : ℕ) → Storing (memoryOf s₀) a n (textAt T p q) s k → k < n
-      → Field (pick (ltb k q) (character T (p + k)) 0) w → Becomes r (update (memoryOf s) (a + k) w)
+      → Field (textWord T p q k) w → Becomes r (update (memoryOf s) (a + k) w)
       → Storing (memoryOf s₀) a n (textAt T p q) r (k + 1)
+  unfolding textWord
   texts-more s r k w l h f c =
       let long = text-long T p q in
       let word : getD (textAt T p q) k 0 ≡ w = text-at T p q k (omega arith) ∙ sym (f .is) in

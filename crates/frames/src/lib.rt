@@ -313,7 +313,7 @@ fn wipe(state: &mut [u8], n: usize)
 {
     let area = machine::location_of(n, 0);
     let record = machine::record_of(n, 0);
-    clear_words(state, area, 256);
+    clear_words(state, area, machine::AREA);
     clear_words(state, record, 20);
 }
 

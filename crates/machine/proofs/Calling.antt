@@ -26,9 +26,9 @@ module _ (lengths : Bool) (v : ℕ) (state : Bool) where
   unfolding refusal
   refuses-none e h s = rw (e, eq-eqb v 0 h, s)
 
--- a verdict that is not 0 is refused
-verdict-none : (v k : ℕ) → pick (eqb v 0) k v ≡ 0 → (v ≡ 0) × (k ≡ 0)
-verdict-none v k e =
+-- of two numbers the first that is not 0 is told
+pub first-zero : (v k : ℕ) → pick (eqb v 0) k v ≡ 0 → (v ≡ 0) × (k ≡ 0)
+first-zero v k e =
     cases (eqb v 0)
     (λ q. (eqb-true v 0 q, rw q at e))
     (λ q. absurd (eqb-false v 0 q (rw q at e)))
@@ -39,7 +39,7 @@ pub refused-none :
 unfolding refusal
 refused-none lengths v state e =
     let a = zero-test lengths (pick (eqb v 0) (pick state 0 10) v) 1 (λ z. omega arith) e in
-    let b = verdict-none v (pick state 0 10) (a .1) in
+    let b = first-zero v (pick state 0 10) (a .1) in
     let c = zero-test state 0 10 (λ z. omega arith) (b .1) in
     (a .0, (b .0, c .0))
 

@@ -7,8 +7,9 @@ use Rattle.machine.specs.Memory.{zeros, update}
 use Rattle.machine.specs.Layout.{location, statusAt, moduleAt, statementAt, frameAt, topAt, worksAt, holderAt, depthAt, createdAt, failureAt, locations}
 use Rattle.machine.specs.Run.{Run, stuck, run}
 use Rattle.machine.specs.Public.{look}
+use Rattle.machine.proofs.Spaces.{recursion}
 use Rattle.machine.proofs.Programs.{runOn, stateOf, answersOf}
-use Rattle.machine.proofs.Examples.{cell, creating, fetching, recursion, holding}
+use Rattle.machine.proofs.Examples.{cell, creating, fetching, holding}
 
 -- the run of a schedule from the state that another leaves, with word i changed to v
 unfoldable pub from-word : Table → List ℕ → ℕ → ℕ → List ℕ → Run
@@ -67,10 +68,10 @@ fetching-steps = (refl, refl, refl, refl, refl, refl, refl, refl)
 
 -- an area has 256 words, and no more than 64 calls
 pub recursion-steps :
-    (answersOf (from-word recursion [] (topAt 1) 202 (1 ∷ [])) ≡ 0 ∷ [])
-    × (answersOf (from-word recursion [] (topAt 1) 203 (1 ∷ [])) ≡ 22 ∷ [])
-    × (answersOf (from-word recursion [] (depthAt 1) 63 (1 ∷ [])) ≡ 0 ∷ [])
-    × (from-word recursion [] (depthAt 1) 64 (1 ∷ []) ≡ stuck)
+    (answersOf (from-word (recursion 510) [] (topAt 1) 202 (1 ∷ [])) ≡ 0 ∷ [])
+    × (answersOf (from-word (recursion 510) [] (topAt 1) 203 (1 ∷ [])) ≡ 22 ∷ [])
+    × (answersOf (from-word (recursion 510) [] (depthAt 1) 63 (1 ∷ [])) ≡ 0 ∷ [])
+    × (from-word (recursion 510) [] (depthAt 1) 64 (1 ∷ []) ≡ stuck)
 unfolding from-word answersOf
 recursion-steps = (refl, refl, refl, refl)
 

@@ -7,7 +7,7 @@ use Rattle.table.specs.Table.{Table}
 use Rattle.machine.specs.Memory.{zeros, update}
 use Rattle.machine.proofs.Rows.{tableFrom, records, arrays, processes, number, local, byValue, byVar, initial, process, procedure}
 use Rattle.machine.proofs.Rows.{constant, whole, field, element, value, transfer, val, equal, greater, plus, difference, quotient, conjunction}
-use Rattle.machine.proofs.Rows.{skip, assign, localCall, processCall, create, start, if, while, when, arm, endArms, write, blockEnd}
+use Rattle.machine.proofs.Rows.{skip, assign, processCall, create, start, if, while, when, arm, endArms, write, blockEnd}
 use Rattle.machine.proofs.Programs.{runOn, answersOf, pageOf, answers, device, looks, keeps}
 
 -- the listing example of 01
@@ -251,29 +251,6 @@ pub indexing-runs :
     × (keeps indexing indexing-schedule ≡ true)
 unfolding answers looks keeps
 indexing-runs = (refl, refl, refl, refl)
-
--- type block = array 1..50 of integer
--- procedure again  var b: block  begin again end   begin again end.
--- four frames of 54 words fit an area of 256 words; the fifth answers 22
-abbrev pub recursion : Table
-recursion = tableFrom record {
-  types = arrays 0 0 1 50 ∷ [];
-  fields = [];
-  variables = local 3 ∷ [];
-  blocks = initial 0 0 ∷ procedure 0 0 0 1 2 ∷ [];
-  arguments = [];
-  nodes = [];
-  statements = localCall 1 0 0 ∷ blockEnd 0 ∷ localCall 1 0 0 ∷ blockEnd 1 ∷ [];
-}
-
-abbrev pub recursion-schedule : List ℕ
-recursion-schedule = 1 ∷ 1 ∷ 1 ∷ 1 ∷ 1 ∷ 1 ∷ []
-
-pub recursion-runs :
-    (answers recursion recursion-schedule ≡ 0 ∷ 0 ∷ 0 ∷ 0 ∷ 22 ∷ 22 ∷ [])
-    × (keeps recursion recursion-schedule ≡ true)
-unfolding answers keeps
-recursion-runs = (refl, refl)
 
 -- process self(me: self)  procedure p begin skip end  begin me.p end
 -- var s: self  begin create s; start s(s) end.

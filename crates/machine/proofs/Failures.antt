@@ -124,7 +124,7 @@ module _ (T : Table) (m page : Memory) (x : Context) where
   low-perform skip = low-goOn m
   low-perform (assign a b) =
       ends-onPlace Low _ _ (λ i τ. ends-onTyped Low _ _ (λ σ ws. ends-need Low _ _ (low-goOn _)))
-  low-perform (localCall q c d) = ends-need Low _ _ (ends-andThen Low _ _ (λ ws. low-moved _))
+  low-perform (localCall q c d) = ends-need Low _ _ (ends-andThen Low _ _ (λ ws. ends-failWhere Low _ 22 _ (low-moved _)))
   low-perform (processCall a q c d) =
       ends-onProcess Low T a m page x _
       (λ i μ. ends-need Low _ _ (ends-onReference Low m i μ _

@@ -1,5 +1,6 @@
 pub mod Rows
 pub mod Programs
+pub mod Spaces
 pub mod Examples
 pub mod Edges
 pub mod Stuck

@@ -61,6 +61,9 @@ byVar τ = 2 ∷ τ ∷ []
 abbrev pub initial : ℕ → ℕ → Row
 initial vars statement = 0 ∷ 0 ∷ 0 ∷ 0 ∷ vars ∷ statement ∷ 0 ∷ []
 
+abbrev pub reserving : ℕ → ℕ → ℕ → Row
+reserving space vars statement = 0 ∷ 0 ∷ 0 ∷ 0 ∷ vars ∷ statement ∷ space ∷ []
+
 abbrev pub process : ℕ → ℕ → ℕ → ℕ → ℕ → Row
 process b first params vars statement = 1 ∷ b ∷ first ∷ params ∷ vars ∷ statement ∷ 0 ∷ []
 

@@ -85,7 +85,8 @@ module _ (T : Table) (m page : Memory) (x : Context) where
       fresh (mark s (location (x .process) (m (topAt (x .process)))) (4 + length ws))
       (location (x .process) (m (topAt (x .process)) + 4 + length ws)) (frameWords T q - length ws)
 
-  -- a call of procedure q on process r, from state s: 22 where the frame does not fit the area (01, A step)
+  -- a call of procedure q on process r, from state s: 22 where the frame does not fit the area (01, A step). What a module reserves for its
+  -- own procedures (02, i) is asked of local calls alone
   unfoldable pub call : Memory → ℕ → ℕ → List ℕ → Outcome Memory
   call s q r ws =
       need (leb (length ws) (frameWords T q))

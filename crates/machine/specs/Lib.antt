@@ -7,6 +7,7 @@ pub mod Outcomes
 pub mod Entries
 pub mod Variables
 pub mod Context
+pub mod Space
 pub mod Operands
 pub mod Places
 pub mod Calls

@@ -9,6 +9,9 @@ ghost use Rattle.machine.specs.Lent.{State, Becomes};
 // The words of a state: 64 areas of 256 words, 64 control records of 20, a mark for each word of the areas (02, g).
 pub const STATE_WORDS: usize = 18688;
 
+// The words of a process's area.
+pub const AREA: usize = 256;
+
 // The words of a control record, as Layout has them.
 pub const STATUS: usize = 0;
 
@@ -47,7 +50,7 @@ pub fn location_of(p: usize, k: usize) -> usize
     requires { ⌜ (1 ≤ p) × ((p ≤ 64) × (k ≤ 255)) ⌝ }
     ensures { λ r. ⌜ (r ≡ location p k) × (r < locations) ⌝ }
 {
-    (p - 1) * 256 + k
+    (p - 1) * AREA + k
 }
 
 // Where word k of the control record of process p stands.

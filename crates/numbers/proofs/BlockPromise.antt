@@ -1,5 +1,5 @@
 -- What a table that escapes refusal 4 promises of blocks and their variables. Assumes nothing.
-use Prim.Native.Nat.{ℕ, _+_, _%_, _≤_, _<_}
+use Prim.Native.Nat.{ℕ, _+_, _≤_, _<_}
 use mathlib.Core.Path.{_≡_, refl}
 use mathlib.Core.Bool.{true}
 use native.Mathlib.Omega.{arith}
@@ -10,8 +10,8 @@ use Rattle.basics.specs.Chain.{always}
 use Rattle.basics.proofs.Bools.{both-l, both-r, between-true, all-at}
 use Rattle.basics.proofs.Takes.{there, apart}
 use Rattle.table.specs.Table.{Table}
-use Rattle.table.specs.Entries.{varMode, blockKind, owner, firstVar, params, vars, firstStmt, space, varCount, blockCount, stmtCount}
-use Rattle.numbers.specs.Blocks.{variablesTaken, programPlaced, ownerRanged, spaceRanged, modePlaced, variablesPlaced, blockPlaced, blockRanged}
+use Rattle.table.specs.Entries.{varMode, blockKind, owner, firstVar, params, vars, firstStmt, varCount, blockCount, stmtCount}
+use Rattle.numbers.specs.Blocks.{variablesTaken, programPlaced, ownerRanged, modePlaced, variablesPlaced, blockPlaced, blockRanged}
 use Rattle.numbers.specs.Ranges.{inRange}
 use Rattle.numbers.proofs.Parts.{variables-taken, some-block, block-row}
 
@@ -37,10 +37,6 @@ module _ (T : Table) (h : inRange T ≡ true) where
     unfolding blockPlaced
     owner-row = both-r _ _ placed
 
-    space-row : spaceRanged T b ≡ true
-    unfolding blockRanged
-    space-row = both-l _ _ (both-r _ _ (both-r _ _ (block-row T h b l)))
-
     variables-row : variablesPlaced T b ≡ true
     unfolding blockRanged
     variables-row = both-r _ _ (both-r _ _ (both-r _ _ (block-row T h b l)))
@@ -63,19 +59,16 @@ module _ (T : Table) (h : inRange T ≡ true) where
         (λ q. owner-procedure (eqb-true (blockKind T b) 2 q) .0)
         (λ q. let e : owner T b ≡ b = owner-self (eqb-false (blockKind T b) 2 q) in omega arith)
 
+    -- it is a module, or block 0
+    pub owner-module : blockKind T (owner T b) ≡ 2 → ⊥
+    owner-module e =
+        cases (eqb (blockKind T b) 2)
+        (λ q. omega (arith, owner-procedure (eqb-true (blockKind T b) 2 q) .1))
+        (λ q. let n = eqb-false (blockKind T b) 2 q in n (rw (owner-self n) at e))
+
     pub first-stmt : firstStmt T b < stmtCount T
     unfolding blockRanged
     first-stmt = ltb-true (firstStmt T b) (stmtCount T) (both-l _ _ (both-r _ _ (block-row T h b l)))
-
-    pub space-procedure : blockKind T b ≡ 2 → space T b ≡ 0
-    unfolding spaceRanged
-    space-procedure e = eqb-true (space T b) 0 (rw e at space-row)
-
-    pub space-even : (blockKind T b ≡ 2 → ⊥) → (space T b ≤ 510) × (space T b % 2 ≡ 0)
-    unfolding spaceRanged
-    space-even n =
-        let r = rw (ne-eqb (blockKind T b) 2 n) at space-row in
-        (leb-true (space T b) 510 (both-l _ _ r), eqb-true (space T b % 2) 0 (both-r _ _ r))
 
     pub params-vars : params T b ≤ vars T b
     unfolding variablesPlaced

@@ -10,7 +10,7 @@ ghost use Rattle.table.specs.Reading.{Field};
 ghost use Rattle.numbers.specs.Declarations.{isRecord, recordFirst, recordCount, fieldsTaken};
 ghost use Rattle.numbers.specs.Blocks.{variablesTaken};
 ghost use Rattle.table.specs.Kinds.{isCall};
-ghost use Rattle.numbers.specs.Operands.{callFirst, callCount, argumentsTaken, isStringNode, charactersTaken, stringFirst, stringCount};
+ghost use Rattle.numbers.specs.Operands.{callFirst, callCount, argumentsTaken, charactersTaken, stringFirst, stringCount};
 
 // A row that takes some begins at the free number j.
 fn begins(takes: bool, first: usize, j: usize) -> bool
@@ -74,12 +74,6 @@ fn call_count(c: &code::Slots, i: usize) -> usize
     ensures { λ r. ⌜ Field (callCount (decoded (now (c .entry))) i) r ⌝ }
 {
     code::stmt_d(c, i)
-}
-
-fn is_string_node(c: &code::Slots, n: usize) -> bool
-    ensures { λ r. ⌜ r ≡ isStringNode (decoded (now (c .entry))) n ⌝ }
-{
-    code::node_kind(c, n) == kinds::STRING
 }
 
 fn string_first(c: &code::Slots, n: usize) -> usize
@@ -157,7 +151,7 @@ pub fn characters_taken(c: &code::Slots) -> bool
     let mut j = 0;
     let mut i = 0;
     while i < n {
-        let takes = is_string_node(c, i);
+        let takes = code::is_string(c, i);
         let first = string_first(c, i);
         if begins(takes, first, j) {
             j = after(takes, first, string_count(c, i), j);

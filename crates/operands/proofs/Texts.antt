@@ -7,10 +7,10 @@ use lib.ListN.{length, getD}
 use lib.Dec.{leb, ltb}
 use native.Mathlib.Omega.{arith}
 use borrow.Author.Tests.{lt-ltb, le-ltb, le-leb, lt-leb, leb-true, ltb-true, ltb-false}
-use Rattle.basics.specs.Choice.{pick, both}
+use Rattle.basics.specs.Choice.{both}
 use Rattle.basics.proofs.Bools.{both-l, both-r}
 use Rattle.table.specs.Table.{Table}
-use Rattle.table.specs.Entries.{nodeP, nodeQ, character}
+use Rattle.table.specs.Entries.{nodeP, nodeQ}
 use Rattle.types.specs.Types.{evened, typeOf}
 use Rattle.sizes.specs.Sizes.{wordsOf}
 use Rattle.machine.specs.Memory.{Memory, memoryOf, wordsAt}
@@ -19,11 +19,11 @@ use Rattle.machine.specs.Operands.{same}
 use Rattle.machine.specs.Texts.{textAt}
 use Rattle.machine.proofs.Memories.{length-words, words-at}
 use Rattle.machine.proofs.TextLaws.{text-long, text-at}
-use Rattle.code.specs.Code.{decoded}
+use Rattle.code.specs.Code.{decoded, textWord}
 use Rattle.operands.specs.Answers.{nodeWords}
 use Rattle.operands.specs.Places.{Rooms, Matched}
 use Rattle.operands.specs.Ready.{Valued}
-use Rattle.operands.specs.Sources.{textWord, sourceWord, sourceWords, failing, Sourced, Compared}
+use Rattle.operands.specs.Sources.{sourceWord, sourceWords, failing, Sourced, Compared}
 use Rattle.operands.proofs.TypeWords.{words-constant, words-numbered}
 use Rattle.operands.proofs.Standing.{matched-none, matched-more, matched-not, matched-all}
 
@@ -49,7 +49,7 @@ module _ (T : Table) (m : Memory) (r : ℕ) where
         rw (length-words m r n) at g
 
   module _ (l : 131072 ≤ r) where
-    word-text : (i : ℕ) → sourceWord T m r i ≡ textWord T (r - 131072) i
+    word-text : (i : ℕ) → sourceWord T m r i ≡ textWord T (nodeP T (r - 131072)) (nodeQ T (r - 131072)) i
     unfolding sourceWord
     word-text i = rw (le-ltb r 65536 (omega arith))
 
@@ -74,8 +74,7 @@ module _ (T : Table) (s : List ℕ) (r i : ℕ) where
   pub text-low : Sourced s r (i + 1) → (p : ℕ) → p < 65536 → (p < 65536) × (i < 65536)
   text-low h p l = let g = h .few in (l, omega arith)
 
-  pub text-returns : (n p q u : ℕ) → Sourced s r (i + 1) → 65536 ≤ r → n ≡ r - 131072 → p ≡ nodeP T n → q ≡ nodeQ T n → u ≡ pick (ltb i q) (character T (p + i)) 0 → u ≡ sourceWord T (memoryOf s) r i
-  unfolding textWord
+  pub text-returns : (n p q u : ℕ) → Sourced s r (i + 1) → 65536 ≤ r → n ≡ r - 131072 → p ≡ nodeP T n → q ≡ nodeQ T n → u ≡ textWord T p q i → u ≡ sourceWord T (memoryOf s) r i
   text-returns n p q u h l e hp hq g = g ∙ (rw (hp, hq, e) (sym (word-text T (memoryOf s) r (h .text l) i)))
 
 pub ruleset words-read = (location-room, location-returns, text-high, text-low, text-returns)

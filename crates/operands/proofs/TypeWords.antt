@@ -1,6 +1,6 @@
 -- Words of types in a table that keeps the rules of refusals 4 and 7. Assumes nothing.
 use Prim.Native.Nat.{ℕ, zero, suc, _+_, _*_, _<_, _≤_}
-use mathlib.Core.Path.{_≡_, refl, sym, _∙_}
+use mathlib.Core.Path.{_≡_, sym, _∙_}
 use mathlib.Core.Bool.{true, false}
 use lib.Dec.{eqb}
 use native.Mathlib.Nat.{mul-le-mul}
@@ -60,16 +60,12 @@ module _ (T : Table) where
 
   -- nodes
   module _ (n : ℕ) where
-    node-type-words : nodeWords T n ≡ wordsIn T (typeOfNode T n)
-    unfolding nodeWords typeOfNode wordsIn
-    node-type-words = cases (eqb (nodeKind T n) 8) (λ e. rw e refl) (λ e. rw e refl)
-
     pub words-constant : nodeKind T n ≡ 8 → nodeWords T n ≡ evened (nodeQ T n)
-    unfolding nodeWords
+    unfolding nodeWords typeOfNode wordsIn
     words-constant e = rw (eq-eqb (nodeKind T n) 8 e)
 
     pub words-numbered : (nodeKind T n ≡ 8 → ⊥) → nodeWords T n ≡ wordsOf T (typeOf T n)
-    unfolding nodeWords
+    unfolding nodeWords typeOfNode wordsIn
     words-numbered e = rw (ne-eqb (nodeKind T n) 8 e)
 
     pub single-numbered : (nodeKind T n ≡ 8 → ⊥) → single T n ≡ eqb (wordsOf T (typeOf T n)) 1
@@ -95,4 +91,5 @@ module _ (T : Table) where
 
   -- nodes whose types are equal have as many words
   pub match-nodes : (p q : ℕ) → isEqual (matching T (typeOfNode T p) (typeOfNode T q)) ≡ true → nodeWords T p ≡ nodeWords T q
-  match-nodes p q e = node-type-words p ∙ (equal-words T (typeOfNode T p) (typeOfNode T q) e ∙ sym (node-type-words q))
+  unfolding nodeWords
+  match-nodes p q e = equal-words T (typeOfNode T p) (typeOfNode T q) e

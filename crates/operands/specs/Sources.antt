@@ -8,20 +8,16 @@ use lib.ListN.{length}
 use lib.Dec.{leb, ltb}
 use Rattle.basics.specs.Choice.{pick, both}
 use Rattle.table.specs.Table.{Table}
-use Rattle.table.specs.Entries.{nodeKind, nodeP, nodeQ, character}
+use Rattle.table.specs.Entries.{nodeKind, nodeP, nodeQ}
 use Rattle.machine.specs.Memory.{Memory, wordsAt}
 use Rattle.machine.specs.Layout.{stateSize, locations}
-use Rattle.code.specs.Code.{decoded}
+use Rattle.code.specs.Code.{decoded, textWord}
 use Rattle.operands.specs.Answers.{nodeWords}
 use Rattle.operands.specs.Ready.{Valued}
 
--- word i of the string constant of node n: character 0 after the last one
-unfoldable pub textWord : Table → ℕ → ℕ → ℕ
-textWord T n i = pick (ltb i (nodeQ T n)) (character T (nodeP T n + i)) 0
-
 -- word i of what r stands for: the variable at a location, or the string constant of a node
 unfoldable pub sourceWord : Table → Memory → ℕ → ℕ → ℕ
-sourceWord T m r i = pick (ltb r 65536) (m (r + i)) (textWord T (r - 131072) i)
+sourceWord T m r i = pick (ltb r 65536) (m (r + i)) (textWord T (nodeP T (r - 131072)) (nodeQ T (r - 131072)) i)
 
 unfoldable pub sourceWords : Table → Memory → ℕ → ℕ → List ℕ
 sourceWords T m r n = wordsAt (sourceWord T m r) 0 n

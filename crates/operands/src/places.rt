@@ -16,7 +16,6 @@ ghost use lib.Dec.{leb, ltb};
 ghost use Rattle.basics.specs.Choice.{both};
 ghost use Rattle.table.specs.Entries.{typeQ, typeLow, typeHigh};
 ghost use Rattle.table.specs.Reading.{Field};
-ghost use Rattle.types.specs.Match.{offset};
 ghost use Rattle.types.specs.Types.{typeOf};
 ghost use Rattle.sizes.specs.Sizes.{wordsOf, offsetIn};
 ghost use Rattle.machine.specs.Memory.{memoryOf, wordsAt};
@@ -92,17 +91,6 @@ pub fn field_place(c: &code::Slots, a: usize, y: usize, i: usize) -> usize
     a + code::place_of(c, first + i)
 }
 
-// 32,768 more than the integer that a word stands for.
-fn offset_of(v: usize) -> usize
-    requires { ⌜ v < 65536 ⌝ }
-    ensures { λ r. ⌜ Field (offset v) r ⌝ }
-{
-    if v < 32768 {
-        return v + 32768;
-    }
-    v - 32768
-}
-
 // The words of type y.
 pub fn words_of(c: &code::Slots, y: usize) -> usize
     requires { ⌜ Sized (now c) y ⌝ }
@@ -132,10 +120,10 @@ pub fn element_place(c: &code::Slots, a: usize, y: usize, i: u16) -> u32
     requires { ⌜ Indexed (now c) a y i ⌝ }
     ensures { λ r. ⌜ PlaceIs (typeQ (decoded (now (c .entry))) y) (failWhere (outside (typeLow (decoded (now (c .entry))) y) (typeHigh (decoded (now (c .entry))) y) i) 18 (ok (place (elementAt (decoded (now (c .entry))) a y i) (typeQ (decoded (now (c .entry))) y)))) r ⌝ }
 {
-    let k = offset_of(wide(i));
-    let low = offset_of(code::type_low(c, y));
+    let k = types::offset_of(wide(i));
+    let low = types::offset_of(code::type_low(c, y));
     if low <= k {
-        if k <= offset_of(code::type_high(c, y)) {
+        if k <= types::offset_of(code::type_high(c, y)) {
             return thin(a + (k - low) * words_of(c, code::type_q(c, y)));
         }
         return INDEX_RANGE;

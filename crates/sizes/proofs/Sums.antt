@@ -2,10 +2,10 @@
 use Prim.Native.Nat.{ℕ, zero, suc, _+_, _*_, _≤_, _<_, min}
 use mathlib.Core.Path.{_≡_, refl}
 use native.Mathlib.Numerals.{add-one}
-use native.Mathlib.Nat.{mul-le-mul, mul-le-mul-right}
+use native.Mathlib.Nat.{not-suc-le-zero, mul-le-mul, mul-le-mul-right}
 use native.Mathlib.Omega.{arith}
-use lib.Dec.{leb}
-use borrow.Author.Tests.{leb-true, leb-false, lt-leb}
+use lib.Dec.{eqb, leb}
+use borrow.Author.Tests.{eqb-true, eqb-false, leb-true, leb-false, lt-leb}
 use mir.Val.{Fits}
 use mir.Syntax.{w64}
 use Rattle.basics.specs.Cases.{cases}
@@ -27,6 +27,24 @@ sum-up f i (suc n) l =
     cases (leb i n)
     (λ e. let x = sum-up f i n (leb-true i n e) in omega arith)
     (λ e. let x = leb-false i n e in let q : i ≡ suc n = omega arith in rw q (omega arith))
+
+pub sum-least : (f g : ℕ → ℕ) (n : ℕ) → ((i : ℕ) → i < n → f i ≤ g i) → sumBelow n f ≤ sumBelow n g
+unfolding sumBelow
+sum-least f g zero h = omega arith
+sum-least f g (suc n) h = let x = sum-least f g n (λ i l. h i (omega arith)) in let y = h n (omega arith) in omega arith
+
+-- one summand more
+pub sum-joined : (f g : ℕ → ℕ) (n k v : ℕ) → k < n → ((i : ℕ) → (i ≡ k → ⊥) → g i ≡ f i) → g k ≡ f k + v → sumBelow n g ≡ sumBelow n f + v
+unfolding sumBelow
+sum-joined f g zero k v l h e = absurd (not-suc-le-zero l)
+sum-joined f g (suc n) k v l h e =
+    cases (eqb k n)
+    (λ q. let i = eqb-true k n q in let x = sum-same g f n (λ j b. h j (λ z. omega arith)) in let y : g n ≡ f n + v = rw i at e in omega arith)
+    (λ q. let i = eqb-false k n q in let x = sum-joined f g n k v (omega arith) h e in let y = h n (λ z. omega arith) in omega arith)
+
+-- a sum is at least each of its summands
+pub sum-at : (f : ℕ → ℕ) (n k : ℕ) → k < n → f k ≤ sumBelow n f
+sum-at f n k l = let x = sum-up f (k + 1) n (omega arith) in let y = sum-more f k in omega arith
 
 -- sums and products of kept numbers, kept, are those of the numbers
 module _ (m a x : ℕ) (hx : x ≡ min a m) where

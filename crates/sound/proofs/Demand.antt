@@ -194,6 +194,9 @@ module _ (verdict : ℕ → List ℕ → ℕ) (w : ℕ)
     at-first : At (tableOf w (h .table)) (first verdict w h)
     at-first = at-begin verdict w (h .table) laws (h .slice) (h .number) number-small begin-law (h .begins)
 
+    pub first-ruled : rule (tableOf w (h .table)) (memoryOf (first verdict w h)) ≡ true
+    first-ruled = at-memory _ _ at-first .ruled
+
     -- runs begun alike begin with the same state, whatever slices they fill
     same-first : (k : History verdict w) → k .table ≡ h .table → k .number ≡ h .number → first verdict w k ≡ first verdict w h
     same-first k e o =
@@ -255,7 +258,7 @@ module _ (verdict : ℕ → List ℕ → ℕ) (w : ℕ)
         looks-set : h .number ≡ 1 → (es fs : List Seen) → es ++ fs ≡ steps verdict w h → (p v k : ℕ)
             → look (tableOf w (h .table)) (memoryOf (finally (first verdict w h) es)) p v k ≡ 32 → ⊥
         looks-set o es fs e =
-            look-set (tableOf w (h .table)) good _ (ruled _ _ (rule-after (tableOf w (h .table)) (first verdict w h) es fs (at-memory _ _ at-first .ruled) (rw e every)))
+            look-set (tableOf w (h .table)) good _ (ruled _ _ (rule-after (tableOf w (h .table)) (first verdict w h) es fs first-ruled (rw e every)))
             (all-set o es fs e)
 
     -- THE THEOREM

@@ -30,6 +30,7 @@ use Rattle.machine.specs.Variables.{frameWords, isProcedure}
 use Rattle.machine.specs.Processes.{onModule, onProcess, refers, onReference}
 use Rattle.machine.specs.Values.{typeHolds, holdsAt, holds}
 use Rattle.machine.specs.Context.{Context, contextOf, blockOf}
+use Rattle.machine.specs.Space.{spaceFull}
 use Rattle.machine.specs.Operands.{operand}
 use Rattle.machine.specs.Calls.{arguments, topAfter, pushed, frameMarked, call}
 use Rattle.machine.specs.Statements.{Effect, effect, goTo, goOn, wait, moved, doAssign, doLocalCall, free, doProcessCall, doCreate, doStart, doWrite, perform}
@@ -192,11 +193,14 @@ module _ (T : Table) (acc : Accepted T) (L : PlaceLaws T) (W : WordTable T) (m :
       calling : state.calls (stmtA T stmt) (stmtAt T stmt) ≡ true
       calling = rw e (unfold state.calls in eq-eqb (stmtA T stmt) (stmtA T stmt) refl)
 
-      pushed-frame : (ws : List ℕ) → Bound T m p (params T (stmtA T stmt)) (firstVar T (stmtA T stmt)) ws → Performed T m page p (moved T m page (contextOf m p) (call T m page (contextOf m p) m (stmtA T stmt) (m (worksAt p)) ws))
+      pushed-frame : (ws : List ℕ) → Bound T m p (params T (stmtA T stmt)) (firstVar T (stmtA T stmt)) ws
+          → Performed T m page p (failWhere (spaceFull T m (contextOf m p) (stmtA T stmt)) 22
+          (moved T m page (contextOf m p) (call T m page (contextOf m p) m (stmtA T stmt) (m (worksAt p)) ws)))
       pushed-frame ws b =
           let f = arguments-fit T acc m p (stmtA T stmt) (there .0) ws b in
-          pushes m (stmtA T stmt) (m (worksAt p)) ws f
-          (λ r d. calls (stmtA T stmt) ws e own (record { there = there .0; procedure = there .1; bound = b; long = f; room = r; deep = d; calling = calling }))
+          on-fail (Performed T m page p) on-failed (spaceFull T m (contextOf m p) (stmtA T stmt)) 22 _ (failure-i 22 (omega arith) (omega arith))
+          (λ o. pushes m (stmtA T stmt) (m (worksAt p)) ws f
+          (λ r d. calls (stmtA T stmt) ws e own (record { there = there .0; procedure = there .1; bound = b; long = f; room = r; deep = d; calling = calling })))
 
       performed : Performed T m page p (perform T m page (contextOf m p) (localCall (stmtA T stmt) (stmtC T stmt) (stmtD T stmt)))
       performed =

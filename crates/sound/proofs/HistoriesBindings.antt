@@ -22,7 +22,7 @@ use Rattle.machine.specs.Outcomes.{Outcome, ok, fail, stuck}
 use Rattle.machine.specs.Entries.{Statement, skip, assign, localCall, processCall, create, start, opener, arm, endArms, write, blockEnd, noStatement, stmtAt}
 use Rattle.machine.specs.Context.{contextOf}
 use Rattle.machine.specs.Calls.{standing, frame, topAfter, pushed, frameMarked, popped, returns, return}
-use Rattle.machine.specs.Processes.{refers, created, started}
+use Rattle.machine.specs.Processes.{created, started}
 use Rattle.machine.specs.Statements.{Effect, effect, perform}
 use Rattle.machine.specs.Step.{done, settled, answers, performs, proceeds, exists, turn, step}
 use Rattle.sizes.proofs.Counting.{words-simple}
@@ -36,6 +36,7 @@ use Rattle.sound.specs.Claims.{PlaceLaws}
 use Rattle.sound.specs.Ruled.{Framed, Chained, called, Ruled}
 use Rattle.sound.specs.InUse.{Created, Call, innermost, caller}
 use Rattle.sound.specs.Bindings.{FrameWord, link, bound, BindingsKept}
+use Rattle.sound.proofs.HistoriesRecords.{refers-some}
 use Rattle.sound.proofs.Ruled.{block-there, block-kind}
 use Rattle.sound.proofs.StoresMarks.{frame-marks}
 use Rattle.sound.proofs.StoresBlocks.{module-variables, module-fits}
@@ -351,7 +352,7 @@ module _ (T : Table) (ok : Accepted T) (L : PlaceLaws T) (m : Memory) (h : Ruled
       fails : {n : ℕ} → Keeping (fail n)
 
     performed-keeping : (o : Outcome Effect) → Performed T m page p o → Keeping o
-    unfolding return refers
+    unfolding return
     performed-keeping _ (Performed.goes c y l) = keeps (k-record m p 2 c k-none)
     performed-keeping _ (Performed.holds-on c l) = keeps (k-record _ p 2 c (k-record m _ 6 p k-none))
     performed-keeping _ (Performed.gives-up y) = keeps (k-record m _ 6 0 k-none)
@@ -364,10 +365,7 @@ module _ (T : Table) (ok : Accepted T) (L : PlaceLaws T) (m : Memory) (h : Ruled
         keeps (k-record _ p 2 _ (k-marks _ a 1 _ (k-marks _ (location (m createdAt + 1) 0) 256 _
         (k-update _ a _ (λ p' d f j u x. rw w at (live-apart p τ a some made started-p (live .alive) p' d f j u x)) (k-created m (m createdAt + 1) _ (omega arith) k-none)))))
     performed-keeping _ (Performed.starts r μ ws y l e s t k b w) =
-        keeps (k-record _ p 2 _ (k-marks _ _ _ _ (k-started r μ ws (refers-some μ r e) s w)))
-      where
-        refers-some : (μ r : ℕ) → refers m μ r ≡ true → 1 ≤ r
-        refers-some μ r e = let u = leb-true 2 r (both-l _ _ (both-l _ _ e)) in omega arith
+        keeps (k-record _ p 2 _ (k-marks _ _ _ _ (k-started r μ ws (refers-some m μ r e) s w)))
     performed-keeping _ (Performed.writes a v y l b c e) = keeps (k-record m p 2 _ k-none)
     performed-keeping _ (Performed.ends y e) = keeps (k-record _ p 6 0 (k-record m p 0 3 k-none))
     performed-keeping _ (Performed.returns n y e r w) = keeps (k-returns _ _ n r)

@@ -102,7 +102,7 @@ module _ (T : Table) (m page : Memory) (x : Context) where
     unfolding doLocalCall
     local-keeps q c d =
         g-need Keeping none _ _ (g-then Keeping none (arguments T m page x q c d) _ (λ f e. fails)
-        (λ ws e. moved-keeps _ (within-call m q (x .works) ws (still m))))
+        (λ ws e. g-where Keeping none _ 22 _ (λ g. fails) (λ g. moved-keeps _ (within-call m q (x .works) ws (still m)))))
 
     process-keeps : (a q c d : ℕ) → Keeping (doProcessCall T m page x a q c d)
     unfolding doProcessCall onProcess onReference wait
@@ -141,7 +141,7 @@ module _ (T : Table) (m page : Memory) (x : Context) where
     carries-comes _ _ _ e skips = keeps refl (goes-still m _ (still m))
     carries-comes _ _ _ e (assigns {a = a} {b = b} {i = i} {τ = τ} {κ = κ} {ws = ws} y w h) =
         keeps refl (goes-still _ _ (marks-still _ _ _ _ (still-store m m (still m) i ws (room T i τ κ ws (place-fits T m page x a i τ y) (gives-long T m page x b κ ws w) h))))
-    carries-comes _ _ _ e (callsLocal {q = q} {c = c} {d = d} p n) = keeps refl (keeping-still _ (local-keeps q c d) _ _ e)
+    carries-comes _ _ _ e (callsLocal {q = q} {c = c} {d = d} p o n) = keeps refl (keeping-still _ (local-keeps q c d) _ _ e)
     carries-comes _ _ _ e (callsProcess {a = a} {q = q} {c = c} {d = d} y t z u p n) = keeps refl (keeping-still _ (process-keeps a q c d) _ _ e)
     carries-comes _ _ _ e (Carries.creates {a = a} {i = i} {τ = τ} {μ = μ} y t n) =
         let u = place-area T m page x a i τ y in

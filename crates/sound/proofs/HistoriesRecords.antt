@@ -26,6 +26,10 @@ pub refers-most : (m : Memory) → m createdAt ≤ 64 → (μ r : ℕ) → refer
 unfolding refers
 refers-most m l μ r e = let h : r ≤ m createdAt = leb-true _ _ (both-r _ _ (both-l _ _ e)) in omega arith
 
+pub refers-some : (m : Memory) (μ r : ℕ) → refers m μ r ≡ true → 1 ≤ r
+unfolding refers
+refers-some m μ r e = let h : 2 ≤ r = leb-true _ _ (both-l _ _ (both-l _ _ e)) in omega arith
+
 pub location-end : (p k n : ℕ) → p ≤ 64 → k + n ≤ 256 → location p k + n ≤ locations
 unfolding location
 location-end p k n l h = omega arith

@@ -20,7 +20,7 @@ use Rattle.sizes.proofs.Strings.{equal-words}
 use Rattle.machine.specs.Memory.{Memory, update, within, store, clear, fill, zeros}
 use Rattle.machine.specs.Layout.{location, recordAt, statusAt, statementAt, topAt, worksAt, holderAt, createdAt, failureAt, stateWords, locations, pageWords}
 use Rattle.machine.specs.Marks.{setMarks, markWord, mark, fresh}
-use Rattle.machine.specs.Outcomes.{Outcome, ok, fail, stuck, andThen, place, wordOf}
+use Rattle.machine.specs.Outcomes.{Outcome, ok, fail, stuck, andThen, wordOf}
 use Rattle.machine.specs.Entries.{typeAt, waits, Statement}
 use Rattle.machine.specs.Context.{Context, contextOf}
 use Rattle.machine.specs.Variables.{frameWords, fits}
@@ -37,7 +37,7 @@ use Rattle.machine.proofs.Outcomes.{g-then, g-test, g-need, g-where, g-pick, g-
 use Rattle.sound.specs.Carried.{Carries, skips, assigns, callsLocal, callsProcess, creates, starts, enters, passes, leaves, again, writes, returnsLocal, returnsProcess}
 use Rattle.sound.specs.Reached.{Sized, Kept}
 use Rattle.sound.proofs.RowsStatements.{gives, keeps, Reports, went, waited, ended, failed, strays, reports}
-use Rattle.sound.proofs.HistoriesOperands.{device-word, place-fits, gives-long}
+use Rattle.sound.proofs.HistoriesOperands.{device-word, place-fits, place-area, gives-long}
 use Rattle.sound.proofs.HistoriesRecords.{refers-most}
 use Rattle.sound.proofs.NumbersMarks.{Numbered, numbered, numbered-record, numbered-word, numbered-store, numbered-mark, numbered-fresh, numbered-standing, numbered-created}
 
@@ -176,7 +176,9 @@ module _ (T : Table) (m page : Memory) (x : Context) (hm : Sized stateWords m) (
 
   local-in : (q c d : ℕ) → Inside m (doLocalCall T m page x q c d)
   unfolding doLocalCall
-  local-in q c d = g-need (Inside m) none _ _ (g-then (Inside m) none (arguments T m page x q c d) _ (λ f e. fails) (λ ws e. moved-in _ (within-call m q (x .works) ws unwritten)))
+  local-in q c d =
+      g-need (Inside m) none _ _ (g-then (Inside m) none (arguments T m page x q c d) _ (λ f e. fails)
+      (λ ws e. g-where (Inside m) none _ 22 _ (λ g. fails) (λ g. moved-in _ (within-call m q (x .works) ws unwritten))))
 
   process-in : (a q c d : ℕ) → Inside m (doProcessCall T m page x a q c d)
   unfolding doProcessCall onProcess onReference wait
@@ -196,10 +198,6 @@ module _ (T : Table) (m page : Memory) (x : Context) (hm : Sized stateWords m) (
 
   created-in : (n μ : ℕ) → 2 ≤ n → n ≤ 64 → Written m (created m n μ)
   created-in n μ g l = record { sized = created-sized n μ l; numbered = numbered-created m n μ g l }
-
-  place-in : (a i τ : ℕ) → operand T m page x a ≡ ok (place i τ) → i < locations
-  unfolding fits
-  place-in a i τ e = ltb-true _ _ (both-l _ _ (place-fits T m page x a i τ e))
 
   started-in : (r μ : ℕ) (ws : List ℕ) → r ≤ 64 → length ws ≤ 256 → Written m (started T m r μ ws)
   unfolding started
@@ -233,10 +231,10 @@ module _ (T : Table) (m page : Memory) (x : Context) (hm : Sized stateWords m) (
   carries-in _ _ _ e (assigns {a = a} {b = b} {i = i} {τ = τ} {κ = κ} {ws = ws} y w h) =
       let r = room T i τ κ ws (place-fits T m page x a i τ y) (gives-long T m page x b κ ws w) h in
       inside (goes-in _ _ (mark-written m _ (store-written m m unwritten i ws r) i _ r)) hp
-  carries-in _ _ _ e (callsLocal {q = q} {c = c} {d = d} p n) = is-inside _ _ (local-in q c d) e
+  carries-in _ _ _ e (callsLocal {q = q} {c = c} {d = d} p o n) = is-inside _ _ (local-in q c d) e
   carries-in _ _ _ e (callsProcess {a = a} {q = q} {c = c} {d = d} y t z u p n) = is-inside _ _ (process-in a q c d) e
   carries-in _ _ _ e (creates {a = a} {i = i} {τ = τ} {μ = μ} y t n) =
-      let l = place-in a i τ y in
+      let l = place-area T m page x a i τ y in
       let g = location-plus (m createdAt + 1) 0 256 in
       let k = location-in (m createdAt + 1) (0 + 256) (omega arith) (omega arith) in
       inside (goes-in _ _ (mark-written m _ (fresh-written m _ (word-written m _ (created-in (m createdAt + 1) μ (omega arith) (omega arith)) i _ l) (location (m createdAt + 1) 0) 256 (omega arith)) i 1 (omega arith))) hp

@@ -14,6 +14,11 @@ use Rattle.sound.specs.StateRule.{NotWaiting}
 use Rattle.sound.proofs.Ruled.{ruled}
 use Rattle.sound.proofs.Worked.{worked-first, worked-own, works-outer, held-fast}
 
+-- a call that works on its process was made while the process worked on itself
+pub own-caller : (T : Table) (m : Memory) (p d f w c top : ℕ) → w ≡ p → Chained T m p (suc d) f w c top → callerWorks m p f ≡ p
+own-caller T m p d f w c top i (called k r) =
+    works-outer T m p d f w (stmtAt T (callStatement m p f)) (k .by) (rw i (worked-own T m p r)) ∙ i
+
 module _ (T : Table) (m : Memory) (e : rule T m ≡ true) where
   h : Ruled T m
   h = ruled T m e
@@ -35,7 +40,7 @@ module _ (T : Table) (m : Memory) (e : rule T m ≡ true) where
     chained : Chained T m p (suc d) f works statement top
     own : works ≡ p
 
-  -- the call that made it works on p too
+  -- what made it works on p too
   own-outer : (p d f w c top : ℕ) → w ≡ p → Chained T m p (suc (suc d)) f w c top → OwnCall p d (callerFrame m p f)
   own-outer p d f w c top i (called k r) =
       record {
@@ -43,7 +48,7 @@ module _ (T : Table) (m : Memory) (e : rule T m ≡ true) where
         statement = callStatement m p f;
         top = f;
         chained = r;
-        own = works-outer T m p (suc d) f w (stmtAt T (callStatement m p f)) (k .by) (rw i (worked-own T m p r)) ∙ i;
+        own = own-caller T m p (suc d) f w c top i (called k r);
       }
 
   own-call : (p d f : ℕ) → m (worksAt p) ≡ p → Call T m p d f → OwnCall p d f

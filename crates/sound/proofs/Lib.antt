@@ -38,6 +38,10 @@ pub mod RowsNodes
 pub mod RowsOutcomes
 pub mod RowsStatements
 pub mod Ruled
+pub mod SpaceCalls
+pub mod SpaceFrames
+pub mod SpaceOnce
+pub mod SpaceUses
 pub mod StateRuleHolds
 pub mod Steps
 pub mod StepsBegin

@@ -22,7 +22,7 @@ use Rattle.machine.specs.Public.{visible, wordThere, look}
 use Rattle.machine.proofs.Memories.{within-from, within-to}
 use Rattle.machine.proofs.MarkLaws.{each-all, full-marked}
 use Rattle.verdict.specs.Accepted.{Accepted}
-use Rattle.sound.specs.Conditions.{Selects, NodeFails, result, inverted, divisor, index, device, transferred, unset, inRecord, inArray, inIndex, inVariable, inUnary, inTransfer, inLeft, inRight, ArgumentsFail, thisArgument, laterArgument, GuardsFail, thisGuard, laterGuard, StatementFails, target, source, localArgument, localArea, callee, calleeUnset, calleeEmpty, callArgument, callArea, createe, limit, startee, starteeUnset, starteeEmpty, startedTwice, startArgument, guard, address, datum}
+use Rattle.sound.specs.Conditions.{Selects, NodeFails, result, inverted, divisor, index, device, transferred, unset, inRecord, inArray, inIndex, inVariable, inUnary, inTransfer, inLeft, inRight, ArgumentsFail, thisArgument, laterArgument, GuardsFail, thisGuard, laterGuard, StatementFails, target, source, localArgument, localSpace, localArea, callee, calleeUnset, calleeEmpty, callArgument, callArea, createe, limit, startee, starteeUnset, starteeEmpty, startedTwice, startArgument, guard, address, datum}
 use Rattle.sound.specs.Conditions as conditions
 use Rattle.sound.specs.Histories.{Seen, finally, Threaded, Every}
 use Rattle.sound.specs.Rows.{Row, row0, row1, row2, row3, row16}
@@ -91,6 +91,7 @@ module _ (T : Table) (m page : Memory) (x : Context) (set : AllSet m) where
   statement-set f _ (target h) z = node-set f _ h z
   statement-set f _ (source y h) z = node-set f _ h z
   statement-set f _ (localArgument h) z = arguments-set f _ _ _ h z
+  statement-set _ _ (localSpace e h) z = omega arith
   statement-set _ _ (localArea e h) z = omega arith
   statement-set f _ (callee h) z = node-set f _ h z
   statement-set _ _ (calleeUnset {a = a} {i = i} {τ = τ} y h) z = reference-set a i τ y h

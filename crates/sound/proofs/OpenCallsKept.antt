@@ -376,7 +376,7 @@ module _ (T : Table) (acc : Accepted T) (m page : Memory) (R : Ruled T m) (p : �
       goes-kept (assign a b) (mark (store m i ws) i (length ws)) _ (record { same = λ t cs. refl; none = refl })
       (marks-alike (store m i ws) i (length ws) true
       (alike-store m m 0 (alike m 0) i ws (room T i τ κ ws (place-fits T m page (contextOf m p) a i τ e) (gives-long T m page (contextOf m p) b κ ws y) t))) k
-  by-carries _ _ _ (Carries.callsLocal {q = q} {c = i} {d = d} {ws = ws} P f) n k =
+  by-carries _ _ _ (Carries.callsLocal {q = q} {c = i} {d = d} {ws = ws} P g f) n k =
       call-kept m (alike m 0) q (contextOf m p .works) i d ws (local-there T m page (contextOf m p) q i d n) P (fits-area q f) (localCall q i d) (λ cs. refl) refl k
   by-carries _ _ _ (Carries.callsProcess {a = a} {q = q} {c = i} {d = d} {i = j} {τ = τ} {ws = ws} e t z v P f) n k =
       call-kept (update m (holderAt (m j)) (contextOf m p .process)) (holder-alike (m j) _) q (m j) i d ws (called-there T m page (contextOf m p) a q i d j τ (owner T q) e t n) P (fits-area q f)

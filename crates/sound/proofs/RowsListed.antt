@@ -9,7 +9,7 @@ use Rattle.machine.specs.Context.{Context}
 use Rattle.machine.specs.Entries.{Statement}
 use Rattle.machine.specs.Outcomes.{isFailure}
 use Rattle.machine.proofs.Tests.{failure-i, failure-unset}
-use Rattle.sound.specs.Conditions.{NodeFails, result, inverted, divisor, index, device, transferred, unset, inRecord, inArray, inIndex, inVariable, inUnary, inTransfer, inLeft, inRight, ArgumentsFail, thisArgument, laterArgument, GuardsFail, thisGuard, laterGuard, StatementFails, target, source, localArgument, localArea, callee, calleeUnset, calleeEmpty, callArgument, callArea, createe, limit, startee, starteeUnset, starteeEmpty, startedTwice, startArgument, guard, address, datum, location}
+use Rattle.sound.specs.Conditions.{NodeFails, result, inverted, divisor, index, device, transferred, unset, inRecord, inArray, inIndex, inVariable, inUnary, inTransfer, inLeft, inRight, ArgumentsFail, thisArgument, laterArgument, GuardsFail, thisGuard, laterGuard, StatementFails, target, source, localArgument, localSpace, localArea, callee, calleeUnset, calleeEmpty, callArgument, callArea, createe, limit, startee, starteeUnset, starteeEmpty, startedTwice, startArgument, guard, address, datum, location}
 
 module _ (T : Table) (m page : Memory) (x : Context) where
   node-listed : (f n : ℕ) → NodeFails T m page x f n → isFailure f ≡ true
@@ -41,6 +41,7 @@ module _ (T : Table) (m page : Memory) (x : Context) where
   statement-listed f _ (target h) = node-listed f _ h
   statement-listed f _ (source y h) = node-listed f _ h
   statement-listed f _ (localArgument h) = arguments-listed f _ _ _ h
+  statement-listed _ _ (localSpace e h) = failure-i _ (omega arith) (omega arith)
   statement-listed _ _ (localArea e h) = failure-i _ (omega arith) (omega arith)
   statement-listed f _ (callee h) = node-listed f _ h
   statement-listed _ _ (calleeUnset y u) = failure-unset

@@ -22,12 +22,13 @@ use Rattle.machine.specs.Texts.{fit}
 use Rattle.machine.specs.Outcomes.{Outcome, ok, fail, stuck, andThen, wordOf}
 use Rattle.machine.specs.Entries.{processType, typeAt, Opener, waits, repeats, Statement, skip, assign, localCall, processCall, create, start, opener, arm, endArms, write, blockEnd, noStatement, stmtAt}
 use Rattle.machine.specs.Context.{Context}
+use Rattle.machine.specs.Space.{spaceFull}
 use Rattle.machine.specs.Operands.{operand}
 use Rattle.machine.specs.Calls.{passed, valueArgument, varArgument, argument, argumentWords, arguments, topAfter, pushed, frameMarked, call, returns, return}
 use Rattle.machine.specs.Processes.{onModule, onProcess, onReference}
 use Rattle.machine.specs.Statements.{Effect, effect, onArms, onOpener, Choice, enters, skips, endOf, goTo, goOn, wait, moved, doAssign, doLocalCall, free, doProcessCall, doCreate, doStart, choose, chosen, doOpener, doEnd, doWrite, doBlockEnd, perform}
 use Rattle.machine.proofs.Outcomes.{g-test, g-need, g-where, g-place, g-word, g-module}
-use Rattle.sound.specs.Conditions.{Selects, Yields, NodeFails, ArgumentsFail, thisArgument, laterArgument, GuardsFail, thisGuard, laterGuard, GuardsFalse, none, more, AreaFull, Refers, Empty, Serves, StatementFails, target, source, localArgument, localArea, callee, calleeUnset, calleeEmpty, callArgument, callArea, createe, limit, startee, starteeUnset, starteeEmpty, startedTwice, startArgument, guard, address, datum, location, StatementWaits, blocked, busy, StatementEnds, ownBlock}
+use Rattle.sound.specs.Conditions.{Selects, Yields, NodeFails, ArgumentsFail, thisArgument, laterArgument, GuardsFail, thisGuard, laterGuard, GuardsFalse, none, more, AreaFull, SpaceFull, Refers, Empty, Serves, StatementFails, target, source, localArgument, localSpace, localArea, callee, calleeUnset, calleeEmpty, callArgument, callArea, createe, limit, startee, starteeUnset, starteeEmpty, startedTwice, startArgument, guard, address, datum, location, StatementWaits, blocked, busy, StatementEnds, ownBlock}
 use Rattle.sound.specs.Carried.{Inside, nextArm, lastEnd, LeadsTo, theEnd, pastArm, Passes, noMore, byValue, byFit, byVariable, Passed, FirstTrue, thisArm, laterArm, Carries, assigns, callsLocal, callsProcess, creates, starts, passes, leaves, again, writes, returnsLocal, returnsProcess}
 use Rattle.sound.proofs.RowsOutcomes.{Near, same, lost, n-fails, n-then, n-need, n-pass, n-where, n-place-fails, n-place, n-typed-fails, n-word-fails, n-word, n-pick-true, n-pick-false}
 use Rattle.sound.proofs.RowsNodes.{g-gives, n-gives, node-fails, fails-near}
@@ -319,12 +320,28 @@ module _ (T : Table) (m page : Memory) (x : Context) where
       (λ i τ y. g-gives T m page x b (operand T m page x b) _ (Reports _) strays (λ _ e. e) (λ f e. failed (source y (node-fails T m page x b f e)))
       (λ κ ws e. g-test (Reports _) strays _ _ (λ h. goon-reports _ _ (assigns y e (is-equal _ h)))))
 
+  -- a test of what a module reserves says what the rule does
+  space-is : (q : ℕ) → spaceFull T m x q ≡ true → SpaceFull T m page x q
+  unfolding spaceFull
+  space-is q e = record { own = eqb-true _ _ (both-l _ _ e); above = ltb-true _ _ (both-r _ _ e) }
+
+  is-space : (q : ℕ) → SpaceFull T m page x q → spaceFull T m x q ≡ true
+  unfolding spaceFull
+  is-space q h = both-i _ _ (eq-eqb _ _ (h .own)) (lt-ltb _ _ (h .above))
+
+  space-free : (q : ℕ) → spaceFull T m x q ≡ false → SpaceFull T m page x q → ⊥
+  space-free q e h = no-true (sym e ∙ is-space q h)
+
+  free-space : (q : ℕ) → (SpaceFull T m page x q → ⊥) → spaceFull T m x q ≡ false
+  free-space q n = cases (spaceFull T m x q) (λ e. absurd (n (space-is q e))) (λ e. e)
+
   local-reports : (q c d : ℕ) → Reports (localCall q c d) (doLocalCall T m page x q c d)
   unfolding doLocalCall
   local-reports q c d =
       g-need (Reports _) strays _ _
       (g-got (Reports _) strays _ _ _ _ (arguments-got q c d) (λ f h. failed (localArgument h))
-      (λ ws e p. call-reports _ m q (x .works) ws (λ h. localArea e h) (λ n. callsLocal p n)))
+      (λ ws e p. g-where (Reports _) strays _ 22 _ (λ o. failed (localSpace e (space-is q o)))
+      (λ o. call-reports _ m q (x .works) ws (λ h. localArea e h) (λ n. callsLocal p (space-free q o) n))))
 
   -- a reference is unmarked, or empty, or names a process
   reference-reports : (S : Statement) (i μ : ℕ) (k : ℕ → Outcome Effect) → (marked m i ≡ false → StatementFails T m page x 31 S) → (Empty T m page x i → StatementFails T m page x 19 S)
@@ -473,8 +490,11 @@ module _ (T : Table) (m page : Memory) (x : Context) where
       n-place (fail f) i τ (operand T m page x a) _ (same y) (n-typed-fails (fail f) f (operand T m page x b) _ refl (fails-near T m page x f b h))
   statement-near f _ (localArgument {q = q} {c = c} {d = d} h) =
       n-need (fail f) _ _ (n-fails (fail f) f (arguments T m page x q c d) _ refl (arguments-near f q c d h))
+  statement-near _ _ (localSpace {q = q} {c = c} {d = d} {ws = ws} e h) =
+      n-need (fail 22) _ _ (n-then (fail 22) ws (arguments T m page x q c d) _ (same e) (n-where (fail 22) _ 22 _ refl (is-space q h)))
   statement-near _ _ (localArea {q = q} {c = c} {d = d} {ws = ws} e h) =
-      n-need (fail 22) _ _ (n-then (fail 22) ws (arguments T m page x q c d) _ (same e) (area-near _ q _ ws h))
+      n-need (fail 22) _ _ (n-then (fail 22) ws (arguments T m page x q c d) _ (same e)
+      (g-where (Near (fail 22)) lost _ 22 _ (λ o. same refl) (λ o. area-near _ q _ ws h)))
   statement-near f _ (callee {a = a} h) = n-process-fails f a _ h
   statement-near _ _ (calleeUnset {a = a} {i = i} {τ = τ} y z) =
       n-process (fail 31) a i τ y _ (λ μ t. n-need (fail 31) _ _ (n-unset (fail 31) a i τ y μ _ refl z))
@@ -518,8 +538,8 @@ module _ (T : Table) (m page : Memory) (x : Context) where
   carries-near _ _ _ Carries.skips = same refl
   carries-near _ _ _ (assigns {a = a} {b = b} {i = i} {τ = τ} {κ = κ} {ws = ws} y w h) =
       n-place _ i τ (operand T m page x a) _ (same y) (n-gives T m page x b (operand T m page x b) _ _ κ ws (λ _ q. same q) w (n-need _ _ _ (same refl)))
-  carries-near _ _ _ (callsLocal {q = q} {c = c} {d = d} {ws = ws} p n) =
-      n-need _ _ _ (n-then _ ws (arguments T m page x q c d) _ (passed-near q c d ws p) (room-near _ q _ ws n))
+  carries-near _ _ _ (callsLocal {q = q} {c = c} {d = d} {ws = ws} p o n) =
+      n-need _ _ _ (n-then _ ws (arguments T m page x q c d) _ (passed-near q c d ws p) (n-pass _ _ 22 _ (free-space q o) (room-near _ q _ ws n)))
   carries-near _ _ _ (callsProcess {a = a} {q = q} {c = c} {d = d} {i = i} {τ = τ} {ws = ws} y t z s p n) =
       n-process _ a i τ y _ (λ μ u. n-need _ _ _ (n-reference _ a i τ y μ _ z
       (rw (serves-free (m i) s) (n-then _ ws (arguments T m page x q c d) _ (passed-near q c d ws p) (room-near _ q _ ws n)))))

@@ -17,6 +17,7 @@ use Rattle.sound.specs.StateRule.{Reachable, atBegin, byStep, StateRule}
 use Rattle.sound.proofs.HistoriesBegin.{word-table}
 use Rattle.sound.proofs.HistoriesValues.{rule-values}
 use Rattle.sound.proofs.Holders.{works-apart, works-own}
+use Rattle.sound.proofs.SpaceFrames.{own-frames}
 use Rattle.sound.proofs.Steps.{begin-law, step-laws}
 
 same-state : (a b : ℕ) (s t d e : Memory) → done a s d ≡ done b t e → s ≡ t
@@ -37,6 +38,7 @@ module _ (T : Table) (acc : Accepted T) (words : WordTable T) where
     values = λ m ms r. rule-values T m ms r;
     apart = λ m r. works-apart T m r;
     own = λ m r. works-own T m r;
+    frames = λ m r. own-frames T m r;
   }
 
 -- THE THEOREM

@@ -16,6 +16,7 @@ use Rattle.machine.specs.Calls.{standing}
 use Rattle.machine.specs.Step.{Step, done, step}
 use Rattle.machine.specs.Run.{onDone, begin}
 use Rattle.machine.specs.Run as start
+use Rattle.machine.specs.Rule.{rule}
 use Rattle.machine.specs.Public.{beginRefusal, beginCall}
 use Rattle.machine.proofs.Memories.{within-below, length-bytes, low-byte, high-byte, bytes-memory}
 use Rattle.sound.specs.Histories.{Seen, stateBytes, pageBytes, seen, trace, asked, shown, finally, Threaded, Every, begunResult, begunState, stateLeft, Ask, callOf, refused, stepsOf, history, begunWith, History, first, steps}
@@ -78,8 +79,9 @@ history-left verdict w s (x ∷ xs) =
 
 -- ---- steps
 
--- the steps of a run, from state s
+-- the steps of a run, from state s, which meets the state rule
 record Steps (T : Table) (s : List ℕ) (es : List Seen) : Type 0 where
+  ruled : rule T (memoryOf s) ≡ true
   threaded : Threaded s es
   holds : Every (StepHolds T) es
   left : Every Left es
@@ -95,7 +97,7 @@ module _ (T : Table) (s : List ℕ) (e : Seen) (es : List Seen) (h : Steps T s (
 
   tail-steps : Steps T (e .after) es
   unfolding Threaded Every
-  tail-steps = record { threaded = h .threaded .1; holds = h .holds .1; left = h .left .1 }
+  tail-steps = record { ruled = h .holds .0 .ruled; threaded = h .threaded .1; holds = h .holds .1; left = h .left .1 }
 
 -- what a step and the twin's step of which the same is asked show
 record Shown (e f : Seen) : Type 0 where
@@ -105,8 +107,8 @@ record Shown (e f : Seen) : Type 0 where
 
 module _ (T : Table) (s r : List ℕ) (e f : Seen) (es fs : List Seen) (h : Steps T s (e ∷ es)) (k : Steps T r (f ∷ fs))
     (t : Twin (memoryOf s) (memoryOf r)) (p : f .process ≡ e .process) (g : f .given ≡ e .given) (n : e .answer ≡ 31 → ⊥) where
-  twin-done : TwinStep T (memoryOf s) (memoryOf r) (memoryOf (e .given)) (e .process) t (e .answer) (memoryOf (e .after)) (memoryOf (e .left))
-  twin-done = twin-step T (memoryOf s) (memoryOf r) (memoryOf (e .given)) (e .process) t (e .answer) (memoryOf (e .after)) (memoryOf (e .left)) (head-is T s e es h) n
+  twin-done : TwinStep T (memoryOf s) (memoryOf r) (memoryOf (e .given)) (e .process) t (h .ruled) (e .answer) (memoryOf (e .after)) (memoryOf (e .left))
+  twin-done = twin-step T (memoryOf s) (memoryOf r) (memoryOf (e .given)) (e .process) t (h .ruled) (e .answer) (memoryOf (e .after)) (memoryOf (e .left)) (head-is T s e es h) n
 
   twin-is : done (f .answer) (memoryOf (f .after)) (memoryOf (f .left)) ≡ done (e .answer) (twin-done .state) (memoryOf (e .left))
   twin-is = sym (rw (p, g) at (head-is T r f fs k)) ∙ twin-done .is
@@ -141,7 +143,8 @@ shows-alike T (suc n) s r (e ∷ es) (f ∷ fs) h k t q u =
 
 -- ---- runs
 
-module _ (verdict : ℕ → List ℕ → ℕ) (w : ℕ) (demand3 : (h : History verdict w) → Demand3 verdict w h) where
+module _ (verdict : ℕ → List ℕ → ℕ) (w : ℕ) (demand3 : (h : History verdict w) → Demand3 verdict w h)
+    (first-ruled : (h : History verdict w) → rule (tableOf w (h .table)) (memoryOf (first verdict w h)) ≡ true) where
   begun-is : (t slice : List ℕ) (n : ℕ) → begunResult (beginCall verdict w t slice n) ≡ 0 → begunWith verdict w t slice n ≡ stateBytes (begin (tableOf w t) n)
   unfolding begunWith begunState beginCall begunResult stateBytes
   begun-is t slice n e =
@@ -150,7 +153,12 @@ module _ (verdict : ℕ → List ℕ → ℕ) (w : ℕ) (demand3 : (h : History 
       (λ z. absurd (eqb-false _ 0 z (rw z at e)))
 
   run-steps : (h : History verdict w) → Steps (tableOf w (h .table)) (first verdict w h) (steps verdict w h)
-  run-steps h = record { threaded = demand3 h .threaded; holds = demand3 h .holds; left = history-left verdict w (first verdict w h) (h .calls) }
+  run-steps h = record {
+    ruled = first-ruled h;
+    threaded = demand3 h .threaded;
+    holds = demand3 h .holds;
+    left = history-left verdict w (first verdict w h) (h .calls);
+  }
 
   table-steps : (T : Table) (h : History verdict w) → tableOf w (h .table) ≡ T → Steps T (first verdict w h) (steps verdict w h)
   table-steps T h e = rw e at (run-steps h)

@@ -3,9 +3,9 @@ use Prim.Native.Nat.{ℕ}
 use Rattle.verdict.specs.Verdict.{verdict}
 use Rattle.sound.specs.Histories.{History}
 use Rattle.sound.specs.Tested.{TestedAlike}
-use Rattle.sound.proofs.StepsDemand.{demand3}
+use Rattle.sound.proofs.StepsDemand.{demand3, first-ruled}
 use Rattle.sound.proofs.Tested as tested
 
 -- THE THEOREM
 pub tested-alike : (w : ℕ) (h : History verdict w) → TestedAlike verdict w h
-tested-alike w h = tested.tested-alike verdict w (demand3 w) h
+tested-alike w h = tested.tested-alike verdict w (demand3 w) (first-ruled w) h

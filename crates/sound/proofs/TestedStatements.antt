@@ -23,16 +23,18 @@ use Rattle.machine.specs.Marks.{marked, mark}
 use Rattle.machine.specs.Outcomes.{Outcome, andThen, need}
 use Rattle.machine.specs.Entries.{Opener, waits, repeats, Statement, skip, assign, localCall, processCall, create, start, opener, arm, endArms, write, blockEnd, noStatement, stmtAt, typeAt}
 use Rattle.machine.specs.Context.{Context}
+use Rattle.machine.specs.Space.{ownAfter, spaceFull}
 use Rattle.machine.specs.Variables.{frameWords}
 use Rattle.machine.specs.Operands.{operand}
 use Rattle.machine.specs.Calls.{arguments, frame, topAfter, pushed, frameMarked, call, popped, returns, return}
 use Rattle.machine.specs.Processes.{onProcess, refers, onReference, created, started}
 use Rattle.machine.specs.Statements.{Effect, effect, Choice, enters, skips, endOf, free, goTo, goOn, wait, moved, doAssign, doLocalCall, doProcessCall, doCreate, doStart, choose, chosen, doOpener, doEnd, doWrite, doBlockEnd, perform}
 use Rattle.sound.specs.Conditions.{Selects, Gives, aValue, aText}
+use Rattle.sound.specs.Ruled.{Chained}
 use Rattle.sound.proofs.HistoriesOperands.{place-fits, place-area, gives-long}
-use Rattle.sound.proofs.HistoriesRecords.{location-end, refers-most}
+use Rattle.sound.proofs.HistoriesRecords.{location-end, refers-most, refers-some}
 use Rattle.sound.proofs.TestedOutcomes.{Meets, Equal, Same, same, gives, fails, strays, unset, m-then, m-test, m-where, m-unset, m-pick, m-place, m-typed, m-word, m-module, m-arms, m-opener}
-use Rattle.sound.proofs.TestedTwins.{Twin, at-record, at-location, at-area, twin-store, twin-clear, twin-record, twin-word, twin-location, twin-marks, twin-fresh, twin-standing}
+use Rattle.sound.proofs.TestedTwins.{Twin, at-record, at-location, at-link, same-own, twin-store, twin-clear, twin-record, twin-word, twin-location, twin-marks, twin-fresh, twin-standing}
 use Rattle.sound.proofs.TestedOperands.{fits-room, operand-same, arguments-same}
 
 -- effects: the same answer and page, and states that are twins
@@ -41,7 +43,8 @@ pub data Alike : Effect → Effect → Type 0 where
 
 module _ (T : Table) (m s page : Memory) (x : Context) (t : Twin m s) (some : 1 ≤ x .process) (most : x .process ≤ 64)
     (works : 1 ≤ x .works) (last : x .works ≤ 64) (few : m createdAt ≤ 64)
-    (room : (m (depthAt (x .process)) ≡ 0 → ⊥) → x .frame + 4 ≤ 256) where
+    (room : (m (depthAt (x .process)) ≡ 0 → ⊥) → x .frame + 4 ≤ 256)
+    (chained : Chained T m (x .process) (m (depthAt (x .process))) (x .frame) (x .works) (x .statement) (m (topAt (x .process)))) where
   own : (k : ℕ) → k < 10 → s (recordAt (x .process) k) ≡ m (recordAt (x .process) k)
   own k l = at-record m s t (x .process) k (omega arith)
 
@@ -127,11 +130,15 @@ module _ (T : Table) (m s page : Memory) (x : Context) (t : Twin m s) (some : 1 
       (m-test Twin _ _ _ (λ l. m-where Twin _ 22 _ _ (λ g. m-test Twin _ _ _ (λ d.
       gives (twin-fresh _ _ (twin-marks _ _ (pushes m' s' q r ws h (leb-true _ _ l) (ltb-false 256 _ g)) _ _ true true refl) _ _)))))
 
+  space-same : (q : ℕ) → spaceFull T s x q ≡ spaceFull T m x q
+  unfolding spaceFull ownAfter
+  space-same q = rw (own 1 (omega arith), own 7 (omega arith), same-own m s t T (x .process) _ (x .frame) _ _ _ most chained)
+
   local-calls : (q c d : ℕ) → Meets Alike (doLocalCall T m page x q c d) (doLocalCall T s page x q c d)
   unfolding doLocalCall
   local-calls q c d =
       m-test Alike _ _ _ (λ h. m-then Alike (arguments T m page x q c d) (arguments T s page x q c d) _ _ (arguments-same T m s page x t most q c d)
-      (λ ws e. moves _ _ (calls m s q (x .works) ws t)))
+      (λ ws e. rw (space-same q) (m-where Alike _ 22 _ _ (λ o. moves _ _ (calls m s q (x .works) ws t)))))
 
   -- ---- references
 
@@ -146,17 +153,13 @@ module _ (T : Table) (m s page : Memory) (x : Context) (t : Twin m s) (some : 1 
       rw (at-record m s t r 1 (omega arith)))
       (λ e. both-false-l _ _ e ∙ sym (both-false-l _ _ e)))
 
-  refers-some : (μ r : ℕ) → refers m μ r ≡ true → 1 ≤ r
-  unfolding refers
-  refers-some μ r e = let a = leb-true 2 r (both-l _ _ (both-l _ _ e)) in omega arith
-
   m-reference : (i μ : ℕ) (f g : ℕ → Outcome Effect) → i < locations → ((r : ℕ) → 1 ≤ r → r ≤ 64 → Meets Alike (f r) (g r))
       → Meets Alike (onReference m i μ f) (onReference s i μ g)
   unfolding onReference
   m-reference i μ f g l h =
       m-unset Alike _ (not (marked s i)) _ _ (ap not (t .set i l))
       (rw (at-location m s t i l, refers-same μ (m i))
-      (m-where Alike _ 19 _ _ (λ z. m-test Alike _ _ _ (λ e. h (m i) (refers-some μ (m i) e) (refers-most m few μ (m i) e)))))
+      (m-where Alike _ 19 _ _ (λ z. m-test Alike _ _ _ (λ e. h (m i) (refers-some m μ (m i) e) (refers-most m few μ (m i) e)))))
 
   m-process : (a : ℕ) (f g : ℕ → ℕ → Outcome Effect) → ((i μ : ℕ) → i < locations → Meets Alike (f i μ) (g i μ))
       → Meets Alike (onProcess T (operand T m page x a) f) (onProcess T (operand T s page x a) g)
@@ -257,8 +260,7 @@ module _ (T : Table) (m s page : Memory) (x : Context) (t : Twin m s) (some : 1 
       m-where Alike _ 21 _ _ (λ e. gives (alike (twin-word m s t (x .process) 2 (x .statement + 1) (omega arith))))))
 
   link-same : (k : ℕ) → k < 4 → x .frame + 4 ≤ 256 → s (linkAt (x .process) (x .frame) k) ≡ m (linkAt (x .process) (x .frame) k)
-  unfolding linkAt
-  link-same k h l = at-area m s t (x .process) (x .frame + k) most (omega arith)
+  link-same k h l = at-link m s t (x .process) (x .frame) k most l h
 
   pops : (m' s' : Memory) (c : ℕ) → x .frame + 4 ≤ 256 → Twin m' s' → Twin (popped T m page x m' c) (popped T s page x s' c)
   unfolding popped

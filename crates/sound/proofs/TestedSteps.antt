@@ -4,7 +4,7 @@ use mathlib.Core.Path.{_≡_, refl, sym, _∙_}
 use mathlib.Core.Bool.{Bool, true}
 use native.Mathlib.Omega.{arith}
 use lib.Dec.{eqb, leb}
-use borrow.Author.Tests.{eqb-false, ne-eqb, leb-true}
+use borrow.Author.Tests.{eqb-true, eqb-false, ne-eqb, leb-true}
 use Rattle.basics.specs.Choice.{pick, either, between}
 use Rattle.basics.specs.Cases.{cases}
 use Rattle.basics.proofs.Bools.{both-l, both-false-l}
@@ -16,12 +16,14 @@ use Rattle.machine.specs.Entries.{stmtAt}
 use Rattle.machine.specs.Context.{Context, blockOf, contextOf, contextual}
 use Rattle.machine.specs.Statements.{Effect, perform}
 use Rattle.machine.specs.Step.{done, settled, answers, performs, proceeds, exists, turn, step}
+use Rattle.machine.specs.Rule.{rule}
 use Rattle.machine.proofs.Tests.{range-low, range-high}
+use Rattle.sound.proofs.Ruled.{ruled}
 use Rattle.sound.proofs.TestedOutcomes.{Meets, gives, fails, strays, unset, m-test, m-pick}
 use Rattle.sound.proofs.TestedTwins.{Twin, at-record, at-area, twin-word}
 use Rattle.sound.proofs.TestedStatements.{Alike, alike, performs-alike}
 
-module _ (T : Table) (m s page : Memory) (p : ℕ) (t : Twin m s) where
+module _ (T : Table) (m s page : Memory) (p : ℕ) (t : Twin m s) (meets : rule T m ≡ true) where
   -- ---- the context
 
   in-context : (x y : Context) → y ≡ x → Meets Alike (perform T m page x (stmtAt T (x .statement))) (perform T s page x (stmtAt T (x .statement)))
@@ -64,33 +66,34 @@ module _ (T : Table) (m s page : Memory) (p : ℕ) (t : Twin m s) where
       unfolding contextual
       framed-first e = both-l _ _ e
 
-      performs-same : 1 ≤ m createdAt → m createdAt ≤ 64 → Meets Alike (performs T m page p) (performs T s page p)
+      performs-same : p ≤ m createdAt → m (statusAt p) ≡ 2 → 1 ≤ m createdAt → m createdAt ≤ 64 → Meets Alike (performs T m page p) (performs T s page p)
       unfolding performs contextOf
-      performs-same one few =
+      performs-same made begun one few =
           rw contextual-same
           (m-test Alike (contextual T m p) _ _ (λ e.
           let f = framed-first e in
           in-context (contextOf m p) (contextOf s p) (context-same f)
-          (performs-alike T m s page (contextOf m p) t some most works last few (called-same f) (stmtAt T (contextOf m p .statement)) one)))
+          (performs-alike T m s page (contextOf m p) t some most works last few (called-same f) (ruled T m meets .process p some made .chain begun)
+          (stmtAt T (contextOf m p .statement)) one)))
 
-    proceeds-same : 1 ≤ m createdAt → m createdAt ≤ 64 → Meets Alike (proceeds T m page p) (proceeds T s page p)
+    proceeds-same : p ≤ m createdAt → m (statusAt p) ≡ 2 → 1 ≤ m createdAt → m createdAt ≤ 64 → Meets Alike (proceeds T m page p) (proceeds T s page p)
     unfolding proceeds answers
-    proceeds-same one few =
+    proceeds-same made begun one few =
         rw (own 5 (omega arith), at-record m s t 1 8 (omega arith))
         (m-test Alike (between 1 (m createdAt) (m (worksAt p))) _ _ (λ e.
         let a = range-low _ _ _ e in
         let b = range-high _ _ _ e in
         rw (at-record m s t (m (worksAt p)) 6 (omega arith))
         (m-pick Alike (either (eqb (m (holderAt (m (worksAt p)))) 0) (eqb (m (holderAt (m (worksAt p)))) p)) _ _ _ _
-        (λ h. performs-same a (omega arith) one few) (λ h. gives (alike t)))))
+        (λ h. performs-same a (omega arith) made begun one few) (λ h. gives (alike t)))))
 
-    exists-same : 1 ≤ m createdAt → m createdAt ≤ 64 → Meets Alike (exists T m page p) (exists T s page p)
+    exists-same : p ≤ m createdAt → 1 ≤ m createdAt → m createdAt ≤ 64 → Meets Alike (exists T m page p) (exists T s page p)
     unfolding exists answers
-    exists-same one few =
+    exists-same made one few =
         rw (own 0 (omega arith))
         (m-pick Alike (eqb (m (statusAt p)) 3) _ _ _ _ (λ e. gives (alike t)) (λ e.
         m-pick Alike (eqb (m (statusAt p)) 1) _ _ _ _ (λ h. gives (alike t)) (λ h.
-        m-test Alike _ _ _ (λ g. proceeds-same one few))))
+        m-test Alike _ _ _ (λ g. proceeds-same made (eqb-true _ 2 g) one few))))
 
   turn-same : Meets Alike (turn T m page p) (turn T s page p)
   unfolding turn answers
@@ -101,7 +104,7 @@ module _ (T : Table) (m s page : Memory) (p : ℕ) (t : Twin m s) where
       let one = range-low _ _ _ c in
       let few = range-high _ _ _ c in
       m-pick Alike (between 1 (m createdAt) p) _ _ _ _
-      (λ h. let a = range-low _ _ _ h in let b = range-high _ _ _ h in exists-same a (omega arith) one few)
+      (λ h. let a = range-low _ _ _ h in let b = range-high _ _ _ h in exists-same a (omega arith) b one few)
       (λ h. gives (alike t))))
       (λ e. m-test Alike _ _ _ (λ h. gives (alike t))))
 

@@ -8,12 +8,15 @@ use lib.Dec.{eqb}
 use lib.ListN.{length}
 use borrow.Author.Tests.{eq-eqb}
 use Rattle.basics.specs.Choice.{pick}
+use Rattle.table.specs.Table.{Table}
 use Rattle.machine.specs.Memory.{Memory, update, store, clear, wordsAt}
-use Rattle.machine.specs.Layout.{plainWords, locations, location, recordAt, numberAt}
+use Rattle.machine.specs.Layout.{plainWords, locations, location, recordAt, numberAt, linkAt, callerFrame, callStatement, callerWorks}
 use Rattle.machine.specs.Marks.{markWord, marked, AllSet, setMarks, allMarked, fresh}
+use Rattle.machine.specs.Space.{ownWords}
 use Rattle.machine.specs.Calls.{standing}
 use Rattle.machine.proofs.Memories.{update-other, store-above, clear-above, clear-below}
 use Rattle.machine.proofs.MarkLaws.{marks-word, marks-kept, each-all}
+use Rattle.sound.specs.Ruled.{Chained, bottom, called}
 use Rattle.sound.proofs.HistoriesRecords.{location-end}
 
 pub record Twin (m s : Memory) : Type 0 where
@@ -55,6 +58,23 @@ module _ (m s : Memory) (t : Twin m s) where
 
   pub at-area : (p k : ℕ) → p ≤ 64 → k < 256 → s (location p k) ≡ m (location p k)
   at-area p k h l = let z = location-end p k 1 h (omega arith) in at-location (location p k) (omega arith)
+
+  pub at-link : (p f k : ℕ) → p ≤ 64 → f + 4 ≤ 256 → k < 4 → s (linkAt p f k) ≡ m (linkAt p f k)
+  unfolding linkAt
+  at-link p f k h l z = at-area p (f + k) h (omega arith)
+
+  -- the links of calls that have not ended lie in the area
+  pub same-own : (T : Table) (p d f w c top : ℕ) → p ≤ 64 → Chained T m p d f w c top → ownWords T s p d f ≡ ownWords T m p d f
+  unfolding ownWords
+  same-own T p _ f w c top h (bottom b) = refl
+  same-own T p _ f w c top h (called {d = d} r k) =
+      let l = r .room in
+      rw (
+        at-link p f 0 h l (omega arith),
+        at-link p f 2 h l (omega arith),
+        at-link p f 3 h l (omega arith),
+        same-own T p d (callerFrame m p f) (callerWorks m p f) (callStatement m p f) f h k,
+      )
 
   pub same-words : (a n : ℕ) → a + n ≤ locations → wordsAt s a n ≡ wordsAt m a n
   unfolding wordsAt

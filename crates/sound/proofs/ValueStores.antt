@@ -1,11 +1,11 @@
 -- Words that are retrieved and stored: values of a type, and a value stored in a part of a variable. Assumes nothing.
 use Prim.Native.Nat.{ℕ, suc, _+_, _*_, _≤_, _<_}
-use mathlib.Core.Path.{_≡_, refl, sym, _∙_}
+use mathlib.Core.Path.{_≡_, sym, _∙_}
 use mathlib.Core.Bool.{true}
-use mathlib.Core.List.{List, [], _∷_}
+use mathlib.Core.List.{List}
 use native.Mathlib.Omega.{arith}
 use native.Mathlib.Nat.{add-zero, mul-le-mul-right, suc-mul}
-use lib.ListN.{length, getD}
+use lib.ListN.{length}
 use lib.Dec.{eqb, ltb}
 use borrow.Author.Tests.{eqb-true, eqb-false, ltb-true, ltb-false}
 use Rattle.basics.specs.Cases.{cases}
@@ -27,15 +27,6 @@ use Rattle.sound.proofs.ValueParts.{Part, whole, in-field, in-element, 
 -- memories that have the same words
 pub words-same : (m n : Memory) (a b w : ℕ) → wordsAt n b w ≡ wordsAt m a w → Same w m a n b
 words-same m n a b w e k l = sym (words-at n b w k l) ∙ rw e (words-at m a w k l)
-
-pub words-are : (m : Memory) (a : ℕ) (ws : List ℕ) → ((k : ℕ) → k < length ws → m (a + k) ≡ getD ws k 0) → wordsAt m a (length ws) ≡ ws
-unfolding wordsAt
-words-are m a [] h = refl
-words-are m a (w ∷ ws) h =
-    let x : m (a + 0) ≡ w = h 0 (omega arith) in
-    let y : m a ≡ w = rw (add-zero a) at x in
-    let z : wordsAt m (a + 1) (length ws) ≡ ws = words-are m (a + 1) ws (λ k l. let e : a + 1 + k ≡ a + suc k = omega arith in rw e (h (suc k) (omega arith))) in
-    cc
 
 -- ---- a value stored in a part leaves the whole with one
 

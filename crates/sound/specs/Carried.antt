@@ -24,7 +24,7 @@ use Rattle.machine.specs.Context.{Context}
 use Rattle.machine.specs.Operands.{deviceWord}
 use Rattle.machine.specs.Calls.{pushed, frameMarked, popped}
 use Rattle.machine.specs.Processes.{created, started}
-use Rattle.sound.specs.Conditions.{Selects, Yields, Gives, GuardsFalse, AreaFull, Refers, Serves}
+use Rattle.sound.specs.Conditions.{Selects, Yields, Gives, GuardsFalse, AreaFull, SpaceFull, Refers, Serves}
 
 -- a statement that is reached from inside the arm before it
 pub data Inside : Statement → Type 0 where
@@ -78,7 +78,7 @@ module _ (T : Table) (m page : Memory) (x : Context) where
     assigns : {a b i τ : ℕ} {κ : NodeType} {ws : List ℕ} → Selects T m page x a i τ → Gives T m page x b κ ws → matching T (numbered τ) κ ≡ equal
         → Carries (assign a b) (goingOn (mark (store m i ws) i (length ws))) page
     -- 11.3: a local call passes its arguments and enters the procedure; what it works on stays
-    callsLocal : {q c d : ℕ} {ws : List ℕ} → Passed q c d ws → (AreaFull T m page x q → ⊥)
+    callsLocal : {q c d : ℕ} {ws : List ℕ} → Passed q c d ws → (SpaceFull T m page x q → ⊥) → (AreaFull T m page x q → ⊥)
         → Carries (localCall q c d) (frameMarked T m page x (pushed T m page x m q (x .works) ws) q ws) page
     -- 11.3, 13: a process call also holds the variables of the process that its variable refers to, and works on them
     callsProcess : {a q c d i τ : ℕ} {ws : List ℕ} → Selects T m page x a i τ → typeAt T τ ≡ processType (owner T q) → Refers T m page x i

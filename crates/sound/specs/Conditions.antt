@@ -16,7 +16,7 @@ use Rattle.words.specs.Devices.{isDevice}
 use Rattle.table.specs.Table.{Table}
 use Rattle.table.specs.Entries.{argNode, firstVar}
 use Rattle.machine.specs.Memory.{Memory}
-use Rattle.machine.specs.Layout.{statusAt, topAt, holderAt, depthAt, createdAt}
+use Rattle.machine.specs.Layout.{statusAt, moduleAt, topAt, holderAt, depthAt, createdAt}
 use Rattle.machine.specs.Marks.{marked, allMarked}
 use Rattle.types.specs.Types.{NodeType, numbered, string}
 use Rattle.machine.specs.Outcomes.{ok, place, value, text, wordOf}
@@ -25,6 +25,7 @@ use Rattle.machine.specs.Entries.{Opener, waits, Statement, assign, localCall, 
 use Rattle.sizes.specs.Sizes.{wordsOf}
 use Rattle.machine.specs.Variables.{frameWords}
 use Rattle.machine.specs.Context.{Context}
+use Rattle.machine.specs.Space.{reserve, ownAfter}
 use Rattle.machine.specs.Operands.{operand, outside}
 use Rattle.machine.specs.Calls.{argument, arguments}
 
@@ -108,6 +109,11 @@ module _ (T : Table) (m page : Memory) (x : Context) where
   abbrev pub AreaFull : ℕ → Type 0
   AreaFull q = 256 < m (topAt (x .process)) + 4 + frameWords T q
 
+  -- the process works on its own variables, and with a call of procedure q its own calls pass what its module reserves (13; 02, i)
+  pub record SpaceFull (q : ℕ) : Type 0 where
+    pub own : x .works ≡ x .process
+    pub above : reserve T (m (moduleAt (x .process))) < ownAfter T m x q
+
   -- the process variable at location i has a value, which names a process; which is empty
   pub record Refers (i : ℕ) : Type 0 where
     pub set : marked m i ≡ true
@@ -127,8 +133,9 @@ module _ (T : Table) (m page : Memory) (x : Context) where
     -- an assignment selects, evaluates
     target : {f a b : ℕ} → NodeFails f a → StatementFails f (assign a b)
     source : {f a b i τ : ℕ} → Selects a i τ → NodeFails f b → StatementFails f (assign a b)
-    -- a local call evaluates arguments, then tests the area (22)
+    -- a local call evaluates arguments, then tests what its module reserves, and the area (22)
     localArgument : {f q c d : ℕ} → ArgumentsFail f d (firstVar T q) c → StatementFails f (localCall q c d)
+    localSpace : {q c d : ℕ} {ws : List ℕ} → arguments T m page x q c d ≡ ok ws → SpaceFull q → StatementFails 22 (localCall q c d)
     localArea : {q c d : ℕ} {ws : List ℕ} → arguments T m page x q c d ≡ ok ws → AreaFull q → StatementFails 22 (localCall q c d)
     -- a process call tests its reference (31, then 19), waits, evaluates arguments, tests the area (22)
     callee : {f a q c d : ℕ} → NodeFails f a → StatementFails f (processCall a q c d)

@@ -16,4 +16,5 @@ pub mod Cuts
 pub mod Demand
 pub mod Tested
 pub mod Refusals
+pub mod Space
 pub mod StateRule

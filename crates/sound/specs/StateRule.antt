@@ -1,13 +1,15 @@
 -- Trusted: public promises are said with these definitions.
 -- What the state rule is worth (01, Verdicts and other refusals: The state rule). States and pages are memories of words. Assumes nothing.
-use Prim.Native.Nat.{ℕ, _≤_}
+use Prim.Native.Nat.{ℕ, _+_, _≤_}
 use mathlib.Core.Path.{_≡_}
 use mathlib.Core.Bool.{true, false}
 use Rattle.table.specs.Table.{Table}
 use Rattle.table.specs.Entries.{owner}
+use Rattle.sizes.specs.Sizes.{moduleWords}
 use Rattle.machine.specs.Memory.{Memory}
-use Rattle.machine.specs.Layout.{statusAt, moduleAt, statementAt, worksAt, calledBlock}
+use Rattle.machine.specs.Layout.{statusAt, moduleAt, statementAt, frameAt, topAt, worksAt, depthAt, calledBlock}
 use Rattle.machine.specs.Entries.{stmtAt}
+use Rattle.machine.specs.Space.{ownWords}
 use Rattle.machine.specs.Step.{done, step}
 use Rattle.machine.specs.Run.{begin}
 use Rattle.machine.specs.Rule.{mayWait, rule}
@@ -36,3 +38,6 @@ pub record StateRule (T : Table) : Type 0 where
   pub apart : (m : Memory) → rule T m ≡ true → (p q : ℕ) → NotWaiting T m p → NotWaiting T m q → m (worksAt p) ≡ m (worksAt q) → p ≡ q
   -- a process that works on its own variables is in calls of its own module's procedures only
   pub own : (m : Memory) → rule T m ≡ true → (p : ℕ) → m (worksAt p) ≡ p → (d f : ℕ) → Call T m p d f → owner T (calledBlock m p f) ≡ m (moduleAt p)
+  -- of a started one, all calls are its own: its first free word tells what they take (13; 02, i)
+  pub frames : (m : Memory) → rule T m ≡ true → (p : ℕ) → Created m p → m (statusAt p) ≡ 2 → m (worksAt p) ≡ p
+      → m (topAt p) ≡ moduleWords T (m (moduleAt p)) + ownWords T m p (m (depthAt p)) (m (frameAt p))

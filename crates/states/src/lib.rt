@@ -256,7 +256,7 @@ pub fn begin(table: &[u8], state: &mut [u8], number: u32) -> u32
     ensures { λ r. ⌜ begun r (now (state .exit)) ≡ beginCall verdict 1 (now (table .entry)) (now (state .entry)) number ⌝ }
 {
     if is_beginnable(state.len(), number) {
-        let mut c = [0u16; 8256];
+        let mut c = [0u16; 8264];
         let j = verdict::check_into(table, &mut c);
         let v = j.verdict;
         if v == 0 {

@@ -2,11 +2,9 @@
 use code::kinds;
 ghost use mathlib.Core.Path.{_≡_};
 ghost use Prim.Native.Nat.{_+_, _-_, _≤_, _<_};
-ghost use lib.Dec.{eqb};
 ghost use Rattle.basics.specs.Course.{upto};
 ghost use Rattle.basics.specs.Holds.{Holds};
 ghost use Rattle.code.specs.Code.{decoded};
-ghost use Rattle.table.specs.Entries.{nodeKind};
 ghost use Rattle.table.specs.Reading.{Field};
 ghost use Rattle.types.specs.Types.{fieldOf, elementOf, unaryType, binaryType, operandType, nodeType, typeOf, noType, numbered, evened, typeOfNode};
 ghost use Rattle.types.specs.Kept.{Room, Types};
@@ -152,7 +150,8 @@ pub fn type_of(c: &code::Slots, types: &[u16], n: usize) -> usize
     65535
 }
 
-fn offset_of(v: usize) -> usize
+// 32,768 more than the integer that a word stands for.
+pub fn offset_of(v: usize) -> usize
     requires { ⌜ v < 65536 ⌝ }
     ensures { λ r. ⌜ Field (offset v) r ⌝ }
 {
@@ -191,13 +190,6 @@ pub fn is_string(c: &code::Slots, x: usize) -> bool
     false
 }
 
-// Node n is a string constant.
-fn is_constant(c: &code::Slots, n: usize) -> bool
-    ensures { λ r. ⌜ r ≡ eqb (nodeKind (decoded (now (c .entry))) n) 8 ⌝ }
-{
-    code::node_kind(c, n) == kinds::STRING
-}
-
 // An odd string gains character 0.
 pub fn evened_of(n: usize) -> usize
     requires { ⌜ n < 65536 ⌝ }
@@ -211,7 +203,7 @@ fn is_text(c: &code::Slots, types: &[u16], n: usize) -> bool
     requires { ⌜ Types (decoded (now c)) (now types) ⌝ }
     ensures { λ r. ⌜ r ≡ isText (decoded (now (c .entry))) (typeOfNode (decoded (now (c .entry))) n) ⌝ }
 {
-    if is_constant(c, n) {
+    if code::is_string(c, n) {
         return true;
     }
     is_string(c, type_of(c, types, n))
@@ -222,7 +214,7 @@ fn characters_of(c: &code::Slots, types: &[u16], n: usize) -> usize
     requires { ⌜ Types (decoded (now c)) (now types) ⌝ }
     ensures { λ r. ⌜ r ≡ characters (decoded (now (c .entry))) (typeOfNode (decoded (now (c .entry))) n) ⌝ }
 {
-    if is_constant(c, n) {
+    if code::is_string(c, n) {
         return evened_of(code::node_q(c, n));
     }
     elements_of(c, type_of(c, types, n))
@@ -233,7 +225,7 @@ fn is_numbered(c: &code::Slots, types: &[u16], n: usize, y: usize) -> bool
     requires { ⌜ Types (decoded (now c)) (now types) ⌝ }
     ensures { λ r. ⌜ r ≡ sameNumber (typeOfNode (decoded (now (c .entry))) n) (numbered y) ⌝ }
 {
-    if is_constant(c, n) {
+    if code::is_string(c, n) {
         return false;
     }
     type_of(c, types, n) == y
@@ -244,7 +236,7 @@ fn same_number(c: &code::Slots, types: &[u16], p: usize, q: usize) -> bool
     requires { ⌜ Types (decoded (now c)) (now types) ⌝ }
     ensures { λ r. ⌜ r ≡ sameNumber (typeOfNode (decoded (now (c .entry))) p) (typeOfNode (decoded (now (c .entry))) q) ⌝ }
 {
-    if is_constant(c, q) {
+    if code::is_string(c, q) {
         return false;
     }
     is_numbered(c, types, p, type_of(c, types, q))

@@ -12,6 +12,6 @@ rowsBelow w = pick (eqb w 1) 256 4096
 abbrev pub typesBelow : ℕ → ℕ
 typesBelow w = 2 + rowsBelow w
 
--- words of the slots: 32 for each of these
+-- words of the slots: 32 for each of these, then the counts of the eight sections
 abbrev pub slotWords : ℕ → ℕ
-slotWords w = typesBelow w * 32
+slotWords w = typesBelow w * 32 + 8

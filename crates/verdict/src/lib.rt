@@ -193,7 +193,7 @@ pub fn check_into(t: &[u8], c: &mut code::Slots) -> Judgement
 pub fn check(t: &[u8]) -> u32
     ensures { λ r. ⌜ r ≡ verdict 1 (now (t .entry)) ⌝ }
 {
-    let mut c = [0u16; 8256];
+    let mut c = [0u16; 8264];
     let j = check_into(t, &mut c);
     j.verdict
 }

@@ -1,8 +1,7 @@
 use native.Mathlib.Omega.{arith}
 use Prim.Native.Nat.{_-_}
 use borrow.Author.Needs.{needs}
-use Rattle.code.specs.Code.{decoded}
-use Rattle.calls.proofs.Fitting.{textWord}
+use Rattle.code.specs.Code.{decoded, textWord}
 use Rattle.calls.proofs.Putting.{Putting, fills}
 use Rattle.calls.proofs.arguments.put_text.Statement.{statement}
 use Rattle.calls.proofs.arguments.put_text.Tie as tie

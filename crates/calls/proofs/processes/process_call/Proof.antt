@@ -1,4 +1,4 @@
-use Rattle.calls.proofs.Entering.{stand-lent}
+use Rattle.transfers.proofs.Steps.{stands-lent}
 use Rattle.calls.proofs.Serving.{process-referring, process-serving, process-fails}
 use borrow.Author.Needs.{needs}
 use Rattle.calls.proofs.processes.process_call.Statement.{statement}
@@ -11,7 +11,7 @@ process-call-spec =
     (λ c κs. search needs)
     (λ c κs. (search needs, search process-referring))
     (λ c. search needs)
-    (λ c κs. search stand-lent)
+    (λ c κs. search stands-lent)
     (λ c. search needs)
     (λ c κs. search process-serving)
     (λ c. search needs)

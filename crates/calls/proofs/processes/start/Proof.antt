@@ -1,4 +1,4 @@
-use Rattle.calls.proofs.Entering.{stand-lent}
+use Rattle.transfers.proofs.Steps.{stands-lent}
 use Rattle.calls.proofs.Starting.{start-referring, start-starting, start-refuses}
 use borrow.Author.Needs.{needs}
 use Rattle.calls.proofs.processes.start.Statement.{statement}
@@ -11,7 +11,7 @@ start-spec =
     (λ c κs. search needs)
     (λ c κs. (search needs, search start-referring))
     (λ c. search needs)
-    (λ c κs. search stand-lent)
+    (λ c κs. search stands-lent)
     (λ c. search needs)
     (λ c κs. search start-starting)
     (λ c. search needs)

@@ -16,7 +16,7 @@ abbrev μ-loop : tie.MeasureT-loop
 μ-loop c n j₀ i₀ j i = n - i
 
 pub characters-taken-spec : {M : Type 1} → statement M
-unfolding taken charactersTaken
+unfolding taken charactersTaken isStringNode
 characters-taken-spec =
     tie.close
     (tie.spec
