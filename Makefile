@@ -36,9 +36,9 @@ FORCE:
 
 TOOL = tools/joyce.c tools/tool.c tools/check.c tools/run.c tools/look.c tools/explain.c tools/explain_form.c tools/explain_numbers.c \
 	tools/explain_types.c tools/show.c tools/view.c tools/text.c tools/table.c tools/labels.c tools/names.c tools/picture.c tools/symbols.c \
-	tools/scan.c tools/unset.c
+	tools/scan.c tools/unset.c tools/room.c
 TOOL_HEADERS = tools/tool.h tools/check.h tools/explain.h tools/judge.h tools/show.h tools/view.h tools/text.h tools/table.h tools/labels.h tools/names.h \
-	tools/picture.h tools/scan.h tools/unset.h
+	tools/picture.h tools/scan.h tools/unset.h tools/room.h
 
 target/joyce: $(LIBRARY) $(TOOL) $(TOOL_HEADERS) include/joyce.h
 	$(C99) $(TOOL) $(LIBRARY) $(LDFLAGS) -o $@
@@ -48,6 +48,9 @@ target/film: $(LIBRARY) examples/film.c examples/board.c examples/board.h exampl
 
 target/rewind: $(LIBRARY) examples/rewind.c examples/board.c examples/board.h examples/builder.c examples/builder.h include/joyce.h
 	$(C99) examples/rewind.c examples/board.c examples/builder.c $(LIBRARY) $(LDFLAGS) -o $@
+
+target/paint: $(LIBRARY) examples/paint.c examples/builder.c examples/builder.h include/joyce.h
+	$(C99) examples/paint.c examples/builder.c $(LIBRARY) $(LDFLAGS) -o $@
 
 example: target/film
 	target/film
@@ -80,7 +83,7 @@ fuzz: $(LIBRARY) $(FUZZ) fuzz/short.c $(FUZZ_SYMBOLS) fuzz/texts.c include/joyce
 	target/inputs-symbols tests/symbols/symbols.bin 1000 target/texts
 
 clean:
-	rm -f target/joyce target/film target/rewind target/fuzz target/inputs target/fuzz-symbols target/inputs-symbols
+	rm -f target/joyce target/film target/rewind target/paint target/fuzz target/inputs target/fuzz-symbols target/inputs-symbols
 	rm -rf target/corpus target/texts target/install
 
 .PHONY: all example install uninstall test fuzz clean FORCE

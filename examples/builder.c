@@ -9,7 +9,7 @@ enum { PROGRAM, MODULE, PROCEDURE };
 enum { LOCAL, VALUE_PARAMETER, VAR_PARAMETER };
 enum { CONSTANT, WHOLE, FIELD, ELEMENT, VALUE, UNARY, BINARY, TRANSFER, STRING };
 enum { SKIP, ASSIGN, CALL, PROCESS_CALL, CREATE, START, IF, WHILE, WHEN, CYCLE, ARM, END, WRITE, BLOCK_END };
-enum { NONE = -1, DECLARED = 3, WORD_MIN = -32768, WORD_MAX = 32767, CHARACTER_MAX = 127, BYTE_MAX = 255 };
+enum { NONE = -1, DECLARED = 3, WORD_MIN = -32768, WORD_MAX = 32767, CHARACTER_MAX = 127, BYTE_MAX = 255, SPACE_MAX = 510 };
 
 /* ---- mistakes */
 
@@ -211,6 +211,19 @@ int add_procedure(struct builder *b, int owner)
         return NONE;
     }
     return add_block(b, PROCEDURE, owner);
+}
+
+void set_space(struct builder *b, int block, int space)
+{
+    enter(b, "set_space");
+    if (!is_block(b, block) || !is_between(b, space, 0, SPACE_MAX, "a space is 0..510 bytes, not %d"))
+        return;
+    if (b->block_kinds[block] == PROCEDURE)
+        blame(b, "block %d is a procedure; the program or module that owns it has the space", block);
+    else if (space % 2 != 0)
+        blame(b, "a space is even, and %d is odd: a word has two bytes", space);
+    else
+        b->block_spaces[block] = space;
 }
 
 static bool has_locals(const struct builder *b, int block)
@@ -720,7 +733,7 @@ static void write_blocks(const struct builder *b, struct output *out)
         put_byte(out, parameters);
         put_byte(out, variables);
         put_byte(out, first_statement);
-        put_word(out, 0);
+        put_word(out, b->block_spaces[block]);
         first_variable += variables;
         for (int i = 0; i < b->statement_count; i++)
             first_statement += b->statements[i].block == block;
@@ -792,7 +805,7 @@ static void write_characters(const struct builder *b, const struct order *o, str
     }
 }
 
-static bool has_space(struct builder *b, size_t room)
+static bool has_bytes(struct builder *b, size_t room)
 {
     int length = 7 + 7 * b->type_count + b->field_count + 2 * b->variable_count + 8 * b->block_count + b->argument_count + 5 * b->node_count +
                  6 * b->statement_count + (b->character_count > 0) + b->character_count;
@@ -804,7 +817,7 @@ size_t finish_table(struct builder *b, uint8_t *bytes, size_t room)
     struct order order;
     struct output out = {bytes, 0};
     enter(b, "finish_table");
-    if (b->mistake[0] || !are_types_finished(b) || !are_bodies_finished(b) || !are_calls_finished(b) || !are_nodes_used(b) || !has_space(b, room))
+    if (b->mistake[0] || !are_types_finished(b) || !are_bodies_finished(b) || !are_calls_finished(b) || !are_nodes_used(b) || !has_bytes(b, room))
         return 0;
     number_all(b, &order);
     write_types(b, &out);

@@ -47,7 +47,7 @@ struct builder {
     int types[ENTRIES][5], type_calls[ENTRIES], fields[ENTRIES], arguments[ENTRIES];
     char characters[ENTRIES];                       /* of the string constants, in the order of the calls */
     int modes[ENTRIES], variable_types[ENTRIES], variable_blocks[ENTRIES];
-    int block_kinds[ENTRIES], block_owners[ENTRIES];
+    int block_kinds[ENTRIES], block_owners[ENTRIES], block_spaces[ENTRIES];
     bool has_body[ENTRIES];
     struct node nodes[ENTRIES];
     struct statement statements[ENTRIES];
@@ -79,6 +79,10 @@ int process_type(struct builder *b, int module);    /* the module may be added l
 int add_program(struct builder *b);
 int add_module(struct builder *b);
 int add_procedure(struct builder *b, int owner);
+
+/* What the program or a module reserves for calls of its recursive procedures, beyond one call of each of its procedures: bytes, even, 0..510. Where
+ * it is not said it is 0, which is right where no procedure calls itself. */
+void set_space(struct builder *b, int block, int space);
 
 /* variables of a block, its parameters first */
 int add_value_parameter(struct builder *b, int block, int type);

@@ -6,9 +6,11 @@
  * What must hold of any input: nothing crashes or is touched beside a slice; a refusal changes no lent byte; begin, run and look give a table the
  * verdict of check; begin refuses other numbers than 0 and 1; each answer is one of joyce.h, and after a failure all are the same; no step answers
  * 31 and no look 32 where the run began with 1 and nothing is damaged; a state after a run is a state of its program; a run cut into single steps is
- * the same run. With -DPLAIN, also: the plain interpreter of bench/ leaves the same.
+ * the same run; with every space the largest a run answers the same up to its first 22. With -DPLAIN, also: the plain interpreter of bench/ leaves
+ * the same.
  *
- * With -DCOUNT it says at its end what the inputs were: their verdicts, and how many made an accepted program step. */
+ * With -DCOUNT it says at its end what the inputs were: their verdicts, how many made an accepted program step, and how many ended with 22, by
+ * which limit. */
 #include "joyce.h"
 #ifdef PLAIN
 #include "plain.h"
@@ -134,7 +136,7 @@ static uint32_t run(const struct input *in, struct lent *l, size_t first, size_t
 
 #ifdef COUNT
 static struct {
-    unsigned long inputs, verdicts[JOYCE_TYPES + 1], accepted_long, stepped, stepped_strings;
+    unsigned long inputs, verdicts[JOYCE_TYPES + 1], accepted_long, stepped, stepped_strings, by_reserve, by_area;
     bool has_stepped; /* the input at hand */
 } seen;
 
@@ -145,8 +147,9 @@ static double share(unsigned long part)
 
 static void tell(void)
 {
-    fprintf(stderr, "%lu inputs, %.1f %% step an accepted program, %.1f %% one with string constants; accepted and longer than 100 bytes: %.1f %%; "
-                    "verdicts", seen.inputs, share(seen.stepped), share(seen.stepped_strings), share(seen.accepted_long));
+    fprintf(stderr, "%lu inputs, %.1f %% step an accepted program, %.1f %% one with string constants, %.1f %% pass a reserve, %.1f %% pass an area; "
+                    "accepted and longer than 100 bytes: %.1f %%; verdicts", seen.inputs, share(seen.stepped), share(seen.stepped_strings),
+            share(seen.by_reserve), share(seen.by_area), share(seen.accepted_long));
     for (int i = 0; i <= JOYCE_TYPES; i++)
         if (i != JOYCE_LENGTH)
             fprintf(stderr, " %d: %.1f %%", i, share(seen.verdicts[i]));
@@ -182,11 +185,56 @@ static void count(const struct input *in, uint32_t verdict)
     seen.stepped_strings += seen.has_stepped && has_strings(in);
     seen.has_stepped = false;
 }
+static void count_room(bool is_reserve)
+{
+    seen.by_reserve += is_reserve;
+    seen.by_area += !is_reserve;
+}
 #else
 #define count_input() ((void)0)
+#define count_room(is_reserve) ((void)(is_reserve))
 #define count_steps(answers, turns) ((void)(answers), (void)(turns))
 #define count(in, verdict) ((void)0)
 #endif
+
+/* ---- reserves */
+
+enum { FAILURE_BYTE = 2 * (16384 + 9), SPACE = 6 };
+
+/* The accepted table with every space the largest, with which the area decides alone. */
+static uint8_t *widened(const struct input *in)
+{
+    static const size_t sizes[] = {7, 1, 2};
+    uint8_t *table = filled(in->table_len, 0);
+    size_t at = 0;
+    memcpy(table, in->table, in->table_len);
+    for (int i = 0; in->table_len > 0 && i < 3; i++)
+        at += 1 + table[at] * sizes[i];
+    for (int i = in->table_len > 0 ? table[at++] : 0; i > 0; i--, at += 8)
+        if (table[at] != JOYCE_BLOCK_PROCEDURE) {
+            table[at + SPACE] = JOYCE_SPACE_MAX % 256;
+            table[at + SPACE + 1] = JOYCE_SPACE_MAX / 256;
+        }
+    return table;
+}
+
+/* A run that ended with 22, again with wide spaces: up to there it is the same, and there the call has room, or its area is full. */
+static void check_room(const struct input *in, const struct lent *before, const uint8_t *answers)
+{
+    const uint8_t *failed = memchr(answers, JOYCE_AREA, in->turns);
+    size_t steps = failed ? (size_t)(failed - answers) + 1 : 0;
+    uint8_t wide[SCHEDULE_MAX];
+    if (!failed || before->state[FAILURE_BYTE] != 0)
+        return;
+    struct lent again = copy_of(before);
+    uint8_t *table = widened(in);
+    uint32_t result = joyce_run(table, in->table_len, again.state, again.state_len, again.page, again.page_len, in->schedule, steps, wide, steps);
+    expect(result == JOYCE_OK && memcmp(wide, answers, steps - 1) == 0, "a wider space changes answers before the first 22");
+    expect(wide[steps - 1] == JOYCE_DONE || wide[steps - 1] == JOYCE_AREA, "a wider space makes another answer of a 22");
+    count_room(wide[steps - 1] == JOYCE_DONE);
+    release(&again);
+    free(table);
+}
 
 /* ---- begin */
 
@@ -213,10 +261,13 @@ static void warm_up(const struct input *in, struct lent *l)
     uint8_t answers[SCHEDULE_MAX];
     if (l->state_len != JOYCE_STATE_SIZE || l->page_len != JOYCE_PAGE_SIZE)
         return;
+    struct lent before = copy_of(l);
     uint32_t result = joyce_run(in->table, in->table_len, l->state, l->state_len, l->page, l->page_len, in->schedule, in->turns, answers,
                                 in->turns);
     expect(result == JOYCE_OK, "a run from the beginning is refused");
     count_steps(answers, in->turns);
+    check_room(in, &before, answers);
+    release(&before);
 }
 
 /* All words are marked: the run began with 1, and nothing was damaged. */
@@ -264,6 +315,7 @@ static void try_run(const struct input *in, struct lent *l, uint32_t verdict)
     if (result == JOYCE_OK) {
         check_answers(in, l);
         count_steps(l->answers, in->turns);
+        check_room(in, &before, l->answers);
         expect(run(in, l, in->turns, 0) == JOYCE_OK, "the state after a run is refused");
         if (in->flags & SINGLE_STEPS) {
             struct lent again = copy_of(&before);

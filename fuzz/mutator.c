@@ -480,9 +480,10 @@ static void change_type(struct program *p)
 
 /* ---- new entries
  *
- * A type: kind, p, q, low and high of two bytes; a variable: mode, type; a block: kind, owner, first variable, parameters, variables. */
+ * A type: kind, p, q, low and high of two bytes; a variable: mode, type; a block: kind, owner, first variable, parameters, variables, first
+ * statement, space of two bytes. */
 
-enum { OWNER = 1, FIRST, PARAMETERS, ALL };
+enum { OWNER = 1, FIRST, PARAMETERS, ALL, SPACE = 6 };
 
 static bool is_full(const struct program *p, int section)
 {
@@ -658,6 +659,46 @@ static bool add_arguments(struct program *p, struct statement *s, int caller, in
     return true;
 }
 
+/* The space of a module: mostly room for a call or two, and seldom a wrong one. */
+static void change_space(struct program *p)
+{
+    uint8_t *b = p->bytes[BLOCKS][p->bytes[BLOCKS][below((uint32_t)p->counts[BLOCKS])][OWNER]];
+    uint32_t space = one_in(4) ? JOYCE_SPACE_MAX : one_in(3) ? 2 * below(JOYCE_SPACE_MAX / 2 + 1) : 2 * below(24);
+    if (one_in(20))
+        space += one_in(2) ? 1 : JOYCE_SPACE_MAX;
+    b[SPACE] = (uint8_t)space, b[SPACE + 1] = (uint8_t)(space >> 8);
+}
+
+/* The first statement of a block, by the block ends before it. */
+static int body_of(const struct program *p, int block)
+{
+    int at = 0;
+    for (; block > 0 && at < p->statement_count; at++)
+        block -= p->statements[at].kind == JOYCE_STATEMENT_BLOCK_END;
+    return at;
+}
+
+/* A procedure is called at the beginning of its own body, or of another of its module, and mostly by its module too. */
+static void add_recursion(struct program *p)
+{
+    int called = (int)below((uint32_t)p->counts[BLOCKS]), owner, from;
+    for (int tries = 0; tries < 8 && p->bytes[BLOCKS][called][0] != JOYCE_BLOCK_PROCEDURE; tries++)
+        called = (int)below((uint32_t)p->counts[BLOCKS]);
+    owner = p->bytes[BLOCKS][called][OWNER];
+    from = one_in(3) ? (int)below((uint32_t)p->counts[BLOCKS]) : called;
+    if (p->bytes[BLOCKS][called][0] != JOYCE_BLOCK_PROCEDURE || owner >= p->counts[BLOCKS] || p->bytes[BLOCKS][from][OWNER] != owner)
+        return;
+    for (int i = 0; i < 2; i++, from = owner) {
+        struct statement s = {.kind = JOYCE_STATEMENT_CALL, .a = (uint8_t)called, .first = -1, .second = -1};
+        int at = body_of(p, from);
+        if ((i > 0 && one_in(4)) || !add_arguments(p, &s, from, called) || !open_gap(p, at, 1))
+            return;
+        p->statements[at] = s;
+    }
+    if (one_in(2))
+        change_space(p);
+}
+
 /* A statement of a kind that its variable's type suggests. */
 static void add_statement(struct program *p)
 {
@@ -702,13 +743,17 @@ static void add_statement(struct program *p)
 
 static void change_program(struct program *p)
 {
-    uint32_t what = below(22);
+    uint32_t what = below(24);
     if (p->statement_count == 0 || p->counts[BLOCKS] == 0 || p->node_count > POOL - ROOM || p->text_length > TEXT_POOL - 20 * ENTRIES)
         return;
     if (one_in(20))
         p->has_characters = !p->has_characters;
-    if (p->node_count == 0 || what >= 18)
+    if (p->node_count == 0 || (what >= 18 && what < 22))
         add_statement(p);
+    else if (what == 22)
+        change_space(p);
+    else if (what == 23)
+        add_recursion(p);
     else if (what < 5)
         change_node(p);
     else if (what < 8)

@@ -44,6 +44,7 @@
  *
  * States across versions. Within one JOYCE_VERSION_MAJOR, a state that one release left is read by all others that accept its table, and
  * means the same. A new major number may refuse it, with JOYCE_LENGTH or JOYCE_STATE, and will say so here. Keep the number with what you store.
+ * 2.2 reads the states of 2.0 and 2.1, but a run that goes on from one may fail with JOYCE_AREA where it did not: see Space, and docs/ADOPT.md.
  * Version 2 refuses the states of version 1, which had 35,328 bytes, with JOYCE_LENGTH; docs/ADOPT.md has how to carry them over.
  *
  * ---- Tables
@@ -82,9 +83,9 @@ extern "C" {
 /* The version of this interface. The first number changes where a host must be changed, the second where something is added. There is no
  * function for it: the archive exports the five proved calls and nothing else, and is linked statically with the header that it came with. */
 #define JOYCE_VERSION_MAJOR 2
-#define JOYCE_VERSION_MINOR 1
+#define JOYCE_VERSION_MINOR 2
 #define JOYCE_VERSION_PATCH 0
-#define JOYCE_VERSION "2.1.0"
+#define JOYCE_VERSION "2.2.0"
 
 /* Sizes, in bytes. */
 #define JOYCE_STATE_SIZE 37376 /* a state: 64 areas of 512 bytes, 64 control records of 40, then a mark for each word of the areas */
@@ -99,6 +100,7 @@ extern "C" {
 #define JOYCE_AREA_WORDS 256      /* words of a process: the variables of its module, then its calls */
 #define JOYCE_TYPE_WORDS_MAX 200  /* words of one type */
 #define JOYCE_CALL_WORDS 4        /* words that a call takes of its caller's area, besides its variables */
+#define JOYCE_SPACE_MAX 510       /* bytes of a module's space */
 #define JOYCE_INTEGER_MIN (-32768)
 #define JOYCE_INTEGER_MAX 32767
 #define JOYCE_CHARACTER_MAX 127
@@ -130,12 +132,21 @@ enum joyce_mode {
     JOYCE_MODE_VAR = 2    /* var parameter: another name of the variable that is its argument */
 };
 
-/* The kind of a block. */
+/* The kind of a block. The program and each module have a space, even, 0..JOYCE_SPACE_MAX; that of a procedure is 0. */
 enum joyce_block {
     JOYCE_BLOCK_PROGRAM = 0,  /* block 0 and no other; owns itself */
     JOYCE_BLOCK_MODULE = 1,   /* what a process carries out; owns itself */
     JOYCE_BLOCK_PROCEDURE = 2 /* owner: the program or a module */
 };
+
+/* ---- Space
+ *
+ * A module, and the program for process 1, reserves room for calls of its own procedures: one call of each, JOYCE_CALL_WORDS and the words of its
+ * variables, a var parameter counted as one, and for recursion a word for every two bytes of its space. While a process works on its own variables,
+ * a local call fails with JOYCE_AREA where its calls that have not ended and the new one take more words than the reserve, or, with its module's
+ * variables, more than JOYCE_AREA_WORDS. Process calls, and local calls inside them, count against JOYCE_AREA_WORDS alone. So a space of 0 is right
+ * where no procedure calls itself, directly or through others; for a procedure of w words that is n deep 2 * w * (n - 1) bytes are enough, and the
+ * sum of these where several are; and with JOYCE_SPACE_MAX the area decides alone. */
 
 /* The kind of a node. */
 enum joyce_node {
@@ -290,7 +301,7 @@ enum joyce_answer {
     JOYCE_TWICE = 20,
     /* a device address is odd, or outside -8,192..-2 */
     JOYCE_ADDRESS = 21,
-    /* the call does not fit what is left of the process's area */
+    /* the call does not fit what is left of the process's area, or of what its module reserves for calls of its own procedures: see Space */
     JOYCE_AREA = 22,
     /* a transferred word is no value of the type */
     JOYCE_TRANSFER = 23,

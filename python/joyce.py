@@ -8,7 +8,7 @@
     joyce.split(b"x := 1")                  # the symbols of a text; joyce.Refused where the call refuses
 
 The calls themselves are check, begin, run, look and symbols below; they return the numbers of joyce.h. pack makes a table of lists of entries, and
-unpack lists of a table. The enums have the names and numbers of joyce.h.
+unpack lists of a table; reserve says how many words a module reserves for calls. The enums have the names and numbers of joyce.h.
 
 The archive is linked into a shared object _joyce.so the first time, by $CC or gcc, beside it or, where that cannot be written, in a folder of its own
 that goes when Python ends. $JOYCE_LIBRARY names the archive or a shared object; else it is target/staticlib/libjoyce.a of the repository, or
@@ -27,6 +27,7 @@ import tempfile
 STATE_SIZE, PAGE_SIZE, TABLE_MAX = 37376, 8192, 7913
 TEXT_MAX, SYMBOL_SIZE = 65535, 7
 ADDRESS_MIN, ADDRESS_MAX = -8192, -2
+AREA_WORDS, CALL_WORDS, SPACE_MAX = 256, 4, 510
 WORD, SYMBOLS, FAILURE = 65536, 65536, 16
 
 Standard = enum.IntEnum("Standard", "INTEGER BOOLEAN CHARACTER DECLARED", start=0)
@@ -109,6 +110,29 @@ def integer(word):
     """The integer that a word stands for."""
     word &= 0xFFFF
     return word - 0x10000 if word & 0x8000 else word
+
+
+def _type_words(sections):
+    """The words of each type, by its number."""
+    words = [1] * Standard.DECLARED
+    for kind, p, q, low, high in sections["types"]:
+        if kind == Type.RECORD:
+            words.append(sum(words[part] for part, in sections["fields"][p:p + q]))
+        else:
+            words.append((integer(high) - integer(low) + 1) * words[q] if kind == Type.ARRAY else 1)
+    return words
+
+
+def reserve(table, module=0):
+    """The words that a module of an accepted table, or its program, block 0, reserves for calls of its own procedures: one call of each, and half its
+    space. While a process works on its own variables, a local call answers Answer.AREA where its calls would take more words than that, or with its
+    module's variables more than AREA_WORDS; other calls count against AREA_WORDS alone."""
+    sections = unpack(table)
+    types, words = _type_words(sections), sections["blocks"][module][6] // 2
+    for kind, owner, first, _, variables, _, _ in sections["blocks"]:
+        if kind == Block.PROCEDURE and owner == module:
+            words += CALL_WORDS + sum(1 if mode == Mode.VAR else types[of] for mode, of in sections["variables"][first:first + variables])
+    return words
 
 
 # ---- the library

@@ -34,7 +34,7 @@ static const char usage[] =
     "  --save-state FILE    keeps the state afterwards\n"
     "  --save-page FILE     keeps the device page afterwards\n"
     "exit status: 0 done, 1 refused by the library, 2 a file or the command line, 3 the run failed, 4 the tool's explanation of a\n"
-    "table, a text or an answer 31 is not the library's\n";
+    "table, a text or an answer 22 or 31 is not the library's\n";
 
 void print_usage(void)
 {

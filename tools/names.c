@@ -37,7 +37,7 @@ const char *answer_words(unsigned answer)
     case JOYCE_EMPTY: return "failed: call or start through an empty reference";
     case JOYCE_TWICE: return "failed: started twice";
     case JOYCE_ADDRESS: return "failed: device address odd, or outside -8192..-2";
-    case JOYCE_AREA: return "failed: process area full";
+    case JOYCE_AREA: return "failed: no room for the call in the process's reserve or area";
     case JOYCE_TRANSFER: return "failed: transferred word is no value of the type";
     case JOYCE_PROCESSES: return "failed: create while 64 processes exist";
     case JOYCE_UNSET: return "failed: a variable is retrieved that has not been given a value";

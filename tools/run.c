@@ -4,6 +4,7 @@
 #include "joyce.h"
 #include "names.h"
 #include "picture.h"
+#include "room.h"
 #include "unset.h"
 #include "view.h"
 
@@ -76,7 +77,7 @@ struct run {
     unsigned failed_before;          /* the number by which the run had failed before, or 0 */
     uint64_t failed_at;
     unsigned failed_process, failure;
-    char *unset;                     /* where it failed with 31: what has no value; null where the tool does not find it */
+    char *why;                       /* where it failed with 22 or 31: which limit, what has no value; null where the tool does not find it */
     bool is_broken_off;              /* at the breakpoint */
     struct picture *picture;
     struct view view;
@@ -184,8 +185,14 @@ static void trace_before(struct run *r, unsigned process)
     write_statement(&r->view.text, (int)record.statement);
 }
 
-/* What was retrieved unset, in words. A step that fails changes nothing, so that the state is still the one before it. */
-static char *unset_words(struct run *r, unsigned process)
+/* Of which failures the tool says more than the library does. */
+static bool is_explained(unsigned answer)
+{
+    return answer == JOYCE_AREA || answer == JOYCE_UNSET;
+}
+
+/* Which limit was passed, or what was retrieved unset. A step that fails changes nothing, so that the state is still the one before it. */
+static char *why_words(struct run *r, unsigned process, unsigned answer)
 {
     char *words = NULL;
     size_t length;
@@ -193,7 +200,7 @@ static char *unset_words(struct run *r, unsigned process)
     if (!out)
         stop("no memory");
     r->view.text.out = out;
-    bool is_found = write_unset(&r->view, r->page, process);
+    bool is_found = answer == JOYCE_AREA ? write_room(&r->view, process) : write_unset(&r->view, r->page, process);
     r->view.text.out = stdout;
     fclose(out);
     if (is_found)
@@ -207,9 +214,9 @@ static void note_failure(struct run *r, unsigned process, unsigned answer)
     r->failed_at = r->done;
     r->failed_process = process;
     r->failure = answer;
-    r->unset = answer == JOYCE_UNSET ? unset_words(r, process) : NULL;
+    r->why = is_explained(answer) ? why_words(r, process, answer) : NULL;
     if (r->picture && is_in_range(r, r->done))
-        picture_failure(r->picture, process, answer, r->unset);
+        picture_failure(r->picture, process, answer, r->why);
 }
 
 static void note_step(struct run *r, unsigned process, unsigned answer)
@@ -337,8 +344,8 @@ static void print_ending(struct run *r)
     if (r->failed_at) {
         printf("the run failed at step %llu, process %u: %u, %s\n", (unsigned long long)r->failed_at, r->failed_process, r->failure,
                answer_words(r->failure));
-        if (r->unset)
-            printf("  %s\n", r->unset);
+        if (r->why)
+            printf("  %s\n", r->why);
         print_process(&r->view, r->failed_process);
     }
     if (r->is_broken_off) {
@@ -385,12 +392,13 @@ int run_command(int count, char **words)
         print_ending(&r);
         save(&r);
         status = r.failed_at || r.failed_before ? FAILED : DONE;
-        if (r.failed_at && r.failure == JOYCE_UNSET && !r.unset) {
-            complain("the library says 31, and the tool finds no word there without a value: one of them is wrong. Please report it, with the files.");
+        if (r.failed_at && is_explained(r.failure) && !r.why) {
+            complain("the library says %u, and the tool finds %s: one of them is wrong. Please report it, with the files.", r.failure,
+                     r.failure == JOYCE_AREA ? "room there for a call, or no call" : "no word there without a value");
             status = CONTRADICTED;
         }
     }
-    free(r.unset);
+    free(r.why);
     picture_free(r.picture);
     close_program(&r.p);
     free(r.schedule.at);

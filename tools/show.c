@@ -34,7 +34,8 @@ static void show_heading(const struct text *x, int block)
     if (kind == PROCEDURE) {
         fputs(" of ", x->out);
         write_block_name(x, at(x, BLOCKS, block, B_OWNER));
-    }
+    } else if (at(x, BLOCKS, block, B_SPACE) > 0)
+        fprintf(x->out, ", space %d", at(x, BLOCKS, block, B_SPACE));
     show_number(x, BLOCK_LABEL, "b", block);
     fputc('\n', x->out);
 }

@@ -80,6 +80,12 @@ static void owner_procedure(void) { add_procedure(&b, procedure); }
 static void second_program(void) { add_program(&b); }
 static void late_parameter(void) { add_value_parameter(&b, program, INTEGER); }
 
+static void space_of_no_block(void) { set_space(&b, 300, 2); }
+static void space_of_procedure(void) { set_space(&b, procedure, 2); }
+static void odd_space(void) { set_space(&b, program, 7); }
+static void large_space(void) { set_space(&b, program, 512); }
+static void negative_space(void) { set_space(&b, program, -2); }
+
 static void parameter_after_local(void)
 {
     add_local(&b, procedure, INTEGER);
@@ -203,6 +209,11 @@ static const struct test tests[] = {
     {"owner_procedure", owner_procedure, "call 11, add_procedure: block 1 is a procedure, and owns none"},
     {"second_program", second_program, "call 11, add_program: there are 2 blocks already, and the program is the first"},
     {"program_parameter", late_parameter, "call 11, add_value_parameter: the program has no parameters"},
+    {"space_of_no_block", space_of_no_block, "call 11, set_space: there is no block 300"},
+    {"space_of_procedure", space_of_procedure, "call 11, set_space: block 1 is a procedure; the program or module that owns it has the space"},
+    {"odd_space", odd_space, "call 11, set_space: a space is even, and 7 is odd: a word has two bytes"},
+    {"large_space", large_space, "call 11, set_space: a space is 0..510 bytes, not 512"},
+    {"negative_space", negative_space, "call 11, set_space: a space is 0..510 bytes, not -2"},
     {"parameter_after_local", parameter_after_local, "call 12, add_value_parameter: block 1 has a local already, and parameters come first"},
     {"no_module", no_module, "call 11, process_type: block 1 is no module"},
     {"two_process_types", two_process_types, "call 13, process_type: block 2 has a process type already"},
@@ -254,6 +265,7 @@ static void call_all(int x, int y)
     add_program(&b);
     add_module(&b);
     add_procedure(&b, x);
+    set_space(&b, x, y);
     add_value_parameter(&b, x, y);
     add_var_parameter(&b, x, y);
     add_local(&b, x, y);
@@ -344,6 +356,29 @@ static void test_texts(void)
     failures += !is_right;
 }
 
+/* The space of the program and of a module are in the table; the last one said counts, and 0 where none is. */
+static void test_spaces(void)
+{
+    prepare();
+    end_body(&b);
+    int module = add_module(&b), other = add_module(&b);
+    for (int i = module; i <= other; i++) {
+        begin_body(&b, i);
+        put_skip(&b);
+        end_body(&b);
+    }
+    set_space(&b, module, 4);
+    set_space(&b, module, 510);
+    set_space(&b, program, 258);
+    size_t length = finish_table(&b, bytes, sizeof bytes), blocks = 1 + 1 + 7 + 1; /* no types, no fields, three variables, the count */
+    bool is_right = length > 0 && joyce_check(bytes, length) == JOYCE_ACCEPTED;
+    static const int wanted[] = {258, 0, 510, 0};
+    for (size_t i = 0; i < 4; i++)
+        is_right = is_right && bytes[blocks + 8 * i + 6] + 256 * bytes[blocks + 8 * i + 7] == wanted[i];
+    puts(is_right ? "ok builder/spaces" : "FAIL builder/spaces");
+    failures += !is_right;
+}
+
 int main(void)
 {
     for (size_t i = 0; i < sizeof tests / sizeof *tests; i++) {
@@ -354,5 +389,6 @@ int main(void)
     test_everything();
     test_right();
     test_texts();
+    test_spaces();
     return failures > 0;
 }

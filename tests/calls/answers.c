@@ -141,7 +141,8 @@ static bool transferred(void)
     return ANSWERS_ARE(JOYCE_DONE, JOYCE_TRANSFER);
 }
 
-/* A procedure that calls itself: each call takes four words and one, of the 255 that the program's variable leaves. */
+/* A procedure that calls itself: each call takes four words and one, of the 255 that the program's variable leaves. With the largest space the area is
+ * the only limit. */
 static bool area_full(void)
 {
     static const uint8_t done[64] = {JOYCE_DONE};
@@ -149,6 +150,7 @@ static bool area_full(void)
     begin_small();
     int again = add_procedure(&b, 0);
     add_local(&b, again, INTEGER);
+    set_space(&b, 0, JOYCE_SPACE_MAX);
     put_call(&b, again, 0);
     end_body(&b);
     begin_body(&b, again);

@@ -24,6 +24,7 @@ int main(int argc, char **argv)
     forged_tests();
     unset_tests();
     string_tests();
+    space_tests();
     story_tests();
     return failures > 0;
 }

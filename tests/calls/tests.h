@@ -10,6 +10,7 @@ void state_tests(void);   /* states.c: states that are stale or damaged, looks, 
 void forged_tests(void);  /* forged.c: states that no run reaches, each with one fact of the rule broken */
 void unset_tests(void);   /* unset.c: variables that begin unset, or as zeros */
 void string_tests(void);  /* strings.c: string constants, fitted arguments, both lengths of table */
+void space_tests(void);   /* spaces.c: reserves of modules for recursive procedures */
 void story_tests(void);   /* stories.c: the three tests that a user asked for */
 
 #endif

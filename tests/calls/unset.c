@@ -373,6 +373,7 @@ static bool recursion(void)
         start_table(&b);
         int m = add_local(&b, add_program(&b), INTEGER), again = add_procedure(&b, 0);
         int d = add_value_parameter(&b, again, INTEGER), l = add_local(&b, again, INTEGER);
+        set_space(&b, 0, 2 * (JOYCE_CALL_WORDS + 2) * 2); /* two calls beyond the first */
         begin_body(&b, 0);
         put_call(&b, again, 1, integer(&b, 2));
         end_body(&b);

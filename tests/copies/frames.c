@@ -71,6 +71,7 @@ static size_t build(int width, int depth, int first, int second, bool is_far, ui
     int row = array_type(&b, INTEGER, cell, 1, CELLS), module_type = process_type(&b, 1);
     int program = add_program(&b), r = add_local(&b, program, row), m = add_local(&b, program, module_type);
     int module = add_module(&b);
+    set_space(&b, program, 510); /* the area decides alone */
     int t = add_turn(is_far ? module : program, cell);
     begin_body(&b, module);
     put_skip(&b);

@@ -289,6 +289,8 @@ static void add_variables(struct program *g)
     const struct shape *s = g->shape;
     int module_type = process_type(&b, MODULE_BLOCK), server_type = process_type(&b, SERVER_BLOCK), relay_type = process_type(&b, RELAY_BLOCK);
     int program = add_program(&b), module = add_module(&b), server = add_module(&b), relay = add_module(&b);
+    set_space(&b, program, 510); /* the area decides alone */
+    set_space(&b, module, 510);
     for (int i = 0; has_roots(g, HERE) && i < s->roots; i++)
         g->roots[HERE][i] = add_local(&b, program, s->type[i]);
     g->index[HERE] = add_local(&b, program, INTEGER);

@@ -281,6 +281,15 @@ static int unknown(size_t at, int kind)
     return joyce_check(table, length) == JOYCE_KINDS;
 }
 
+/* The verdict where block 0 has that space. */
+static uint32_t space_verdict(int space)
+{
+    whole_program();
+    table[BLOCKS_AT + 6] = (uint8_t)(space % 256);
+    table[BLOCKS_AT + 7] = (uint8_t)(space / 256);
+    return joyce_check(table, length);
+}
+
 static void entries(void)
 {
     static const uint8_t turns[22] = {1, 1, 1, 1, 1, 1, 1, 2, 2, 1, 1, 1, 1, 1, 1, 1, 1, 1, 1, 1, 1, 1};
@@ -301,6 +310,7 @@ static void entries(void)
     report("character", joyce_check(table, length) == JOYCE_ACCEPTED);
     table[CHARACTERS_AT] = JOYCE_CHARACTER_MAX + 1;
     report("no_character", joyce_check(table, length) == JOYCE_TYPES);
+    report("space", space_verdict(JOYCE_SPACE_MAX) == JOYCE_ACCEPTED && space_verdict(JOYCE_SPACE_MAX + 2) == JOYCE_NUMBERS);
 }
 
 int main(void)

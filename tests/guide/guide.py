@@ -37,6 +37,16 @@ def looked(run, *place):
         return "unset" if refused.number == joyce.Result.UNSET_WORD else str(refused)
 
 
+def changed(table, section, entry, field, value):
+    """The table with another number in one field."""
+    sections = joyce.unpack(table)
+    at = int(entry) - (joyce.Standard.DECLARED if section == "types" else 0)
+    fields = list(sections[section][at])
+    fields[FIELDS[section].index(field)] = int(value)
+    sections[section][at] = tuple(fields)
+    return joyce.pack(**sections)
+
+
 def try_run(table, lines):
     """Each line in order; the first is the verdict. The run begins unset, unless a line begins it with another number."""
     run = None
@@ -46,6 +56,8 @@ def try_run(table, lines):
         if word == "verdict":
             expect(joyce.check(table), int(rest), line)
             run = joyce.Run(table)
+        elif word == "change":
+            table = changed(table, *left.split(), right)
         elif word == "begin":
             run = joyce.Run(table, number=int(rest))
         elif word == "steps":
@@ -68,12 +80,7 @@ def try_verdicts(table, lines):
     """SECTION ENTRY FIELD = NUMBER -> VERDICT, each alone."""
     for line in lines:
         section, entry, field, value, verdict = re.fullmatch(r"(\w+) (\d+) (\w+) = (-?\d+) *-> (\d+)", line).groups()
-        sections = joyce.unpack(table)
-        at = int(entry) - (joyce.Standard.DECLARED if section == "types" else 0)
-        changed = list(sections[section][at])
-        changed[FIELDS[section].index(field)] = int(value)
-        sections[section][at] = tuple(changed)
-        expect(joyce.check(joyce.pack(**sections)), int(verdict), line)
+        expect(joyce.check(changed(table, section, entry, field, value)), int(verdict), line)
 
 
 def kinds(tables):

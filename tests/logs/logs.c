@@ -1,10 +1,12 @@
 /* Replays step logs of an independent interpreter. A line 'ok NAME' or 'FAIL NAME: why' a test.
  *
- *     logs zeros RUNS [EVERY]
- *     logs numbered RUNS [EVERY]
+ *     logs [older] zeros RUNS [EVERY]
+ *     logs [older] numbered RUNS [EVERY]
  *     logs begins BEGINS
  *
- * Where EVERY is given, only every so manyth record is replayed. RUNS holds records one after the other, each a program and a run of it. Words are two bytes, low first:
+ * Where EVERY is given, only every so manyth record is replayed. The older logs are of a time when a space had no effect: they are replayed with
+ * every space made 510, with which the 256 words of an area decide alone, and then as they are, up to the first call that would pass its
+ * process's reserve. RUNS holds records one after the other, each a program and a run of it. Words are two bytes, low first:
  *
  *     word L; L bytes of table
  *     numbered: one byte, the number that the run is begun with, 0 or 1. The others are older, and begun with 1
@@ -29,7 +31,7 @@
 #include <string.h>
 
 enum { STATE = 37376, PAGE = 8192, LONGEST = 7913 }; /* the longest eight sections */
-enum { EMPTY = 19, UNSET = 31, UNSET_WORD = 32 };
+enum { EMPTY = 19, FULL = 22, UNSET = 31, UNSET_WORD = 32 };
 
 struct calls {
     const char *name;
@@ -85,6 +87,7 @@ struct record {
     size_t length, calls, looks;
     uint32_t number; /* begin's */
     const uint8_t *table;
+    const uint8_t *as_logged; /* the same; of the older logs with its own spaces */
     struct call *call;
     uint32_t (*look)[LOOK];
 };
@@ -144,11 +147,93 @@ static struct call read_call(struct reader *r)
     return c;
 }
 
-static struct record read_record(struct reader *r, bool is_numbered)
+/* ---- what a table reserves */
+
+enum { TYPES, FIELDS, VARIABLES, BLOCKS, ARGUMENTS, NODES, STATEMENTS, SECTIONS };
+enum { AREA = 256, LINKS = 4, PROCEDURE = 2, VAR_PARAMETER = 2, LOCAL_CALL = 2, SPACE = 6, WIDEST = 510 };
+
+struct sections {
+    const uint8_t *entry[SECTIONS];
+    int count[SECTIONS];
+};
+
+static const int sizes[SECTIONS] = {7, 1, 2, 8, 1, 5, 6};
+
+static const uint8_t *entry(const struct sections *t, int section, size_t i)
+{
+    return t->entry[section] + i * (size_t)sizes[section];
+}
+
+/* Of a table that is accepted; an empty slot has no blocks here. */
+static struct sections find_sections(const uint8_t *table, size_t length)
+{
+    struct sections t = {{0}, {0}};
+    for (int i = 0; length > 0 && i < SECTIONS; i++) {
+        t.count[i] = *table;
+        t.entry[i] = table + 1;
+        table += 1 + t.count[i] * sizes[i];
+    }
+    return t;
+}
+
+static int type_words(const struct sections *t, int type)
+{
+    const uint8_t *e = type < 3 ? NULL : entry(t, TYPES, (size_t)type - 3);
+    int words = 0;
+    if (!e || e[0] == 3)
+        return 1;
+    if (e[0] == 2)
+        return ((int16_t)word(e + 5) - (int16_t)word(e + 3) + 1) * type_words(t, e[2]);
+    for (int i = 0; i < e[2]; i++)
+        words += type_words(t, *entry(t, FIELDS, (size_t)e[1] + (size_t)i));
+    return words;
+}
+
+/* The words of a block's variables. */
+static int block_words(const struct sections *t, size_t block)
+{
+    const uint8_t *b = entry(t, BLOCKS, block);
+    int words = 0;
+    for (size_t i = b[2]; i < (size_t)b[2] + b[4]; i++) {
+        const uint8_t *v = entry(t, VARIABLES, i);
+        words += v[0] == VAR_PARAMETER ? 1 : type_words(t, v[1]);
+    }
+    return words;
+}
+
+/* One call of each procedure of the module, and half its space. */
+static int reserve(const struct sections *t, size_t module)
+{
+    int words = (int)word(entry(t, BLOCKS, module) + SPACE) / 2;
+    for (size_t i = 0; i < (size_t)t->count[BLOCKS]; i++) {
+        const uint8_t *b = entry(t, BLOCKS, i);
+        if (b[0] == PROCEDURE && b[1] == module)
+            words += LINKS + block_words(t, i);
+    }
+    return words;
+}
+
+static const uint8_t *widened(const uint8_t *table, size_t length)
+{
+    uint8_t *copy = room(length);
+    memcpy(copy, table, length);
+    struct sections t = find_sections(table, length);
+    for (size_t i = 0; i < (size_t)t.count[BLOCKS]; i++) {
+        const uint8_t *b = entry(&t, BLOCKS, i);
+        if (b[0] != PROCEDURE) {
+            copy[b + SPACE - table] = WIDEST % 256;
+            copy[b + SPACE + 1 - table] = WIDEST / 256;
+        }
+    }
+    return copy;
+}
+
+static struct record read_record(struct reader *r, bool is_numbered, bool is_older)
 {
     struct record d;
     d.length = take_word(r);
-    d.table = take(r, d.length);
+    d.as_logged = take(r, d.length);
+    d.table = is_older ? widened(d.as_logged, d.length) : d.as_logged;
     d.number = is_numbered ? *take(r, 1) : 1;
     d.calls = take_word(r);
     d.call = room(d.calls * sizeof *d.call);
@@ -178,6 +263,8 @@ static bool read_file(const char *name, struct reader *r)
     return is_read;
 }
 
+static bool is_older, is_whole; /* all records are replayed */
+
 static bool load(const char *name, bool is_numbered, size_t every)
 {
     struct reader r;
@@ -186,10 +273,12 @@ static bool load(const char *name, bool is_numbered, size_t every)
     for (size_t i = 0; r.at < r.end; i++) {
         if ((count & (count + 1)) == 0 && !(records = realloc(records, (2 * count + 2) * sizeof *records)))
             return false;
-        records[count] = read_record(&r, is_numbered);
+        records[count] = read_record(&r, is_numbered, is_older);
         if (i % every == 0) {
             count++;
         } else {
+            if (is_older)
+                free((void *)records[count].table);
             free(records[count].call);
             free(records[count].look);
         }
@@ -304,6 +393,78 @@ static bool agree(void)
     }
     free_run(&x);
     return is_ok;
+}
+
+/* Every record by the rule of reserves, from the state and the table before each step: a local call of a process that works on its own variables
+ * answers 22 where its frames and the new one would pass the reserve of its module. The older logs go on there, and theirs is 22 from there on. */
+struct seen {
+    size_t changed, by_reserve, by_area; /* runs that end before their log; local calls on own variables that fail by the reserve alone, by the area */
+};
+
+enum { NO_CALL = -1, FITS = 0, PASSES_RESERVE = 1, PASSES_AREA = 2 };
+
+/* The limits that a local call of the process on its own variables would pass. */
+static int limits_at(const struct sections *t, const uint8_t *state, int process)
+{
+    const uint8_t *first = state + 2 * 64 * AREA;
+    if (word(first + 18) != 0 || process < 1 || process > (int)word(first + 16)) /* it has failed, or is not created */
+        return NO_CALL;
+    const uint8_t *record = first + 40 * (process - 1), *s = t->count[BLOCKS] ? entry(t, STATEMENTS, word(record + 4)) : NULL;
+    if (!s || s[0] != LOCAL_CALL || word(record) != 2 || word(record + 10) != (size_t)process)
+        return NO_CALL;
+    size_t module = word(record + 2);
+    int top = (int)word(record + 8), own = top - block_words(t, module), new = LINKS + block_words(t, s[1]);
+    return (own + new > reserve(t, module) ? PASSES_RESERVE : 0) | (top + new > AREA ? PASSES_AREA : 0);
+}
+
+static bool reserve_step(struct run *x, const struct record *d, const struct sections *t, uint8_t process, uint8_t logged, bool *is_over,
+                         struct seen *seen)
+{
+    int limits = *is_over ? NO_CALL : limits_at(t, x->state, process);
+    uint8_t answer;
+    if (limits > FITS && limits & PASSES_RESERVE && logged == 0) {
+        *is_over = true;
+        seen->changed++;
+    }
+    uint32_t r = ours->run(d->as_logged, d->length, x->state, STATE, x->page, PAGE, &process, 1, &answer, 1);
+    if (r != 0)
+        return bad("run returns %u", r);
+    if (answer == FULL && limits == FITS)
+        return bad("a call of process %u answers 22, and passes no limit", process);
+    seen->by_reserve += answer == FULL && limits == PASSES_RESERVE;
+    seen->by_area += answer == FULL && limits == PASSES_AREA;
+    return answer == (*is_over ? FULL : logged) || bad("a step of process %u answers %u, and %u in the log", process, answer, logged);
+}
+
+static bool reserve_record(struct run *x, const struct record *d, struct seen *seen)
+{
+    struct sections t = find_sections(d->as_logged, d->length);
+    struct record own = *d;
+    bool is_over = false, is_ok;
+    own.table = d->as_logged;
+    is_ok = begin(x, &own);
+    for (size_t k = 0; is_ok && k < d->calls; k++) {
+        const struct call *c = &d->call[k];
+        put(x->page, c->poke, c->pokes);
+        for (size_t i = 0; is_ok && i < c->steps; i++)
+            is_ok = reserve_step(x, d, &t, c->schedule[i], c->answer[i], &is_over, seen);
+    }
+    return is_ok && (is_over || replay_looks(x, &own));
+}
+
+static bool reserves(struct seen *seen)
+{
+    struct run x = make_run(ours, 1);
+    bool is_ok = true;
+    for (size_t i = 0; is_ok && i < count; i++)
+        is_ok = reserve_record(&x, &records[i], seen) || in_record(i, 0);
+    free_run(&x);
+    if (!is_ok)
+        return false;
+    if (is_older)
+        return seen->changed > 0 || !is_whole || bad("no run ends before its log");
+    return (seen->changed == 0 && ((seen->by_reserve > 0 && seen->by_area > 0) || !is_whole)) ||
+           bad("%zu runs end before their logs; %zu calls fail by the reserve alone, %zu by the area", seen->changed, seen->by_reserve, seen->by_area);
 }
 
 /* A record under either number: the answers are the same up to the first 31 of the run that begins unset, and 31 from there on; up to there the
@@ -749,6 +910,9 @@ static void replay(void)
     done = 0;
     is_ok = either_number(&done);
     report("either_number", is_ok, done, "runs that fail with 31 where they begin unset");
+    struct seen seen = {0, 0, 0};
+    is_ok = reserves(&seen);
+    report("reserves", is_ok, is_older ? seen.changed : seen.by_reserve, is_older ? "runs end before their logs" : "calls fail by the reserve alone");
     report("refusals", refusals(), count, "runs");
     done = 0;
     is_ok = damaged(&done, damage);
@@ -759,14 +923,18 @@ static void replay(void)
 
 int main(int argc, char **argv)
 {
+    is_older = argc > 1 && !strcmp(argv[1], "older");
+    argc -= is_older;
+    argv += is_older;
     size_t every = argc == 4 ? strtoul(argv[3], NULL, 10) : 1;
+    is_whole = every == 1;
     bool is_numbered = argc > 1 && !strcmp(argv[1], "numbered"), is_runs = is_numbered || (argc > 1 && !strcmp(argv[1], "zeros"));
     if (argc == 3 && !strcmp(argv[1], "begins")) {
         size_t done = 0;
         bool is_ok = begins(argv[2], &done);
         report("begins", is_ok, done, "begins");
     } else if (argc < 3 || argc > 4 || every == 0 || !is_runs || !load(argv[2], is_numbered, every)) {
-        fprintf(stderr, "usage: logs zeros|numbered RUNS [EVERY] | logs begins BEGINS\n");
+        fprintf(stderr, "usage: logs [older] zeros|numbered RUNS [EVERY] | logs begins BEGINS\n");
         return 2;
     } else {
         replay();

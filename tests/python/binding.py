@@ -5,6 +5,7 @@ import os
 import pathlib
 import re
 import shutil
+import struct
 import subprocess
 import sys
 import traceback
@@ -47,7 +48,7 @@ def numbers():
             listed.pop(other)
         assert listed == {m.name: m.value for m in kind}, name
         compared += len(listed)
-    for name in ["STATE_SIZE", "PAGE_SIZE", "TABLE_MAX", "TEXT_MAX", "SYMBOL_SIZE", "FAILURE"]:
+    for name in ["STATE_SIZE", "PAGE_SIZE", "TABLE_MAX", "TEXT_MAX", "SYMBOL_SIZE", "FAILURE", "AREA_WORDS", "CALL_WORDS", "SPACE_MAX"]:
         assert int(re.search(rf"#define JOYCE_{name} (\d+)", header)[1]) == getattr(joyce, name), name
     assert compared > 60
 
@@ -99,6 +100,87 @@ def title_strings():
     run = joyce.Run(table)
     assert list(run.run([1] * 7)) == [0] * 6 + [2]
     assert bytes(run.get(address) for address in range(-8, 0, 2)) == b"Joyc"
+
+
+def recursive(space, depth):
+    """begin down(depth) end, where down(n) calls itself with n - 1 while n > 1: as many calls deep, of CALL_WORDS + 1 words each. Another procedure,
+    which is never called, has a var parameter and a local record of three words."""
+    return joyce.pack(
+        types=[(joyce.Type.RECORD, 0, 3)], fields=[0, 0, 0], variables=[joyce.Mode.VALUE, (joyce.Mode.VAR, joyce.Standard.DECLARED),
+                                                                        (joyce.Mode.LOCAL, joyce.Standard.DECLARED)],
+        blocks=[(0, 0, 0, 0, 0, 0, space), (joyce.Block.PROCEDURE, 0, 0, 1, 1, 2), (joyce.Block.PROCEDURE, 0, 1, 1, 2, 7)], arguments=[0, 8],
+        nodes=[(0, 0, 0, depth), joyce.Node.WHOLE, (joyce.Node.VALUE, 1), (0, 0, 0, 1), (joyce.Node.BINARY, 2, 3, joyce.Binary.GREATER),
+               joyce.Node.WHOLE, (joyce.Node.VALUE, 5), (0, 0, 0, 1), (joyce.Node.BINARY, 6, 7, joyce.Binary.SUBTRACT)],
+        statements=[(joyce.Statement.CALL, 1, 0, 0, 1), joyce.Statement.BLOCK_END, joyce.Statement.IF, (joyce.Statement.ARM, 4, 0, 0, 0, 5),
+                    (joyce.Statement.CALL, 1, 0, 1, 1), (joyce.Statement.END, 0, 0, 0, 0, 2), (joyce.Statement.BLOCK_END, 1), 0,
+                    (joyce.Statement.BLOCK_END, 2)])
+
+
+@test
+def spaces():
+    """A procedure is as deep as the reserve has room for it, and the area."""
+    for space in [0, 2, 4, 14, 30, 32, 40, 200, joyce.SPACE_MAX]:
+        words = joyce.reserve(recursive(space, 1))
+        assert words == 5 + 8 + space // 2
+        deepest = min(words, joyce.AREA_WORDS) // 5
+        for depth in [1, deepest, deepest + 1]:
+            answers = joyce.Run(recursive(space, depth)).run([1] * 400)
+            assert (answers[-1] == joyce.Answer.ENDED) == (depth <= deepest), (space, depth)
+            assert depth <= deepest or answers.index(joyce.Answer.AREA) == 2 * deepest
+    assert joyce.reserve(b"") == 0 and joyce.reserve(pathlib.Path("examples/board.tab").read_bytes(), 3) == 6
+    assert joyce.check(recursive(512, 1)) == joyce.check(recursive(3, 1)) == joyce.Result.NUMBERS
+
+
+class Log:
+    """The records of a step log, as tests/logs has them."""
+
+    def __init__(self, path):
+        self.bytes, self.at = pathlib.Path(path).read_bytes(), 0
+
+    def take(self, layout):
+        values = struct.unpack_from("<" + layout, self.bytes, self.at)
+        self.at += struct.calcsize("<" + layout)
+        return values
+
+    def word(self):
+        return self.take("H")[0]
+
+    def raw(self):
+        length = self.word()
+        self.at += length
+        return self.bytes[self.at - length:self.at]
+
+    def pairs(self):
+        return [self.take("HH") for _ in range(self.word())]
+
+
+def replay(log):
+    """One run of a log; its steps."""
+    run, steps = joyce.Run(log.raw(), number=log.take("B")[0]), 0
+    for _ in range(log.word()):
+        for place, value in log.pairs():
+            run.put(place - joyce.PAGE_SIZE, value)
+        page, schedule = bytearray(run.page), log.raw()
+        answers = log.take(f"{len(schedule)}s")[0]
+        assert run.run(schedule) == answers
+        for place, value in log.pairs():
+            page[place:place + 2] = struct.pack("<H", value)
+        assert run.page == page
+        steps += len(schedule)
+    for _ in range(log.word()):
+        *place, result = log.take("IIII")
+        assert joyce.look(run.table, run.state, *place) == result
+    return steps
+
+
+@test
+def outside_logs():
+    """The step logs of an independent interpreter."""
+    log, runs, steps = Log("tests/logs/space.bin"), 0, 0
+    while log.at < len(log.bytes):
+        steps += replay(log)
+        runs += 1
+    assert runs > 1000 and steps > 30000, (runs, steps)
 
 
 @test

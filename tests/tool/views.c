@@ -3,11 +3,14 @@
  *     views zeros RUNS
  *     views numbered RUNS
  *
- * RUNS are step logs as tests/logs has them. After each call every process is printed, and each word of its module's simple variables is that of
- * joyce_look. Every statement that a process stands at is written too. Where a step answers 31 the word that the tool names has no mark, and with
- * all marks but that one the step answers 31 again. A line 'ok tool/views_FORMAT' or 'FAIL tool/views_FORMAT: why'. */
+ * RUNS are step logs as tests/logs has them; those of the first format are of a time without reserves, and their answers are not compared. After each
+ * call every process is printed, and each word of its module's simple variables is that of joyce_look. Every statement that a process stands at is
+ * written too. Where a step answers 31 the word that the tool names has no mark, and with all marks but that one the step answers 31 again. Where one
+ * answers 22 by the reserve, the call has room with the space that the tool names, and none with two bytes less; where it answers 22 by the area, no
+ * space makes room. A line 'ok tool/views_FORMAT' or 'FAIL tool/views_FORMAT: why'. */
 #define _POSIX_C_SOURCE 200809L
 #include "joyce.h"
+#include "room.h"
 #include "unset.h"
 #include "view.h"
 
@@ -18,7 +21,7 @@ struct reader {
     const uint8_t *at, *end;
 };
 
-static long compared, in_calls, unset_values, unset_steps;
+static long compared, in_calls, unset_values, unset_steps, by_reserve, by_area;
 static const char *format;
 
 static unsigned take_word(struct reader *r)
@@ -135,18 +138,67 @@ static bool is_unset_right(const struct table *t, const uint8_t *state, const ui
     return is_right;
 }
 
-/* Each step by itself, until one answers 31. */
+/* ---- steps that answer 22 */
+
+/* The step again, from a state that has not failed, where the module of the process has another space. */
+static unsigned answer_with_space(const struct table *t, const uint8_t *state, const uint8_t *page, uint8_t process, unsigned space)
+{
+    static uint8_t again[JOYCE_STATE_SIZE], again_page[JOYCE_PAGE_SIZE], table[JOYCE_TABLE_MAX];
+    size_t at = place_of(t, BLOCKS, (int)record_of(state, process).module, B_SPACE);
+    uint8_t answer = 0;
+    memcpy(again, state, sizeof again);
+    memcpy(again_page, page, sizeof again_page);
+    memcpy(table, t->bytes, t->length);
+    memset(again + FAILURE_BYTE, 0, 2);
+    table[at] = (uint8_t)(space % 256);
+    table[at + 1] = (uint8_t)(space / 256);
+    uint32_t result = joyce_run(table, t->length, again, sizeof again, again_page, sizeof again_page, &process, 1, &answer, 1);
+    return result == JOYCE_OK ? answer : 255;
+}
+
+static bool is_room_right(const struct table *t, const uint8_t *state, const uint8_t *page, uint8_t process)
+{
+    static struct view view;
+    char *text = NULL;
+    size_t length = 0;
+    unsigned space = 0;
+    FILE *out = open_memstream(&text, &length);
+    if (!out)
+        return false;
+    view_prepare(&view, &(struct text){t, NULL, out, 0}, state);
+    bool is_right = write_room(&view, process);
+    fclose(out);
+    const char *least = strstr(text, "a space of ");
+    bool is_area = strstr(text, "the area of 256 words: ") != NULL;
+    if (least && !is_area) {
+        is_right = is_right && strstr(text, "the reserve of its module, ") && sscanf(least, "a space of %u", &space) == 1 && space >= 2 &&
+                   answer_with_space(t, state, page, process, space) == JOYCE_DONE &&
+                   answer_with_space(t, state, page, process, space - 2) == JOYCE_AREA;
+        by_reserve++;
+    } else {
+        is_right = is_right && !least && is_area && answer_with_space(t, state, page, process, JOYCE_SPACE_MAX) == JOYCE_AREA;
+        by_area++;
+    }
+    if (!is_right)
+        printf("FAIL tool/views_%s: a step answers 22, and the tool says '%s'\n", format, text);
+    free(text);
+    return is_right;
+}
+
+/* Each step by itself, until one answers 22 or 31. */
 static bool are_steps_right(const struct table *t, uint8_t *state, uint8_t *page, const uint8_t *schedule, const uint8_t *answers, unsigned count)
 {
     bool has_failed = state[FAILURE_BYTE] != 0;
     for (unsigned i = 0; i < count; i++) {
         uint8_t answer = 255;
         if (joyce_run(t->bytes, t->length, state, JOYCE_STATE_SIZE, page, JOYCE_PAGE_SIZE, schedule + i, 1, &answer, 1) != JOYCE_OK ||
-            answer != answers[i]) {
-            printf("FAIL tool/views_%s: a step answers %u, not %u\n", format, answer, answers[i]);
+            (answers && answer != answers[i])) {
+            printf("FAIL tool/views_%s: a step answers %u, not %u\n", format, answer, answers ? answers[i] : 0);
             return false;
         }
         if (answer == JOYCE_UNSET && !has_failed && !is_unset_right(t, state, page, schedule[i]))
+            return false;
+        if (answer == JOYCE_AREA && !has_failed && !is_room_right(t, state, page, schedule[i]))
             return false;
         has_failed = answer >= JOYCE_FAILURE;
     }
@@ -175,7 +227,7 @@ static bool replay(struct reader *r, bool is_numbered)
         const uint8_t *schedule = take(r, steps), *answers = take(r, steps);
         for (unsigned done = 0; is_right && done < steps; done += 64) { /* some states on the way too */
             unsigned count = steps - done < 64 ? steps - done : 64;
-            is_right = are_steps_right(&t, state, page, schedule + done, answers + done, count) && are_processes_right(&t, state);
+            is_right = are_steps_right(&t, state, page, schedule + done, is_numbered ? answers + done : NULL, count) && are_processes_right(&t, state);
         }
         take(r, 4 * (size_t)take_word(r));
     }
@@ -199,11 +251,12 @@ int main(int argc, char **argv)
             return 1;
         runs++;
     }
-    if (!runs || !compared || !in_calls || (is_numbered && (!unset_values || !unset_steps))) {
-        printf("FAIL tool/views_%s: %ld runs, %ld values, %ld unset, %ld steps\n", format, runs, compared, unset_values, unset_steps);
+    if (!runs || !compared || !in_calls || !by_reserve || (is_numbered && (!unset_values || !unset_steps || !by_area))) {
+        printf("FAIL tool/views_%s: %ld runs, %ld values, %ld unset, %ld and %ld + %ld steps\n", format, runs, compared, unset_values, unset_steps,
+               by_reserve, by_area);
         return 1;
     }
-    printf("ok tool/views_%s: %ld runs, %ld values, %ld unset, %ld processes in calls, %ld steps that answer 31\n", format, runs, compared,
-           unset_values, in_calls, unset_steps);
+    printf("ok tool/views_%s: %ld runs, %ld values, %ld unset, %ld processes in calls, %ld steps that answer 31, %ld and %ld that answer 22\n", format,
+           runs, compared, unset_values, in_calls, unset_steps, by_reserve, by_area);
     return 0;
 }

@@ -21,6 +21,7 @@ THEOREMS = {
     "crates/sound/proofs/CutsAgree.antt": ["cuts", "cuts-one-each", "cuts-anywhere"],
     "crates/sound/proofs/RefusalsHold.antt": ["results"],
     "crates/sound/proofs/StateRuleHolds.antt": ["state-rule"],
+    "crates/sound/proofs/SpaceUses.antt": ["space-use"],
     "crates/sound/proofs/PlacesApart.antt": ["step-places"],
     "crates/symbols/proofs/Splitting.antt": ["list-is", "list-found", "list-unique", "no-list", "places-rise"],
     "crates/symbols/proofs/Lines.antt": ["lines-counted"],
