@@ -86,7 +86,7 @@ module _ (T : Table) (m page : Memory) (x : Context) where
       (location (x .process) (m (topAt (x .process)) + 4 + length ws)) (frameWords T q - length ws)
 
   -- a call of procedure q on process r, from state s: 22 where the frame does not fit the area (01, A step). What a module reserves for its
-  -- own procedures (02, i) is asked of local calls alone
+  -- own procedures (02, i) is asked of local calls on the process's own variables alone
   unfoldable pub call : Memory → ℕ → ℕ → List ℕ → Outcome Memory
   call s q r ws =
       need (leb (length ws) (frameWords T q))

@@ -16,7 +16,7 @@ use Rattle.machine.specs.Context.{Context}
 unfoldable pub callWords : Table → ℕ → ℕ
 callWords T q = 4 + frameWords T q
 
--- block q is a procedure of module μ, or of block 0
+-- block q is a procedure whose owner is μ: a module or, for process 1, block 0
 unfoldable pub isProcedureOf : Table → ℕ → ℕ → Bool
 isProcedureOf T μ q = both (isProcedure T q) (eqb (owner T q) μ)
 
@@ -28,7 +28,8 @@ eachOnce T μ n = sumBelow n (λ q. pick (isProcedureOf T μ q) (callWords T q) 
 unfoldable pub reserve : Table → ℕ → ℕ
 reserve T μ = eachOnce T μ (blockCount T) + space T μ / 2
 
--- of d calls of process p, the innermost of which has its frame at f: the words of those that it made while it worked on its own variables
+-- of d calls of process p, the innermost of which has its frame at f: the words of those that it made while it worked on its own variables.
+-- It is asked while it does so: then no process call is open, and these are local calls (frames in StateRule of sound)
 unfoldable pub ownWords : Table → Memory → ℕ → ℕ → ℕ → ℕ
 ownWords T m p zero f = 0
 ownWords T m p (suc d) f =

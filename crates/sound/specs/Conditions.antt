@@ -133,7 +133,7 @@ module _ (T : Table) (m page : Memory) (x : Context) where
     -- an assignment selects, evaluates
     target : {f a b : ℕ} → NodeFails f a → StatementFails f (assign a b)
     source : {f a b i τ : ℕ} → Selects a i τ → NodeFails f b → StatementFails f (assign a b)
-    -- a local call evaluates arguments, then tests what its module reserves, and the area (22)
+    -- a local call evaluates arguments, then tests what the process's module reserves, while it works on its own variables, and the area (22)
     localArgument : {f q c d : ℕ} → ArgumentsFail f d (firstVar T q) c → StatementFails f (localCall q c d)
     localSpace : {q c d : ℕ} {ws : List ℕ} → arguments T m page x q c d ≡ ok ws → SpaceFull q → StatementFails 22 (localCall q c d)
     localArea : {q c d : ℕ} {ws : List ℕ} → arguments T m page x q c d ≡ ok ws → AreaFull q → StatementFails 22 (localCall q c d)
