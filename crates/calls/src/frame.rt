@@ -1,4 +1,5 @@
 // The words of frames (01, A step).
+use code::kinds;
 ghost use mathlib.Core.Path.{_≡_};
 ghost use Prim.Native.Nat.{_≤_, _<_};
 ghost use Rattle.table.specs.Entries.{blockCount, blockKind, varType};
@@ -13,7 +14,7 @@ fn var_words(c: &code::Slots, v: usize) -> usize
     requires { ⌜ Sized (now c) (varType (decoded (now c)) v) ⌝ }
     ensures { λ r. ⌜ (r ≡ varWords (decoded (now (c .entry))) v) × (r ≤ 200) ⌝ }
 {
-    if code::var_mode(c, v) == 2 {
+    if code::var_mode(c, v) == kinds::VAR_PARAMETER {
         return 1;
     }
     operands::places::words_of(c, code::var_type(c, v))

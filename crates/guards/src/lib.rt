@@ -1,4 +1,5 @@
 // The structured statements (11.6 to 11.10) and skip: which arm is entered, where a process goes on after it, and when it is blocked.
+use code::kinds;
 use operands::Context;
 use words::values::Failure;
 use words::values::Value;
@@ -15,7 +16,7 @@ ghost use Rattle.machine.specs.Entries.{repeats};
 ghost use Rattle.machine.specs.Operands.{operand};
 ghost use Rattle.operands.specs.Answers.{firstWord, Evaluable, OneWord};
 ghost use Rattle.operands.specs.Ready.{contextIn, Ready};
-ghost use Rattle.effects.specs.Effects.{carried, Stepped, Standing};
+ghost use Rattle.effects.specs.Effects.{CarriedOut, Standing};
 ghost use Rattle.guards.specs.Guards.{openerOf, Choosable, Chosen, Linked, Ended, Going};
 
 // The arm whose guard is the first that is true, the end of the arms where none is, or the failure of a guard.
@@ -29,7 +30,7 @@ pub enum Found {
 pub fn skip(c: &code::Slots, state: &mut [u8], page: &[u8], x: Context) -> u8
     requires { ⌜ Standing (now c) (now state) (now page) x ⌝ }
     requires { ⌜ stmtKind (decoded (now c)) (x .statement) ≡ 0 ⌝ }
-    ensures { λ r. ⌜ Stepped r (now (state .exit)) (now (page .entry)) (carried (decoded (now (c .entry))) (memoryOf (now (state .entry))) (memoryOf (now (page .entry))) (contextIn x)) ⌝ }
+    ensures { λ r. ⌜ CarriedOut (now (c .entry)) (now (state .entry)) (now (page .entry)) x r (now (state .exit)) (now (page .entry)) ⌝ }
 {
     effects::go_on(state, x);
     0
@@ -53,7 +54,7 @@ fn choose(c: &code::Slots, state: &[u8], page: &[u8], x: Context, i: usize) -> F
     ensures { λ r. ⌜ Chosen (decoded (now (c .entry))) (memoryOf (now (state .entry))) (memoryOf (now (page .entry))) (contextIn x) i r ⌝ }
 {
     let mut j = i;
-    while code::stmt_kind(c, j) == 10 {
+    while code::stmt_kind(c, j) == kinds::ARM {
         let v = guard(c, state, page, x, j);
         match v {
             Value::Fail(f) => {
@@ -71,7 +72,7 @@ fn choose(c: &code::Slots, state: &[u8], page: &[u8], x: Context, i: usize) -> F
 }
 
 // A guard is true: its arm is entered. A when or cycle then holds the variables that the process works on (11.9, 11.10, 13).
-fn enter(state: &mut [u8], x: Context, waits: bool, i: usize) -> u8
+pub fn enter(state: &mut [u8], x: Context, waits: bool, i: usize) -> u8
     requires { ⌜ Going (now state) x i ⌝ }
     ensures { λ r. ⌜ (r ≡ 0) × Becomes (now (state .exit)) (update (pick waits (update (memoryOf (now (state .entry))) (holderAt (x .works)) (x .process)) (memoryOf (now (state .entry)))) (statementAt (x .process)) (i + 1)) ⌝ }
 {
@@ -85,7 +86,7 @@ fn enter(state: &mut [u8], x: Context, waits: bool, i: usize) -> u8
 }
 
 // No guard is true: the process goes on after the end i. A when or cycle is blocked, and gives the variables up (11.9, 11.10, 13).
-fn pass(state: &mut [u8], x: Context, waits: bool, i: usize) -> u8
+pub fn pass(state: &mut [u8], x: Context, waits: bool, i: usize) -> u8
     requires { ⌜ Going (now state) x i ⌝ }
     ensures { λ r. ⌜ (r ≡ pick waits 1 0) × Becomes (now (state .exit)) (pick waits (update (memoryOf (now (state .entry))) (holderAt (x .works)) 0) (update (memoryOf (now (state .entry))) (statementAt (x .process)) (i + 1))) ⌝ }
 {
@@ -101,9 +102,9 @@ fn pass(state: &mut [u8], x: Context, waits: bool, i: usize) -> u8
 pub fn open(c: &code::Slots, state: &mut [u8], page: &[u8], x: Context) -> u8
     requires { ⌜ Standing (now c) (now state) (now page) x ⌝ }
     requires { ⌜ (6 ≤ stmtKind (decoded (now c)) (x .statement)) × (stmtKind (decoded (now c)) (x .statement) ≤ 9) ⌝ }
-    ensures { λ r. ⌜ Stepped r (now (state .exit)) (now (page .entry)) (carried (decoded (now (c .entry))) (memoryOf (now (state .entry))) (memoryOf (now (page .entry))) (contextIn x)) ⌝ }
+    ensures { λ r. ⌜ CarriedOut (now (c .entry)) (now (state .entry)) (now (page .entry)) x r (now (state .exit)) (now (page .entry)) ⌝ }
 {
-    let waits = 8 <= code::stmt_kind(c, x.statement);
+    let waits = kinds::WHEN <= code::stmt_kind(c, x.statement);
     let first = x.statement + 1;
     let r = choose(c, state, page, x, first);
     match r {
@@ -119,21 +120,21 @@ fn end_of(c: &code::Slots, i: usize) -> usize
     ensures { λ r. ⌜ Ended (decoded (now (c .entry))) i r ⌝ }
 {
     let mut j = i;
-    while code::stmt_kind(c, j) == 10 {
+    while code::stmt_kind(c, j) == kinds::ARM {
         j = code::stmt_link(c, j);
     }
     j
 }
 
-// Where a process goes on from the end of the arms: a while or cycle, of kind 7 or 9, is executed again (11.8, 11.10).
+// Where a process goes on from the end of the arms: a while or cycle is executed again (11.8, 11.10).
 fn next(k: usize, opener: usize, end: usize) -> u16
     requires { ⌜ (opener < 65535) × (end < 65535) ⌝ }
     ensures { λ r. ⌜ r ≡ pick (repeats (openerOf k)) opener (end + 1) ⌝ }
 {
-    if k == 7 {
+    if k == kinds::WHILE {
         return opener as u16;
     }
-    if k == 9 {
+    if k == kinds::CYCLE {
         return opener as u16;
     }
     (end + 1) as u16
@@ -143,7 +144,7 @@ fn next(k: usize, opener: usize, end: usize) -> u16
 pub fn end_arm(c: &code::Slots, state: &mut [u8], page: &[u8], x: Context) -> u8
     requires { ⌜ Standing (now c) (now state) (now page) x ⌝ }
     requires { ⌜ (10 ≤ stmtKind (decoded (now c)) (x .statement)) × (stmtKind (decoded (now c)) (x .statement) ≤ 11) ⌝ }
-    ensures { λ r. ⌜ Stepped r (now (state .exit)) (now (page .entry)) (carried (decoded (now (c .entry))) (memoryOf (now (state .entry))) (memoryOf (now (page .entry))) (contextIn x)) ⌝ }
+    ensures { λ r. ⌜ CarriedOut (now (c .entry)) (now (state .entry)) (now (page .entry)) x r (now (state .exit)) (now (page .entry)) ⌝ }
 {
     let end = end_of(c, x.statement);
     let opener = code::stmt_link(c, end);

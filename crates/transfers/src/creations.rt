@@ -10,8 +10,7 @@ ghost use Rattle.machine.specs.Lent.{Lent, State};
 ghost use Rattle.machine.specs.Step.{settled};
 ghost use Rattle.machine.specs.Layout.{pageWords};
 ghost use Rattle.code.specs.Code.{decoded};
-ghost use Rattle.operands.specs.Ready.{contextIn};
-ghost use Rattle.effects.specs.Effects.{carried, Stepped, Standing};
+ghost use Rattle.effects.specs.Effects.{Stepped, CarriedOut, Standing};
 ghost use Rattle.transfers.specs.Creations.{Creating, creates};
 
 // A process of module `block`, for the variable at location i: the next number, or 24 while 64 processes exist (01). The page is left
@@ -41,7 +40,7 @@ fn create_next(state: &mut [u8], page: &[u8], x: Context, i: usize, block: usize
 pub fn create(c: &code::Slots, state: &mut [u8], page: &[u8], x: Context) -> u8
     requires { ⌜ Standing (now c) (now state) (now page) x ⌝ }
     requires { ⌜ stmtKind (decoded (now c)) (x .statement) ≡ 4 ⌝ }
-    ensures { λ r. ⌜ Stepped r (now (state .exit)) (now (page .entry)) (carried (decoded (now (c .entry))) (memoryOf (now (state .entry))) (memoryOf (now (page .entry))) (contextIn x)) ⌝ }
+    ensures { λ r. ⌜ CarriedOut (now (c .entry)) (now (state .entry)) (now (page .entry)) x r (now (state .exit)) (now (page .entry)) ⌝ }
 {
     let a = code::stmt_a(c, x.statement);
     let l = select(c, state, page, x, a);

@@ -11,12 +11,11 @@ ghost use Rattle.machine.specs.Lent.{State};
 ghost use Rattle.machine.specs.Step.{settled};
 ghost use Rattle.machine.specs.Layout.{pageSize};
 ghost use Rattle.code.specs.Code.{decoded};
-ghost use Rattle.operands.specs.Ready.{contextIn};
-ghost use Rattle.effects.specs.Effects.{carried, Stepped, Standing};
+ghost use Rattle.effects.specs.Effects.{Stepped, CarriedOut, Standing};
 ghost use Rattle.transfers.specs.Devices.{Writing, writes};
 
 // The word v, to the device location with this address.
-fn write_word(state: &mut [u8], page: &mut [u8], x: Context, address: u16, v: u16) -> u8
+pub fn write_word(state: &mut [u8], page: &mut [u8], x: Context, address: u16, v: u16) -> u8
     requires { ⌜ State (now state) ⌝ }
     requires { ⌜ length (now page) ≡ pageSize ⌝ }
     requires { ⌜ (1 ≤ x .process) × ((x .process ≤ 64) × (x .statement < 65535)) ⌝ }
@@ -35,7 +34,7 @@ fn write_word(state: &mut [u8], page: &mut [u8], x: Context, address: u16, v: u1
 // The value, then the store, where the address is known.
 fn write_value(c: &code::Slots, state: &mut [u8], page: &mut [u8], x: Context, address: u16) -> u8
     requires { ⌜ Writing (now c) (now state) (now page) x address ⌝ }
-    ensures { λ r. ⌜ Stepped r (now (state .exit)) (now (page .exit)) (carried (decoded (now (c .entry))) (memoryOf (now (state .entry))) (memoryOf (now (page .entry))) (contextIn x)) ⌝ }
+    ensures { λ r. ⌜ CarriedOut (now (c .entry)) (now (state .entry)) (now (page .entry)) x r (now (state .exit)) (now (page .exit)) ⌝ }
 {
     let b = code::stmt_b(c, x.statement);
     let v = eval(c, state, page, x, b);
@@ -49,7 +48,7 @@ fn write_value(c: &code::Slots, state: &mut [u8], page: &mut [u8], x: Context, a
 pub fn write(c: &code::Slots, state: &mut [u8], page: &mut [u8], x: Context) -> u8
     requires { ⌜ Standing (now c) (now state) (now page) x ⌝ }
     requires { ⌜ stmtKind (decoded (now c)) (x .statement) ≡ 12 ⌝ }
-    ensures { λ r. ⌜ Stepped r (now (state .exit)) (now (page .exit)) (carried (decoded (now (c .entry))) (memoryOf (now (state .entry))) (memoryOf (now (page .entry))) (contextIn x)) ⌝ }
+    ensures { λ r. ⌜ CarriedOut (now (c .entry)) (now (state .entry)) (now (page .entry)) x r (now (state .exit)) (now (page .exit)) ⌝ }
 {
     let a = code::stmt_a(c, x.statement);
     let v = eval(c, state, page, x, a);
