@@ -1,0 +1,4 @@
+pub mod Telling
+pub mod Rooting
+pub mod Acts
+pub mod Guarding

@@ -1,0 +1,21 @@
+use Rattle.transfers.proofs.Assigning.{assigns}
+use Rattle.actions.proofs.Rooting.{roots}
+use borrow.Author.Needs.{needs}
+use Rattle.actions.proofs.assignments.assign_word.Statement.{statement}
+use Rattle.actions.proofs.assignments.assign_word.Tie as tie
+
+pub assign-word-spec : {M : Type 1} → statement M
+assign-word-spec =
+    tie.close
+    (tie.spec
+    (λ c κs. search needs)
+    (λ c κs. (search needs, (search assigns, (search assigns, search roots))))
+    (λ c. search needs)
+    (λ c κs. search needs)
+    (λ c. search needs)
+    (λ c κs. search (assigns, needs))
+    (λ c κs. search needs)
+    (λ c. search needs)
+    (λ c. search (assigns, needs))
+    (λ c. search needs)
+    (λ c. search (assigns, needs)))

@@ -1,0 +1,20 @@
+use Rattle.actions.proofs.Acts.{acts}
+use borrow.Author.Needs.{needs}
+use Rattle.actions.proofs.assignments.assign_words.Statement.{statement}
+use Rattle.actions.proofs.assignments.assign_words.Tie as tie
+
+pub assign-words-spec : {M : Type 1} → statement M
+assign-words-spec =
+    tie.close
+    (tie.spec
+    (λ c κs. search needs)
+    (λ c κs. (search needs, (search acts, (search acts, search acts))))
+    (λ c. search needs)
+    (λ c κs. search needs)
+    (λ c. search needs)
+    (λ c κs. search (acts, needs))
+    (λ c κs. (search (acts, needs), search (acts, needs)))
+    (λ c. search needs)
+    (λ c. search (acts, needs))
+    (λ c. search needs)
+    (λ c. search (acts, needs)))

@@ -1,0 +1,22 @@
+use Rattle.transfers.proofs.Writing.{writings}
+use Rattle.actions.proofs.Rooting.{roots}
+use borrow.Author.Needs.{needs}
+use Rattle.actions.proofs.devices.write_value.Statement.{statement}
+use Rattle.actions.proofs.devices.write_value.Tie as tie
+
+pub write-value-spec : {M : Type 1} → statement M
+write-value-spec =
+    tie.close
+    (tie.spec
+    (λ c κs. search needs)
+    (λ c κs. (search needs, (search writings, (search writings, search roots))))
+    (λ c. search needs)
+    (λ c κs. search needs)
+    (λ c. search needs)
+    (λ c κs. search needs)
+    (λ c. search needs)
+    (λ c. search needs)
+    (λ c. search (writings, needs))
+    (λ c. search needs)
+    (λ c. search needs)
+    (λ c. search (writings, needs)))
