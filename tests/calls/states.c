@@ -199,6 +199,52 @@ static bool threads(void)
     return is_same || bad("the runs of the threads differ");
 }
 
+/* Long calls, which go by a plan where a table has no string constants, leave on a small stack what single steps leave. */
+enum { LONG = 384, TABLES = 300 / SHARE };
+
+struct long_run {
+    struct run_state whole, cut;
+    uint8_t turns[LONG], first[LONG], second[LONG];
+    bool is_done;
+};
+
+static bool run_long(struct long_run *p, struct table t, uint32_t number)
+{
+    if (!begin_with(&p->whole, t, number) || !begin_with(&p->cut, t, number) || !run_turns(&p->whole, p->turns, LONG, p->first))
+        return false;
+    for (int i = 0; i < LONG; i++)
+        if (!run_turns(&p->cut, p->turns + i, 1, p->second + i))
+            return false;
+    return (memcmp(p->first, p->second, LONG) == 0 && memcmp(p->whole.state, p->cut.state, sizeof p->cut.state) == 0 &&
+            memcmp(p->whole.page, p->cut.page, sizeof p->cut.page) == 0) || bad("a long call and single steps differ");
+}
+
+static void *play_long(void *argument)
+{
+    struct long_run *p = argument;
+    for (size_t i = 0; i < LONG; i++)
+        p->turns[i] = (uint8_t)(1 + i % 5);
+    for (uint32_t i = 0; i < TABLES; i++)
+        if (!run_long(p, table_of(JOYCE_ACCEPTED, i * 7), i % 2))
+            return NULL;
+    p->is_done = true;
+    return NULL;
+}
+
+static bool long_calls(void)
+{
+    struct long_run *p = calloc(1, sizeof *p);
+    pthread_t thread;
+    pthread_attr_t small;
+    if (!p || pthread_attr_init(&small) || pthread_attr_setstacksize(&small, 256 * 1024) || pthread_create(&thread, &small, play_long, p))
+        return bad("no thread");
+    pthread_join(thread, NULL);
+    bool is_done = p->is_done;
+    pthread_attr_destroy(&small);
+    free(p);
+    return is_done;
+}
+
 void state_tests(void)
 {
     run_test("stale_state_of_another_program", anothers_state);
@@ -206,4 +252,5 @@ void state_tests(void)
     run_test("looks_by_layout", looks_by_layout);
     run_test("kept_states", kept_states);
     run_test("threads", threads);
+    run_test("long_calls", long_calls);
 }

@@ -31,6 +31,7 @@
 #include <string.h>
 
 enum { STATE = 37376, PAGE = 8192, LONGEST = 7913 }; /* the longest eight sections */
+enum { LONG = 384 }; /* steps for which the library makes a plan of every table without string constants: some more than 64 and the most nodes, 255 */
 enum { EMPTY = 19, FULL = 22, UNSET = 31, UNSET_WORD = 32 };
 
 struct calls {
@@ -291,12 +292,13 @@ static bool load(const char *name, bool is_numbered, size_t every)
 struct run {
     const struct calls *calls;
     size_t cut; /* the most steps of one call; 0 for all at once */
+    size_t more; /* steps of process 0, which is none, that come after those of each call */
     uint8_t *state, *page;
 };
 
 static struct run make_run(const struct calls *calls, size_t cut)
 {
-    return (struct run){calls, cut, room(STATE), room(PAGE)};
+    return (struct run){calls, cut, 0, room(STATE), room(PAGE)};
 }
 
 static void free_run(struct run *x)
@@ -322,6 +324,24 @@ static void put(uint8_t *page, const uint8_t *pairs, size_t n)
         memcpy(page + word(pairs), pairs + 2, 2);
 }
 
+/* The steps of one call, and those of process 0, which answer 3 or by what the run has failed, and change nothing. */
+static uint32_t run_piece(struct run *x, const struct record *d, const uint8_t *schedule, uint8_t *answers, size_t n, bool *is_ok)
+{
+    size_t all = n + x->more;
+    uint8_t *order = room(all), *given = room(all);
+    memcpy(order, schedule, n);
+    memset(order + n, 0, x->more);
+    uint32_t r = x->calls->run(d->table, d->length, x->state, STATE, x->page, PAGE, order, all, given, all);
+    size_t failure = word(x->state + 2 * 64 * 256 + 18);
+    memcpy(answers, given, n);
+    for (size_t i = n; r == 0 && *is_ok && i < all; i++)
+        if (given[i] != (failure ? failure : 3))
+            *is_ok = bad("a step of process 0 answers %u", given[i]);
+    free(order);
+    free(given);
+    return r;
+}
+
 /* Steps, in slices of the exact length, so that a sanitizer sees what lies outside them. */
 static bool steps(struct run *x, const struct record *d, const uint8_t *schedule, const uint8_t *answer, size_t n)
 {
@@ -330,7 +350,7 @@ static bool steps(struct run *x, const struct record *d, const uint8_t *schedule
     bool is_ok = true;
     do {
         size_t piece = n - done < most ? n - done : most;
-        uint32_t r = x->calls->run(d->table, d->length, x->state, STATE, x->page, PAGE, schedule + done, piece, answers, piece);
+        uint32_t r = run_piece(x, d, schedule + done, answers, piece, &is_ok);
         if (r != 0)
             is_ok = bad("step %zu: run returns %u", done, r);
         for (size_t i = 0; is_ok && i < piece; i++)
@@ -396,7 +416,7 @@ static bool agree(void)
 }
 
 /* Every record by the rule of reserves, from the state and the table before each step: a local call of a process that works on its own variables
- * answers 22 where its frames and the new one would pass the reserve of its module. The older logs go on there, and theirs is 22 from there on. */
+ * answers 22 where its frames and the new one would pass the reserve of its module. The older logs go on there; what is tested here answers 22 from there on. */
 struct seen {
     size_t changed, by_reserve, by_area; /* runs that end before their log; local calls on own variables that fail by the reserve alone, by the area */
 };
@@ -529,11 +549,12 @@ static bool either_number(size_t *unset_runs)
     return is_ok && ((*unset_runs > 0 && *unset_runs < count) || bad("%zu of %zu runs fail with 31", *unset_runs, count));
 }
 
-/* Two runs of each record, which must leave the same states. */
-static bool same_states(const struct calls *other, size_t cut, size_t *done)
+/* Two runs of each record, which must leave the same states: calls as they are logged, and cut or made longer; longer ones beside single steps. */
+static bool same_states(const struct calls *other, size_t cut, size_t more, size_t *done)
 {
-    struct run x = make_run(ours, 0), y = make_run(other, cut);
+    struct run x = make_run(ours, more ? 1 : 0), y = make_run(other, cut);
     bool is_ok = true;
+    y.more = more;
     for (size_t i = 0; is_ok && i < count; i++) {
         const struct record *d = &records[i];
         size_t k = 0;
@@ -612,7 +633,7 @@ static bool joined(size_t *done)
 enum { ROOM = 64 };
 
 struct lent {
-    uint8_t table[LONGEST + 1], state[STATE + 1], page[PAGE + 1], schedule[ROOM], answers[ROOM];
+    uint8_t table[LONGEST + 1], state[STATE + 1], page[PAGE + 1], schedule[LONG], answers[LONG];
 };
 
 static struct lent now, before; /* what is lent, and a copy */
@@ -673,15 +694,20 @@ static bool looks_refused(size_t n)
     return is_ok;
 }
 
-/* Answers beyond the schedule's stay, and an empty schedule changes nothing. */
+/* Answers beyond the schedule's stay, be it short or long, and an empty schedule changes nothing. */
 static bool later_answers_stay(size_t n)
 {
+    static const size_t turns[] = {ROOM / 2, LONG - ROOM / 2};
     if (!refused("run of nothing", run_lengths(n, STATE, PAGE, 0, ROOM), 0))
         return false;
-    uint32_t r = run_lengths(n, STATE, PAGE, ROOM / 2, ROOM);
-    if (r != 0)
-        return bad("run returns %u", r);
-    return memcmp(now.answers + ROOM / 2, before.answers + ROOM / 2, ROOM - ROOM / 2) == 0 || bad("a later answer byte has changed");
+    for (int i = 0; i < 2; i++) {
+        uint32_t r = run_lengths(n, STATE, PAGE, turns[i], LONG);
+        if (r != 0)
+            return bad("run returns %u", r);
+        if (memcmp(now.answers + turns[i], before.answers + turns[i], LONG - turns[i]) != 0)
+            return bad("a later answer byte has changed");
+    }
+    return true;
 }
 
 /* ---- pseudo-random numbers: xorshift64*, a fixed seed a test */
@@ -707,7 +733,7 @@ static bool lend(struct run *x, const struct record *d, size_t calls)
     memcpy(now.table, d->table, d->length);
     memcpy(now.state, x->state, STATE);
     memcpy(now.page, x->page, PAGE);
-    for (size_t i = 0; i < ROOM; i++) {
+    for (size_t i = 0; i < LONG; i++) {
         now.schedule[i] = (uint8_t)below(x->state[2 * (16384 + 8)] + 2u);
         now.answers[i] = (uint8_t)below(256);
     }
@@ -801,13 +827,14 @@ static bool looks_alike(size_t n, uint32_t verdict)
     return verdict != 0 ? r == verdict || bad("look returns %u, and run %u", r, verdict) : true;
 }
 
-/* Both run it alike, and what is not refused is left in a state that meets the rule. */
+/* Both run it alike, in a short call or a long one, and what is not refused is left in a state that meets the rule. */
 static bool run_alike(size_t n, size_t seen[2])
 {
     static struct lent other;
+    size_t turns = below(2) ? ROOM : LONG;
     other = now;
-    uint32_t r = run_lengths(n, STATE, PAGE, ROOM, ROOM);
-    uint32_t s = plain.run(other.table, n, other.state, STATE, other.page, PAGE, other.schedule, ROOM, other.answers, ROOM);
+    uint32_t r = run_lengths(n, STATE, PAGE, turns, turns);
+    uint32_t s = plain.run(other.table, n, other.state, STATE, other.page, PAGE, other.schedule, turns, other.answers, turns);
     if (r != s || (r != 0 && r != 10))
         return bad("run returns %u, and %u by the plain interpreter", r, s);
     if (memcmp(&now, &other, sizeof now) != 0)
@@ -896,15 +923,18 @@ static void replay(void)
         char name[40];
         snprintf(name, sizeof name, "cut_%zu", cuts[i]);
         done = 0;
-        is_ok = same_states(ours, cuts[i], &done);
+        is_ok = same_states(ours, cuts[i], 0, &done);
         report(name, is_ok, done, "steps");
     }
+    done = 0;
+    is_ok = same_states(ours, 0, LONG, &done);
+    report("long", is_ok, done, "steps, in long calls");
     done = 0;
     is_ok = joined(&done);
     report("joined", is_ok, done, "joints");
     if (ours != &plain) {
         done = 0;
-        is_ok = same_states(&plain, 1, &done);
+        is_ok = same_states(&plain, 1, 0, &done);
         report("second_opinion", is_ok, done, "steps");
     }
     done = 0;
