@@ -80,8 +80,8 @@
 extern "C" {
 #endif
 
-/* The version of this interface. The first number changes where a host must be changed, the second where something is added. There is no
- * function for it: the archive exports the five proved calls and nothing else, and is linked statically with the header that it came with. */
+/* The version of this interface. The first number changes where a host must be changed, the second where something is added or a table may run
+ * differently, which docs/CHANGES.md says. There is no function for it: the archive exports the five proved calls and nothing else, and is linked statically with the header that it came with. */
 #define JOYCE_VERSION_MAJOR 2
 #define JOYCE_VERSION_MINOR 2
 #define JOYCE_VERSION_PATCH 0
@@ -100,7 +100,7 @@ extern "C" {
 #define JOYCE_AREA_WORDS 256      /* words of a process: the variables of its module, then its calls */
 #define JOYCE_TYPE_WORDS_MAX 200  /* words of one type */
 #define JOYCE_CALL_WORDS 4        /* words that a call takes of its caller's area, besides its variables */
-#define JOYCE_SPACE_MAX 510       /* bytes of a module's space */
+#define JOYCE_SPACE_MAX 510       /* bytes of the space of a module or of the program */
 #define JOYCE_INTEGER_MIN (-32768)
 #define JOYCE_INTEGER_MAX 32767
 #define JOYCE_CHARACTER_MAX 127
@@ -145,8 +145,8 @@ enum joyce_block {
  * variables, a var parameter counted as one, and for recursion a word for every two bytes of its space. While a process works on its own variables,
  * a local call fails with JOYCE_AREA where its calls that have not ended and the new one take more words than the reserve, or, with its module's
  * variables, more than JOYCE_AREA_WORDS. Process calls, and local calls inside them, count against JOYCE_AREA_WORDS alone. So a space of 0 is right
- * where no procedure calls itself, directly or through others; for a procedure of w words that is n deep 2 * w * (n - 1) bytes are enough, and the
- * sum of these where several are; and with JOYCE_SPACE_MAX the area decides alone. */
+ * where no procedure calls itself, directly or through others; for a procedure of w words that is n deep 2 * w * (n - 1) bytes are enough for the
+ * reserve, and the sum of these where several are; and with JOYCE_SPACE_MAX, which is for all that need more, the area decides alone. */
 
 /* The kind of a node. */
 enum joyce_node {
