@@ -5,7 +5,7 @@ ghost use mathlib.Core.Path.{_≡_};
 ghost use Prim.Native.Nat.{_≤_};
 ghost use Rattle.table.specs.Entries.{stmtKind};
 ghost use Rattle.code.specs.Code.{decoded};
-ghost use Rattle.effects.specs.Effects.{carried, CarriedOut, Standing};
+ghost use Rattle.effects.specs.Effects.{CarriedOut, Standing};
 
 // Calls, create and start: kinds 2 to 5.
 fn perform_call(c: &code::Slots, state: &mut [u8], page: &[u8], x: Context, k: usize) -> u8
