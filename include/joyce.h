@@ -81,7 +81,8 @@ extern "C" {
 #endif
 
 /* The version of this interface. The first number changes where a host must be changed, the second where something is added or a table may run
- * differently, which docs/CHANGES.md says. There is no function for it: the archive exports the five proved calls and nothing else, and is linked statically with the header that it came with. */
+ * differently, which docs/CHANGES.md says. There is no function for it: the archive exports the five proved calls and nothing else, and is linked
+ * statically with the header that it came with. */
 #define JOYCE_VERSION_MAJOR 2
 #define JOYCE_VERSION_MINOR 2
 #define JOYCE_VERSION_PATCH 0
