@@ -45,9 +45,9 @@ for crate, file, listed in re.findall(r"\b([a-z]+)/([A-Z][A-Za-z]*): [A-Za-z0-9_
             missing.append(f"{crate}/{file}: {name}")
 report("constructors", missing, count)
 
-# `crates/crate/proofs/File.antt`: name, name
+# `crates/crate/proofs/File.antt`: name, name; or `crates/crate/proofs/Folder/File.antt`
 missing, count = [], 0
-for path, listed in re.findall(r"`(crates/[a-z]+/proofs/[A-Za-z]+\.antt)`: ([A-Za-z0-9-]+(?:, [A-Za-z0-9-]+)*)", page):
+for path, listed in re.findall(r"`(crates/[a-z]+/proofs/(?:[A-Za-z0-9]+/)?[A-Za-z0-9]+\.antt)`: ([A-Za-z0-9-]+(?:, [A-Za-z0-9-]+)*)", page):
     proofs = text([pathlib.Path(path)])
     for name in listed.split(", "):
         count += 1

@@ -7,7 +7,7 @@ use Rattle.words.specs.Bytes.{Bytes}
 use Rattle.verdict.specs.Verdict.{verdict}
 use Rattle.sound.specs.Histories.{pageLeft, Ask, callOf}
 use Rattle.sound.specs.Cuts.{Piece, endToEnd, askOf, inTurn, pageAfter, AllReturn}
-use Rattle.sound.proofs.CutsAgree.{cuts}
+use Rattle.sound.proofs.Theorems.CutsAgree.{cuts}
 use Rattle.joyce.specs.Calls.{Call, Kept, Chained, Each, asks, answered}
 use Rattle.joyce.specs.Cuts.{Lent, HandedOn, schedules, pageLeaves, LeaveTheSame}
 use Rattle.joyce.proofs.Logs.{result-is, state-is, page-is, written-is, written-are, leaves-is}

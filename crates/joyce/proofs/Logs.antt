@@ -11,9 +11,9 @@ use Rattle.verdict.specs.Verdict.{verdict}
 use Rattle.machine.specs.Public.{called, beginCall}
 use Rattle.machine.specs.Layout.{pageSize}
 use Rattle.sound.specs.Histories.{begunResult, begunState, result, stateLeft, pageLeft, answersLeft, Devices, Handed, Served, callOf, refused, history, order, orderOf, written, writtenOf, stateAfter, Calls, begunWith, History, first, steps, processes, answers, finally}
-use Rattle.sound.proofs.Histories.{refused-call}
-use Rattle.sound.proofs.StepsDemand.{demand3}
-use Rattle.sound.proofs.TestedDemand.{tested-alike}
+use Rattle.sound.proofs.Runs.CallLists.{refused-call}
+use Rattle.sound.proofs.Theorems.Demand3.{demand3}
+use Rattle.sound.proofs.Theorems.TestedAlike.{tested-alike}
 use Rattle.joyce.specs.Calls.{Call, Kept, Chained, Each, Fits, Log, asks, named, answered, leaves, made, CallHolds, LogHolds}
 
 served : (b : Bool) → pick b false true ≡ false → b ≡ true

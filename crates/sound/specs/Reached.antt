@@ -39,7 +39,7 @@ pub record WordTable (T : Table) : Type 0 where
 -- WHAT THE SOUNDNESS OF STEPS SAYS (Claims, StepSound): from a state that meets the rule none is stuck, and its state meets the rule
 pub record StepLaws (T : Table) : Type 0 where
   pub sound : (m page : Memory) (p : ℕ) → rule T m ≡ true → Small m → Small page → Sound T (step T m page p)
-  -- and what var parameters are bound to stays (proofs/HistoriesBindings, step-bindings)
+  -- and what var parameters are bound to stays (proofs/Calls/BindingsKept, step-bindings)
   pub bindings : (m page : Memory) (p : ℕ) → rule T m ≡ true → Small m → Small page → (a : ℕ) (s d : Memory) → step T m page p ≡ done a s d → BindingsKept T m s
 
 -- begin's state is one that steps reach
