@@ -15,6 +15,7 @@ use Rattle.words.specs.declared.values.Value.{Value}
 use Rattle.words.specs.declared.values.Value.the-variants.{Word, Fail}
 use Rattle.machine.specs.Outcomes.{Outcome, ok, fail, stuck, andThen, need, Operand, place, value, text, valued, onValue, onWord, wordOf}
 use Rattle.machine.specs.Entries.{Opener, statementOf, stmtAt}
+use Rattle.machine.proofs.Entries.{statement-cases}
 use Rattle.machine.specs.Statements.{onArms, onOpener}
 use Rattle.operands.specs.Answers.{firstWord, Unstuck, goes, fails}
 use Rattle.operands.proofs.Yielding.{failed}
@@ -78,23 +79,11 @@ module _ {A : Type 0} (T : Table) (i : ℕ) (f : ℕ → ℕ → Outcome A) (g :
       cases (ltb i (stmtCount T)) (λ e. ltb-true i (stmtCount T) e) (λ e. absurd (n (rw e)))
 
   no-arms : (k a b c d l : ℕ) → (k ≡ 10 → ⊥) → (k ≡ 11 → ⊥) → onArms (statementOf k a b c d l) f g ≡ stuck
-  unfolding statementOf onArms
+  unfolding onArms
   no-arms k a b c d l n m =
-      let u = ne-eqb k 10 n in
-      let v = ne-eqb k 11 m in
-      cases (eqb k 0) (λ e. rw e) (λ e0.
-      cases (eqb k 1) (λ e. rw (e0, e)) (λ e1.
-      cases (eqb k 2) (λ e. rw (e0, e1, e)) (λ e2.
-      cases (eqb k 3) (λ e. rw (e0, e1, e2, e)) (λ e3.
-      cases (eqb k 4) (λ e. rw (e0, e1, e2, e3, e)) (λ e4.
-      cases (eqb k 5) (λ e. rw (e0, e1, e2, e3, e4, e)) (λ e5.
-      cases (eqb k 6) (λ e. rw (e0, e1, e2, e3, e4, e5, e)) (λ e6.
-      cases (eqb k 7) (λ e. rw (e0, e1, e2, e3, e4, e5, e6, e)) (λ e7.
-      cases (eqb k 8) (λ e. rw (e0, e1, e2, e3, e4, e5, e6, e7, e)) (λ e8.
-      cases (eqb k 9) (λ e. rw (e0, e1, e2, e3, e4, e5, e6, e7, e8, e)) (λ e9.
-      cases (eqb k 12) (λ e. rw (e0, e1, e2, e3, e4, e5, e6, e7, e8, e9, u, v, e)) (λ f2.
-      cases (eqb k 13) (λ e. rw (e0, e1, e2, e3, e4, e5, e6, e7, e8, e9, u, v, f2, e)) (λ f3.
-      rw (e0, e1, e2, e3, e4, e5, e6, e7, e8, e9, u, v, f2, f3)))))))))))))
+      statement-cases (λ s. onArms s f g ≡ stuck) k a b c d l
+      (λ e. refl) (λ e. refl) (λ e. refl) (λ e. refl) (λ e. refl) (λ e. refl) (λ e. refl) (λ e. refl) (λ e. refl) (λ e. refl)
+      (λ e. absurd (n e)) (λ e. absurd (m e)) (λ e. refl) (λ e. refl) refl
 
   -- what is not an arm is the end
   pub end-kind : (onArms (stmtAt T i) f g ≡ stuck → ⊥) → (stmtKind T i ≡ 10 → ⊥) → stmtKind T i ≡ 11
@@ -122,23 +111,12 @@ module _ {A : Type 0} (T : Table) (i : ℕ) (f : Opener → Outcome A) where
       cases (ltb i (stmtCount T)) (λ e. ltb-true i (stmtCount T) e) (λ e. absurd (n (rw e)))
 
   opener-of : (k a b c d l : ℕ) → (onOpener (statementOf k a b c d l) f ≡ stuck → ⊥) → onOpener (statementOf k a b c d l) f ≡ f (openerOf k)
-  unfolding statementOf onOpener openerOf
-  opener-of k a b c d l n =
-      cases (eqb k 0) (λ e. absurd (n (rw e))) (λ e0.
-      cases (eqb k 1) (λ e. absurd (n (rw (e0, e)))) (λ e1.
-      cases (eqb k 2) (λ e. absurd (n (rw (e0, e1, e)))) (λ e2.
-      cases (eqb k 3) (λ e. absurd (n (rw (e0, e1, e2, e)))) (λ e3.
-      cases (eqb k 4) (λ e. absurd (n (rw (e0, e1, e2, e3, e)))) (λ e4.
-      cases (eqb k 5) (λ e. absurd (n (rw (e0, e1, e2, e3, e4, e)))) (λ e5.
-      cases (eqb k 6) (λ e. let q = eqb-true k 6 e in rw q) (λ e6.
-      cases (eqb k 7) (λ e. let q = eqb-true k 7 e in rw q) (λ e7.
-      cases (eqb k 8) (λ e. let q = eqb-true k 8 e in rw q) (λ e8.
-      cases (eqb k 9) (λ e. let q = eqb-true k 9 e in rw q) (λ e9.
-      cases (eqb k 10) (λ e. absurd (n (rw (e0, e1, e2, e3, e4, e5, e6, e7, e8, e9, e)))) (λ f0.
-      cases (eqb k 11) (λ e. absurd (n (rw (e0, e1, e2, e3, e4, e5, e6, e7, e8, e9, f0, e)))) (λ f1.
-      cases (eqb k 12) (λ e. absurd (n (rw (e0, e1, e2, e3, e4, e5, e6, e7, e8, e9, f0, f1, e)))) (λ f2.
-      cases (eqb k 13) (λ e. absurd (n (rw (e0, e1, e2, e3, e4, e5, e6, e7, e8, e9, f0, f1, f2, e)))) (λ f3.
-      absurd (n (rw (e0, e1, e2, e3, e4, e5, e6, e7, e8, e9, f0, f1, f2, f3)))))))))))))))))
+  unfolding onOpener openerOf
+  opener-of k a b c d l =
+      statement-cases (λ s. (onOpener s f ≡ stuck → ⊥) → onOpener s f ≡ f (openerOf k)) k a b c d l
+      (λ e n. absurd (n refl)) (λ e n. absurd (n refl)) (λ e n. absurd (n refl)) (λ e n. absurd (n refl)) (λ e n. absurd (n refl)) (λ e n. absurd (n refl))
+      (λ e n. rw e) (λ e n. rw e) (λ e n. rw e) (λ e n. rw e)
+      (λ e n. absurd (n refl)) (λ e n. absurd (n refl)) (λ e n. absurd (n refl)) (λ e n. absurd (n refl)) (λ n. absurd (n refl))
 
   pub opener-is : (onOpener (stmtAt T i) f ≡ stuck → ⊥) → onOpener (stmtAt T i) f ≡ f (openerOf (stmtKind T i))
   unfolding stmtAt

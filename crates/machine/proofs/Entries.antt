@@ -1,4 +1,4 @@
--- The entry of a type by its number and its kind, and back. Assumes nothing.
+-- The entry of a type by its number and its kind, and back; statements by their kinds. Assumes nothing.
 use Prim.Native.Nat.{ℕ, zero, suc, _≤_, _<_}
 use mathlib.Core.Path.{_≡_, refl, ap, _∙_}
 use native.Mathlib.Omega.{arith}
@@ -8,7 +8,7 @@ use Rattle.basics.specs.Choice.{pick}
 use Rattle.basics.specs.Cases.{cases}
 use Rattle.table.specs.Table.{Table}
 use Rattle.table.specs.Entries.{declared, typeKind, typeP, typeQ, typeLow, typeHigh}
-use Rattle.machine.specs.Entries.{TypeEntry, integer, boolean, character, recordType, arrayType, processType, noType, typeAt}
+use Rattle.machine.specs.Entries.{TypeEntry, integer, boolean, character, recordType, arrayType, processType, noType, typeAt, if, while, when, cycle, Statement, skip, assign, localCall, processCall, create, start, opener, arm, endArms, write, blockEnd, noStatement, statementOf}
 
 module _ (T : Table) where
   pub at-integer : typeAt T 0 ≡ integer
@@ -95,3 +95,37 @@ module _ (T : Table) where
   standard-array (suc zero) ι σ low high h e = let z : _≡_ {A = ℕ} 0 1 = cc in omega arith
   standard-array (suc (suc zero)) ι σ low high h e = let z : _≡_ {A = ℕ} 0 1 = cc in omega arith
   standard-array (suc (suc (suc τ))) ι σ low high h e = omega arith
+
+-- what holds of a statement of each kind holds of a statement
+pub statement-cases : (P : Statement → Type 0) (k a b c d l : ℕ)
+    → (k ≡ 0 → P skip)
+    → (k ≡ 1 → P (assign a b))
+    → (k ≡ 2 → P (localCall a c d))
+    → (k ≡ 3 → P (processCall a b c d))
+    → (k ≡ 4 → P (create a))
+    → (k ≡ 5 → P (start a c d))
+    → (k ≡ 6 → P (opener if))
+    → (k ≡ 7 → P (opener while))
+    → (k ≡ 8 → P (opener when))
+    → (k ≡ 9 → P (opener cycle))
+    → (k ≡ 10 → P (arm a l))
+    → (k ≡ 11 → P (endArms l))
+    → (k ≡ 12 → P (write a b))
+    → (k ≡ 13 → P blockEnd)
+    → P noStatement → P (statementOf k a b c d l)
+unfolding statementOf
+statement-cases P zero a b c d l x₀ x₁ x₂ x₃ x₄ x₅ x₆ x₇ x₈ x₉ y₀ y₁ y₂ y₃ none = x₀ refl
+statement-cases P (suc zero) a b c d l x₀ x₁ x₂ x₃ x₄ x₅ x₆ x₇ x₈ x₉ y₀ y₁ y₂ y₃ none = x₁ refl
+statement-cases P (suc (suc zero)) a b c d l x₀ x₁ x₂ x₃ x₄ x₅ x₆ x₇ x₈ x₉ y₀ y₁ y₂ y₃ none = x₂ refl
+statement-cases P (suc (suc (suc zero))) a b c d l x₀ x₁ x₂ x₃ x₄ x₅ x₆ x₇ x₈ x₉ y₀ y₁ y₂ y₃ none = x₃ refl
+statement-cases P (suc (suc (suc (suc zero)))) a b c d l x₀ x₁ x₂ x₃ x₄ x₅ x₆ x₇ x₈ x₉ y₀ y₁ y₂ y₃ none = x₄ refl
+statement-cases P (suc (suc (suc (suc (suc zero))))) a b c d l x₀ x₁ x₂ x₃ x₄ x₅ x₆ x₇ x₈ x₉ y₀ y₁ y₂ y₃ none = x₅ refl
+statement-cases P (suc (suc (suc (suc (suc (suc zero)))))) a b c d l x₀ x₁ x₂ x₃ x₄ x₅ x₆ x₇ x₈ x₉ y₀ y₁ y₂ y₃ none = x₆ refl
+statement-cases P (suc (suc (suc (suc (suc (suc (suc zero))))))) a b c d l x₀ x₁ x₂ x₃ x₄ x₅ x₆ x₇ x₈ x₉ y₀ y₁ y₂ y₃ none = x₇ refl
+statement-cases P (suc (suc (suc (suc (suc (suc (suc (suc zero)))))))) a b c d l x₀ x₁ x₂ x₃ x₄ x₅ x₆ x₇ x₈ x₉ y₀ y₁ y₂ y₃ none = x₈ refl
+statement-cases P (suc (suc (suc (suc (suc (suc (suc (suc (suc zero))))))))) a b c d l x₀ x₁ x₂ x₃ x₄ x₅ x₆ x₇ x₈ x₉ y₀ y₁ y₂ y₃ none = x₉ refl
+statement-cases P (suc (suc (suc (suc (suc (suc (suc (suc (suc (suc zero)))))))))) a b c d l x₀ x₁ x₂ x₃ x₄ x₅ x₆ x₇ x₈ x₉ y₀ y₁ y₂ y₃ none = y₀ refl
+statement-cases P (suc (suc (suc (suc (suc (suc (suc (suc (suc (suc (suc zero))))))))))) a b c d l x₀ x₁ x₂ x₃ x₄ x₅ x₆ x₇ x₈ x₉ y₀ y₁ y₂ y₃ none = y₁ refl
+statement-cases P (suc (suc (suc (suc (suc (suc (suc (suc (suc (suc (suc (suc zero)))))))))))) a b c d l x₀ x₁ x₂ x₃ x₄ x₅ x₆ x₇ x₈ x₉ y₀ y₁ y₂ y₃ none = y₂ refl
+statement-cases P (suc (suc (suc (suc (suc (suc (suc (suc (suc (suc (suc (suc (suc zero))))))))))))) a b c d l x₀ x₁ x₂ x₃ x₄ x₅ x₆ x₇ x₈ x₉ y₀ y₁ y₂ y₃ none = y₃ refl
+statement-cases P (suc (suc (suc (suc (suc (suc (suc (suc (suc (suc (suc (suc (suc (suc k)))))))))))))) a b c d l x₀ x₁ x₂ x₃ x₄ x₅ x₆ x₇ x₈ x₉ y₀ y₁ y₂ y₃ none = none

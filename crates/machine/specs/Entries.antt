@@ -34,7 +34,7 @@ pub data Unary : Type 0 where
   noUnary : Unary
 
 unfoldable pub unaryAt : ℕ → Unary
-unaryAt o = pick (eqb o 1) minus (pick (eqb o 2) not (pick (eqb o 3) val noUnary))
+unaryAt o = getD (noUnary ∷ minus ∷ not ∷ val ∷ []) o noUnary
 
 -- the relations (10.1), + - * / mod (10.2), and, or (10.2, 10.3)
 pub data Binary : Type 0 where
@@ -45,11 +45,9 @@ pub data Binary : Type 0 where
 
 unfoldable pub binaryAt : ℕ → Binary
 binaryAt o =
-    pick (eqb o 1) equal (pick (eqb o 2) notEqual
-    (pick (eqb o 3) less (pick (eqb o 4) notGreater (pick (eqb o 5) greater (pick (eqb o 6) notLess
-    (pick (eqb o 7) add (pick (eqb o 8) subtract (pick (eqb o 9) multiply (pick (eqb o 10) divide (pick (eqb o 11) modulus
-    (pick (eqb o 12) and (pick (eqb o 13) or
-    noBinary))))))))))))
+    getD
+    (noBinary ∷ equal ∷ notEqual ∷ less ∷ notGreater ∷ greater ∷ notLess ∷ add ∷ subtract ∷ multiply ∷ divide ∷ modulus ∷ and ∷ or ∷ [])
+    o noBinary
 
 -- variables: whole (8.3), field (8.4), indexed (8.5). Expressions: constant (6), retrieval of a variable (8.7), operators (10), type transfer (9.2),
 -- string constant (6; 02, b: its first character and its length)
@@ -65,7 +63,7 @@ pub data Node : Type 0 where
   string : ℕ → ℕ → Node
   noNode : Node
 
--- a node of kind k, from 0 on, with its fields p, q and v
+-- a node of kind k, with its fields p, q and v; the kinds are listed in order, from 0 on
 unfoldable pub nodeOf : ℕ → ℕ → ℕ → ℕ → Node
 nodeOf k p q v =
     getD
@@ -108,24 +106,13 @@ pub data Statement : Type 0 where
   blockEnd : Statement
   noStatement : Statement
 
--- a statement of kind k
+-- a statement of kind k; the kinds are listed in order, from 0 on
 unfoldable pub statementOf : ℕ → ℕ → ℕ → ℕ → ℕ → ℕ → Statement
 statementOf k a b c d link =
-    pick (eqb k 0) skip
-    (pick (eqb k 1) (assign a b)
-    (pick (eqb k 2) (localCall a c d)
-    (pick (eqb k 3) (processCall a b c d)
-    (pick (eqb k 4) (create a)
-    (pick (eqb k 5) (start a c d)
-    (pick (eqb k 6) (opener if)
-    (pick (eqb k 7) (opener while)
-    (pick (eqb k 8) (opener when)
-    (pick (eqb k 9) (opener cycle)
-    (pick (eqb k 10) (arm a link)
-    (pick (eqb k 11) (endArms link)
-    (pick (eqb k 12) (write a b)
-    (pick (eqb k 13) blockEnd
-    noStatement)))))))))))))
+    getD
+    (skip ∷ assign a b ∷ localCall a c d ∷ processCall a b c d ∷ create a ∷ start a c d
+    ∷ opener if ∷ opener while ∷ opener when ∷ opener cycle ∷ arm a link ∷ endArms link ∷ write a b ∷ blockEnd ∷ [])
+    k noStatement
 
 unfoldable pub stmtAt : Table → ℕ → Statement
 stmtAt T i =

@@ -19,7 +19,8 @@ use Rattle.sizes.specs.Sizes.{wordsOf, varOffset, moduleWords}
 use Rattle.sizes.proofs.Judging.{var-none, var-more}
 use Rattle.machine.specs.Memory.{Memory}
 use Rattle.machine.specs.Layout.{location, linkAt, statusAt, moduleAt, statementAt, frameAt, topAt, worksAt, holderAt, depthAt, createdAt, failureAt, numberAt, callerFrame, callStatement, callerWorks, calledBlock}
-use Rattle.machine.specs.Entries.{waits, Statement, statementOf, stmtAt}
+use Rattle.machine.specs.Entries.{waits, statementOf, stmtAt}
+use Rattle.machine.proofs.Entries.{statement-cases}
 use Rattle.machine.specs.Variables.{varWords, firstWords, frameWords, isModule, isProcedure}
 use Rattle.machine.specs.Rule.{liesIn, calls, mayWait, isCreated, worked, holdsOn, worksBy, modulesHold, framesHold, frameOk, chain, moduleOk, startedOk, processOk, failureOk, runOk, rule}
 use Rattle.machine.specs.Outcomes.{isFailure}
@@ -56,27 +57,17 @@ unfolding liesIn both
 lies-after T b c k n e l h = rw (← e, le-leb k c l, ← h)
 
 -- a statement that is no call, or no when or cycle
-no-pick : (g : Statement → Bool) (b : Bool) (x y : Statement) → g x ≡ false → g y ≡ false → g (pick b x y) ≡ false
-no-pick g true x y h k = h
-no-pick g false x y h k = k
-
 no-call : (q k a b c d l : ℕ) → (k ≡ 2 → ⊥) → (k ≡ 3 → ⊥) → calls q (statementOf k a b c d l) ≡ false
-unfolding statementOf calls
+unfolding calls
 no-call q k a b c d l h g =
-    rw (ne-eqb k 2 h, ne-eqb k 3 g)
-    (no-pick (calls q) (eqb k 0) _ _ refl (no-pick (calls q) (eqb k 1) _ _ refl (no-pick (calls q) (eqb k 4) _ _ refl
-    (no-pick (calls q) (eqb k 5) _ _ refl (no-pick (calls q) (eqb k 6) _ _ refl (no-pick (calls q) (eqb k 7) _ _ refl
-    (no-pick (calls q) (eqb k 8) _ _ refl (no-pick (calls q) (eqb k 9) _ _ refl (no-pick (calls q) (eqb k 10) _ _ refl
-    (no-pick (calls q) (eqb k 11) _ _ refl (no-pick (calls q) (eqb k 12) _ _ refl (no-pick (calls q) (eqb k 13) _ _ refl refl))))))))))))
+    statement-cases (λ s. calls q s ≡ false) k a b c d l
+    (λ e. refl) (λ e. refl) (λ e. absurd (h e)) (λ e. absurd (g e)) (λ e. refl) (λ e. refl) (λ e. refl) (λ e. refl) (λ e. refl) (λ e. refl) (λ e. refl) (λ e. refl) (λ e. refl) (λ e. refl) refl
 
 no-wait : (k a b c d l : ℕ) → (k ≡ 8 → ⊥) → (k ≡ 9 → ⊥) → mayWait (statementOf k a b c d l) ≡ false
-unfolding statementOf mayWait waits
+unfolding mayWait waits
 no-wait k a b c d l h g =
-    rw (ne-eqb k 8 h, ne-eqb k 9 g)
-    (no-pick mayWait (eqb k 0) _ _ refl (no-pick mayWait (eqb k 1) _ _ refl (no-pick mayWait (eqb k 2) _ _ refl
-    (no-pick mayWait (eqb k 3) _ _ refl (no-pick mayWait (eqb k 4) _ _ refl (no-pick mayWait (eqb k 5) _ _ refl
-    (no-pick mayWait (eqb k 6) _ _ refl (no-pick mayWait (eqb k 7) _ _ refl (no-pick mayWait (eqb k 10) _ _ refl
-    (no-pick mayWait (eqb k 11) _ _ refl (no-pick mayWait (eqb k 12) _ _ refl (no-pick mayWait (eqb k 13) _ _ refl refl))))))))))))
+    statement-cases (λ s. mayWait s ≡ false) k a b c d l
+    (λ e. refl) (λ e. refl) (λ e. refl) (λ e. refl) (λ e. refl) (λ e. refl) (λ e. refl) (λ e. refl) (λ e. absurd (h e)) (λ e. absurd (g e)) (λ e. refl) (λ e. refl) (λ e. refl) (λ e. refl) refl
 
 module _ (T : Table) (c n : ℕ) (e : n ≡ stmtCount T) where
   pub wait-beyond : n ≤ c → false ≡ mayWait (stmtAt T c)
