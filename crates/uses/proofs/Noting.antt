@@ -2,29 +2,46 @@
 use Prim.Native.Nat.{ℕ, zero, suc, _+_, _≤_, _<_}
 use mathlib.Core.Path.{_≡_, refl, sym, ap, _∙_}
 use mathlib.Core.Bool.{Bool}
+use mathlib.Core.Logic.{_⊎_, inl, inr}
 use mathlib.Core.List.{List, [], _∷_, _++_, append-nil}
 use native.Mathlib.Omega.{arith}
-use lib.ListN.{length, getD, List·getD-eq-default}
-use lib.Dec.{eqb}
-use borrow.Author.Tests.{eq-eqb, ne-eqb, eqb-true, eqb-false}
+use lib.ListN.{length, getD}
+use lib.Dec.{eqb, ltb}
+use borrow.Author.Tests.{eq-eqb, ne-eqb, eqb-true, eqb-false, le-ltb}
 use Rattle.basics.specs.Cases.{cases}
-use Rattle.basics.specs.Choice.{allBelow}
+use Rattle.basics.specs.Choice.{allBelow, pick}
 use Rattle.basics.specs.Marks.{occurs, gather}
 use Rattle.basics.specs.Loops.{marked, Seen}
 use Rattle.basics.proofs.Marking.{length-marked, seen-zeros, seen-more, gather-more}
 use Rattle.table.specs.Table.{Table}
 use Rattle.table.specs.Entries.{argCount, argNode, nodeCount, nodeKind, nodeP, nodeQ, stmtCount, stmtKind, stmtA, stmtB}
+use Rattle.table.proofs.EachKind.{node-kinds, stmt-kinds}
 use Rattle.uses.specs.Uses.{entryUses, sectionUses, uses, once, usedOnce}
-use Rattle.uses.specs.Marked.{operandCounts, operands, stmtNodeCounts, stmtNodes, firstOf, markedAll, Blank, oneMark}
+use Rattle.uses.specs.Marked.{operands, stmtNodes, firstOf, markedAll, Blank, oneMark}
 use Rattle.uses.proofs.Rows.{node-uses, stmt-uses, arg-uses, uses-are}
 
-pub operands-none : (k : ℕ) → 9 ≤ k → 0 ≡ operands k
-unfolding operands
-operands-none k h = sym (List·getD-eq-default {A = ℕ} operandCounts 0 h)
+-- what each arm of the code gives: the numbers that stand alone, then the ranges between them
+module _ (f : ℕ → ℕ) (k x y n : ℕ) (a : n ≡ f x) (b : n ≡ f y) where
+  pub either : (k ≡ x) ⊎ (k ≡ y) → n ≡ f k
+  either (inl e) = rw e a
+  either (inr e) = rw e b
 
-pub nodes-none : (k : ℕ) → 14 ≤ k → 0 ≡ stmtNodes k
+after : (k x y : ℕ) → x ≤ k → y ≤ k → _≡_ {A = ℕ} (pick (ltb k x) 0 (pick (ltb k y) 1 0)) 0
+after k x y h g = rw (le-ltb k x h, le-ltb k y g)
+
+pub operands-else : (k : ℕ) → ((k ≡ 3) ⊎ (k ≡ 6) → ⊥) → ((k ≡ 2) ⊎ (k ≡ 7) → ⊥) → pick (ltb k 2) 0 (pick (ltb k 6) 1 0) ≡ operands k
+unfolding operands
+operands-else =
+    node-kinds (λ k. ((k ≡ 3) ⊎ (k ≡ 6) → ⊥) → ((k ≡ 2) ⊎ (k ≡ 7) → ⊥) → pick (ltb k 2) 0 (pick (ltb k 6) 1 0) ≡ operands k)
+    (λ a b. refl) (λ a b. refl) (λ a b. absurd (b (inl refl))) (λ a b. absurd (a (inl refl))) (λ a b. refl) (λ a b. refl) (λ a b. absurd (a (inr refl)))
+    (λ a b. absurd (b (inr refl))) (λ a b. refl) (λ k a b. after (suc (suc (suc (suc (suc (suc (suc (suc (suc k))))))))) 2 6 (omega arith) (omega arith))
+
+pub nodes-else : (k : ℕ) → ((k ≡ 1) ⊎ (k ≡ 12) → ⊥) → (k ≡ 10 → ⊥) → pick (ltb k 3) 0 (pick (ltb k 6) 1 0) ≡ stmtNodes k
 unfolding stmtNodes
-nodes-none k h = sym (List·getD-eq-default {A = ℕ} stmtNodeCounts 0 h)
+nodes-else =
+    stmt-kinds (λ k. ((k ≡ 1) ⊎ (k ≡ 12) → ⊥) → (k ≡ 10 → ⊥) → pick (ltb k 3) 0 (pick (ltb k 6) 1 0) ≡ stmtNodes k)
+    (λ a b. refl) (λ a b. absurd (a (inl refl))) (λ a b. refl) (λ a b. refl) (λ a b. refl) (λ a b. refl) (λ a b. refl) (λ a b. refl) (λ a b. refl)
+    (λ a b. refl) (λ a b. absurd (b refl)) (λ a b. refl) (λ a b. absurd (a (inr refl))) (λ a b. refl) (λ k a b. after (suc (suc (suc (suc (suc (suc (suc (suc (suc (suc (suc (suc (suc (suc k)))))))))))))) 3 6 (omega arith) (omega arith))
 
 -- none, one or two numbers are marked
 module _ (k x y : ℕ) (seen : List ℕ) where
