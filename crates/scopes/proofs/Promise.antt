@@ -27,11 +27,11 @@ pub record Among (T : Table) (b x : ℕ) : Type 0 where
   pub high : x < firstVar T b + vars T b
 
 -- a test that led to true held, and so did what follows it
-first : (c d : Bool) → pick c d false ≡ true → c ≡ true
+pub first : (c d : Bool) → pick c d false ≡ true → c ≡ true
 first true d h = refl
 first false d h = no-true h
 
-next : (c d : Bool) → pick c d false ≡ true → d ≡ true
+pub next : (c d : Bool) → pick c d false ≡ true → d ≡ true
 next true d h = h
 next false d h = no-true h
 
@@ -41,7 +41,7 @@ is-among T b x h = record { low = leb-true (firstVar T b) x (first _ _ h); high 
 
 -- nodes
 module _ (T : Table) (b n : ℕ) (h : nodeScoped T b n ≡ true) where
-  visible-whole : nodeKind T n ≡ 1 → visible T b (nodeP T n) ≡ true
+  pub visible-whole : nodeKind T n ≡ 1 → visible T b (nodeP T n) ≡ true
   visible-whole k = rw (node-scope, k) at h
 
   -- a whole variable is the block's or its owner's
@@ -71,7 +71,7 @@ module _ (T : Table) (b n : ℕ) (h : nodeScoped T b n ≡ true) where
     pub operand-scoped : nodeScoped T b (nodeP T n) ≡ true
     operand-scoped = operand (nodeP T n) (first _ _ operands) .1
 
-    seconds : names 5 (held T 5 n 2) ≡ true → (nodeQ T n < n) × (nodeScoped T b (nodeQ T n) ≡ true)
+    pub seconds : names 5 (held T 5 n 2) ≡ true → (nodeQ T n < n) × (nodeScoped T b (nodeQ T n) ≡ true)
     seconds e = operand (nodeQ T n) (rw e at (next (upto false (nodeScope T b) n (nodeP T n)) _ operands))
 
   -- an index, and the second operand of a binary node
@@ -101,13 +101,13 @@ module _ (T : Table) (h : scoped T ≡ true) (i : ℕ) (l : i < stmtCount T) (b 
   unfolding fieldsScoped
   named a = rw a at fields
 
-  in-a : names 5 (held T 6 i 1) ≡ true → nodeScoped T b (stmtA T i) ≡ true
+  pub in-a : names 5 (held T 6 i 1) ≡ true → nodeScoped T b (stmtA T i) ≡ true
   in-a a = first _ _ (named a)
 
-  in-b : names 5 (held T 6 i 1) ≡ true → names 5 (held T 6 i 2) ≡ true → nodeScoped T b (stmtB T i) ≡ true
+  pub in-b : names 5 (held T 6 i 1) ≡ true → names 5 (held T 6 i 2) ≡ true → nodeScoped T b (stmtB T i) ≡ true
   in-b a c = rw c at (next (nodeScoped T b (stmtA T i)) _ (named a))
 
-  in-arguments : isCall T i ≡ true → (k : ℕ) → k < stmtD T i → nodeScoped T b (argNode T (stmtC T i + k)) ≡ true
+  pub in-arguments : isCall T i ≡ true → (k : ℕ) → k < stmtD T i → nodeScoped T b (argNode T (stmtC T i + k)) ≡ true
   unfolding argumentsScoped argumentScoped
   in-arguments a k m = all-at (stmtD T i) (argumentScoped T b (stmtC T i)) (rw a at (both-r (staysIn T i b) _ rest)) k m
 

@@ -2,16 +2,19 @@
 use Prim.Native.Nat.{ℕ, suc}
 use mathlib.Core.Path.{_≡_, refl, ap}
 use mathlib.Core.Bool.{Bool, true, false}
+use mathlib.Core.List.{[], _∷_}
 use native.Mathlib.Omega.{arith}
 use lib.Dec.{eqb, leb}
-use borrow.Author.Tests.{ne-eqb, lt-leb}
+use borrow.Author.Tests.{ne-eqb, le-leb, lt-leb}
 use Rattle.basics.specs.Choice.{pick, both}
 use Rattle.basics.specs.Course.{upto, course}
+use Rattle.basics.specs.Marks.{gather}
 use Rattle.table.specs.Table.{Table}
-use Rattle.table.specs.Entries.{nodeKind, nodeP, nodeQ, stmtKind}
+use Rattle.table.specs.Entries.{nodeKind, nodeP, nodeQ, stmtKind, stmtA, stmtB}
 use Rattle.table.specs.Kinds.{names, rows, rowOf, held, eachField, isCall}
 use Rattle.table.proofs.EachKind.{node-kinds, stmt-kinds}
 use Rattle.table.proofs.EachField.{alone, all-four, all-six}
+use Rattle.uses.specs.Uses.{fieldUses, entryUses}
 use Rattle.scopes.specs.Scopes.{visible, fieldScoped, nodeScope, nodeScoped}
 use Rattle.scopes.specs.Parts.{fieldsScoped}
 
@@ -25,6 +28,26 @@ module _ (T : Table) (n : ℕ) where
   -- element 3 and binary 6 have two operands
   pub has-second : names 5 (held T 5 n 2) ≡ pick (eqb (nodeKind T n) 3) true (eqb (nodeKind T n) 6)
   has-second = second-at (nodeKind T n) refl
+
+  first-at : (k : ℕ) → nodeKind T n ≡ k → names 5 (held T 5 n 1) ≡ pick (leb 2 (nodeKind T n)) (leb (nodeKind T n) 7) false
+  unfolding names held rowOf rows
+  first-at =
+      node-kinds (λ k. nodeKind T n ≡ k → names 5 (held T 5 n 1) ≡ pick (leb 2 (nodeKind T n)) (leb (nodeKind T n) 7) false)
+      (λ e. rw e) (λ e. rw e) (λ e. rw e) (λ e. rw e) (λ e. rw e) (λ e. rw e) (λ e. rw e) (λ e. rw e) (λ e. rw e) (λ k e. rw (e, le-leb 2 (suc (suc (suc (suc (suc (suc (suc (suc (suc k))))))))) (omega arith), lt-leb (suc (suc (suc (suc (suc (suc (suc (suc (suc k))))))))) 7 (omega arith)))
+
+  -- field 2 to transfer 7 have an operand
+  pub has-first : names 5 (held T 5 n 1) ≡ pick (leb 2 (nodeKind T n)) (leb (nodeKind T n) 7) false
+  has-first = first-at (nodeKind T n) refl
+
+  operands-at : (k : ℕ) → nodeKind T n ≡ k → entryUses T 5 n ≡ pick (names 5 (held T 5 n 1)) (pick (names 5 (held T 5 n 2)) (nodeQ T n ∷ nodeP T n ∷ []) (nodeP T n ∷ [])) []
+  unfolding entryUses gather fieldUses names held rowOf rows
+  operands-at =
+      node-kinds (λ k. nodeKind T n ≡ k → entryUses T 5 n ≡ pick (names 5 (held T 5 n 1)) (pick (names 5 (held T 5 n 2)) (nodeQ T n ∷ nodeP T n ∷ []) (nodeP T n ∷ [])) [])
+      (λ e. rw e) (λ e. rw e) (λ e. rw e) (λ e. rw e) (λ e. rw e) (λ e. rw e) (λ e. rw e) (λ e. rw e) (λ e. rw e) (λ k e. rw e)
+
+  -- the nodes that a node uses
+  pub operands-are : entryUses T 5 n ≡ pick (names 5 (held T 5 n 1)) (pick (names 5 (held T 5 n 2)) (nodeQ T n ∷ nodeP T n ∷ []) (nodeP T n ∷ [])) []
+  operands-are = operands-at (nodeKind T n) refl
 
   module _ (b : ℕ) (r : ℕ → Bool) where
     test : ℕ → Bool
@@ -98,6 +121,16 @@ module _ (T : Table) (i : ℕ) where
 
   pub names-b : names 5 (held T 6 i 2) ≡ pick (eqb (stmtKind T i) 1) true (eqb (stmtKind T i) 12)
   names-b = b-at (stmtKind T i) refl
+
+  fields-at : (k : ℕ) → stmtKind T i ≡ k → entryUses T 6 i ≡ pick (names 5 (held T 6 i 1)) (pick (names 5 (held T 6 i 2)) (stmtB T i ∷ stmtA T i ∷ []) (stmtA T i ∷ [])) []
+  unfolding entryUses gather fieldUses names held rowOf rows
+  fields-at =
+      stmt-kinds (λ k. stmtKind T i ≡ k → entryUses T 6 i ≡ pick (names 5 (held T 6 i 1)) (pick (names 5 (held T 6 i 2)) (stmtB T i ∷ stmtA T i ∷ []) (stmtA T i ∷ [])) [])
+      (λ e. rw e) (λ e. rw e) (λ e. rw e) (λ e. rw e) (λ e. rw e) (λ e. rw e) (λ e. rw e) (λ e. rw e) (λ e. rw e) (λ e. rw e) (λ e. rw e) (λ e. rw e) (λ e. rw e) (λ e. rw e) (λ k e. rw e)
+
+  -- the nodes that they name
+  pub fields-are : entryUses T 6 i ≡ pick (names 5 (held T 6 i 1)) (pick (names 5 (held T 6 i 2)) (stmtB T i ∷ stmtA T i ∷ []) (stmtA T i ∷ [])) []
+  fields-are = fields-at (stmtKind T i) refl
 
   call-at : (k : ℕ) → stmtKind T i ≡ k → isCall T i ≡ pick (eqb (stmtKind T i) 2) true (pick (eqb (stmtKind T i) 3) true (eqb (stmtKind T i) 5))
   unfolding isCall names held rowOf rows

@@ -1,73 +1,30 @@
--- One step of the scope of a node, and tests that are asked with locals. Assumes nothing.
-use Prim.Native.Nat.{ℕ, _+_, _≤_, _<_}
-use mathlib.Core.Path.{_≡_, sym, _∙_}
+-- Tests that are asked with locals, and handing a block to nodes. Assumes nothing.
+use Prim.Native.Nat.{ℕ, zero, suc, _+_, _≤_, _<_}
+use mathlib.Core.Path.{_≡_, refl, sym, ap, _∙_}
 use mathlib.Core.Bool.{Bool, true, false}
-use mathlib.Core.List.{List}
+use mathlib.Core.List.{List, [], _∷_, _++_}
 use native.Mathlib.Omega.{arith}
-use lib.Dec.{eqb, ltb}
-use borrow.Author.Tests.{ne-eqb, le-leb, lt-leb}
-use Rattle.basics.specs.Choice.{pick, allBelow}
-use Rattle.basics.specs.Loops.{Chain}
-use Rattle.basics.specs.Course.{upto}
-use Rattle.basics.proofs.Courses.{upto-below, upto-above}
+use native.Mathlib.Numerals.{add-one}
+use lib.ListN.{length, getD, set, length-set}
+use lib.Seq.{getD-set-same, getD-set-other, set-out}
+use lib.Dec.{eqb, leb, ltb}
+use borrow.Author.Tests.{ne-eqb, le-leb, lt-leb, eqb-true, eqb-false}
+use Rattle.basics.specs.Choice.{pick}
+use Rattle.basics.specs.Cases.{cases}
+use Rattle.basics.specs.Marks.{occurs, gather}
 use Rattle.basics.proofs.Tests.{tests}
-use Rattle.basics.proofs.Passes.{passes}
-use Rattle.basics.proofs.Chains.{chain-none, chain-more, carry-fail, carry-all}
-use Rattle.table.specs.Table.{Table, tableAt}
+use Rattle.table.specs.Table.{Table}
 use Rattle.code.specs.Code.{decoded, Decodes}
-use Rattle.table.specs.Entries.{owner, firstVar, vars, nodeKind, nodeP, nodeQ, stmtKind, stmtA, stmtC, stmtD, stmtCount}
+use Rattle.table.specs.Entries.{owner, firstVar, vars, nodeKind, nodeP, nodeQ, stmtKind, stmtA, stmtB, stmtC, stmtD}
 use Rattle.table.specs.Reading.{Field}
+use Rattle.table.specs.Kinds.{names, held, isCall}
 use Rattle.table.specs.Parts.{argumentPart, argumentIn}
 use Rattle.table.specs.declared.Sections.{Sections}
-use Rattle.table.proofs.Parts.{each-argument}
-use Rattle.nesting.specs.Nest.{blockStep}
-use Rattle.table.specs.Kinds.{names, held}
-use Rattle.scopes.specs.Scopes.{among, visible, nodeScope, nodeScoped, argumentScoped, argumentsScoped, stmtScoped, staysIn, scoped}
-use Rattle.scopes.specs.Parts.{scopedIn}
-use Rattle.scopes.proofs.Rows.{node-scope}
-
--- what is found of the nodes before n
-before : (T : Table) (b n x : ℕ) → x < n → upto false (nodeScope T b) n x ≡ nodeScoped T b x
-unfolding nodeScoped
-before T b n x l = upto-below false (nodeScope T b) n x l
-
--- one node
-module _ (T : Table) (b n k : ℕ) (hk : k ≡ nodeKind T n) where
-  pub scope-constant : k ≡ 0 → true ≡ nodeScoped T b n
-  scope-constant e = rw (node-scope, ← hk, e)
-
-  pub scope-none : (k ≡ 0 → ⊥) → 7 < k → true ≡ nodeScoped T b n
-  scope-none n0 l = rw (node-scope, ← hk, ne-eqb k 0 n0, ne-eqb k 1 (λ e. omega arith), lt-leb k 7 l)
-
-  module _ (x : ℕ) (hx : x ≡ nodeP T n) where
-    pub scope-whole : (r : Bool) → k ≡ 1 → r ≡ visible T b x → r ≡ nodeScoped T b n
-    scope-whole r e g = rw (node-scope, ← hk, e, ← hx) g
-
-    module _ (n0 : k ≡ 0 → ⊥) (n7 : k ≤ 7) (n1 : k ≡ 1 → ⊥) where
-      pub scope-high : n ≤ x → false ≡ nodeScoped T b n
-      scope-high l = rw (node-scope, ← hk, ne-eqb k 0 n0, ne-eqb k 1 n1, le-leb k 7 n7, ← hx, upto-above false (nodeScope T b) n x l)
-
-      module _ (c : Bool) (l : x < n) (hc : c ≡ nodeScoped T b x) where
-        -- what the definition comes to
-        go-on : (r : Bool) → r ≡ pick c (pick (names 5 (held T 5 n 2)) (upto false (nodeScope T b) n (nodeQ T n)) true) false → r ≡ nodeScoped T b n
-        go-on r e =
-            rw (node-scope, ← hk, ne-eqb k 0 n0, ne-eqb k 1 n1, le-leb k 7 n7, ← hx, before T b n x l, ← hc) e
-
-        pub scope-not : c ≡ false → false ≡ nodeScoped T b n
-        scope-not e = go-on false (rw e)
-
-        module _ (a : Bool) (ha : a ≡ names 5 (held T 5 n 2)) (e : c ≡ true) where
-          pub scope-one : a ≡ false → true ≡ nodeScoped T b n
-          scope-one d = go-on true (rw (e, ← ha, d))
-
-          module _ (y : ℕ) (hy : y ≡ nodeQ T n) (d : a ≡ true) where
-            pub scope-second-high : n ≤ y → false ≡ nodeScoped T b n
-            scope-second-high m = go-on false (rw (e, ← ha, d, ← hy, upto-above false (nodeScope T b) n y m))
-
-            pub scope-two : (r : Bool) → y < n → r ≡ nodeScoped T b y → r ≡ nodeScoped T b n
-            scope-two r m g = go-on r (rw (e, ← ha, d, ← hy, before T b n y m) g)
-
-pub ruleset scopes = (scope-constant, scope-none, scope-whole, scope-high, scope-not, scope-one, scope-second-high, scope-two)
+use Rattle.table.proofs.Parts.{argument-is}
+use Rattle.uses.specs.Uses.{entryUses}
+use Rattle.scopes.specs.Scopes.{among, visible, staysIn}
+use Rattle.scopes.specs.Handed.{given, partNode, calledNode, argNodes, roots, fits}
+use Rattle.scopes.proofs.Rows.{has-first, operands-are, fields-are}
 
 -- tests with locals
 pub of-among : (T : Table) (b x f v : ℕ) → f ≡ firstVar T b → v ≡ vars T b → ltb x (f + v) ≡ ltb x (firstVar T b + vars T b)
@@ -76,13 +33,17 @@ of-among T b x f v h g = rw (h, g)
 pub of-owner : (T : Table) (b o x : ℕ) (r : Bool) → o ≡ owner T b → r ≡ among T o x → r ≡ among T (owner T b) x
 of-owner T b o x r h e = rw (← h) e
 
-pub of-node : (T : Table) (b x n : ℕ) (r : Bool) → x ≡ n → r ≡ nodeScoped T b x → r ≡ nodeScoped T b n
-of-node T b x n r h e = rw (← h) e
+pub ruleset rows = (tests, of-among, of-owner)
 
-pub of-arguments : (T : Table) (b c d i : ℕ) (r : Bool) → c ≡ stmtC T i → d ≡ stmtD T i → r ≡ argumentsScoped T b c d → r ≡ argumentsScoped T b (stmtC T i) (stmtD T i)
-of-arguments T b c d i r h g e = rw (← h, ← g) e
+-- an operand: between two numbers
+module _ (k n : ℕ) (h : k ≡ n) where
+  pub first-low : 2 ≤ k → leb k 7 ≡ pick (leb 2 n) (leb n 7) false
+  first-low l = rw (← h, le-leb 2 k l)
 
-pub ruleset rows = (tests, of-among, of-owner, of-arguments)
+  pub first-none : k < 2 → false ≡ pick (leb 2 n) (leb n 7) false
+  first-none l = rw (← h, lt-leb 2 k l)
+
+pub ruleset firsts = (first-low, first-none)
 
 -- a local call
 module _ (T : Table) (i b k : ℕ) (hk : k ≡ stmtKind T i) where
@@ -94,34 +55,131 @@ module _ (T : Table) (i b k : ℕ) (hk : k ≡ stmtKind T i) where
   unfolding staysIn
   stays-local a p o e ha hp ho = rw (← hk, e, ← ha, ← hp, ← ho)
 
+-- one node: beyond the array nothing is written
+pub hand-out : (l : List ℕ) (n b : ℕ) → length l ≤ n → l ≡ set l n b
+hand-out l n b h = sym (set-out l n b h)
+
+pub length-given : (b : ℕ) (xs l : List ℕ) → length (given b xs l) ≡ length l
+unfolding given
+length-given b [] l = refl
+length-given b (x ∷ xs) l = length-set (given b xs l) x b ∙ length-given b xs l
+
+pub given-long : (b : ℕ) (xs l m : List ℕ) → m ≡ given b xs l → length m ≡ length l
+given-long b xs l m e = ap length e ∙ length-given b xs l
+
 -- the arguments of a call
-pub of-part : (T : Table) (b w : ℕ) (part : List ℕ) (k n : ℕ) (r : Bool) → Field (argumentIn part w k) n → r ≡ nodeScoped T b n → r ≡ scopedIn T b w part k
-unfolding scopedIn
-of-part T b w part k n r h e = rw (← h .is) e
+module _ (b w : ℕ) (part l₀ : List ℕ) where
+  pub part-none : l₀ ≡ given b (gather (partNode part w) 0) l₀
+  unfolding given gather
+  part-none = refl
 
-pub ruleset parts = (passes, of-part)
+  pub part-more : (k n : ℕ) (l m : List ℕ) → Field (argumentIn part w k) n → l ≡ given b (gather (partNode part w) k) l₀ → m ≡ set l n b → m ≡ given b (gather (partNode part w) (k + 1)) l₀
+  unfolding given gather partNode
+  part-more k n l m h e g = rw (add-one k, ← h .is, ← e) g
 
-pub arguments-each :
-    (t : List ℕ) (s : Sections) (c : List ℕ) → Decodes t s c → (b first count : ℕ) (part : List ℕ) (r : Bool) → part ≡ argumentPart (s .w) t first count
-    → r ≡ allBelow count (scopedIn (decoded c) b (s .w) part) → r ≡ argumentsScoped (decoded c) b first count
-unfolding argumentsScoped argumentScoped scopedIn
-arguments-each t s c o b first count part r h e = e ∙ rw (h, o .is) (each-argument t s (o .table) first count (λ k n. nodeScoped (tableAt (s .w) t) b n))
+  pub part-all : (k count : ℕ) (l : List ℕ) → l ≡ given b (gather (partNode part w) k) l₀ → k ≤ count → count ≤ k → l ≡ given b (gather (partNode part w) count) l₀
+  part-all k count l e h g = let q : k ≡ count = omega arith in rw (← q) e
 
--- the pass over all statements
-module _ (T : Table) where
-  pub scoped-none : Chain (blockStep T) (stmtScoped T) 0 0
-  scoped-none = chain-none (blockStep T) (stmtScoped T)
+pub ruleset parts = (given-long, part-none, part-more, part-all)
 
-  module _ (i b : ℕ) (h : Chain (blockStep T) (stmtScoped T) i b) (r : Bool) (hr : r ≡ stmtScoped T i b) where
-    pub scoped-more : (x : ℕ) → r ≡ true → x ≡ blockStep T i b → Chain (blockStep T) (stmtScoped T) (i + 1) x
-    scoped-more x e g = chain-more (blockStep T) (stmtScoped T) i b h x (sym hr ∙ e) g
+gather-same : (f g : ℕ → List ℕ) (n : ℕ) → ((k : ℕ) → k < n → f k ≡ g k) → gather f n ≡ gather g n
+unfolding gather
+gather-same f g zero h = refl
+gather-same f g (suc n) h = let e : f n ≡ g n = h n (omega arith) in let i = gather-same f g n (λ k l. h k (omega arith)) in rw (e, i)
 
-    pub scoped-fail : (c : ℕ) → c ≡ stmtCount T → i < c → r ≡ false → false ≡ scoped T
-    unfolding scoped
-    scoped-fail c hc l e = carry-fail (blockStep T) (stmtScoped T) i b h (stmtCount T) (rw hc at l) (sym hr ∙ e)
+module _ (t : List ℕ) (s : Sections) (c : List ℕ) (o : Decodes t s c) (first count : ℕ) where
+  part-nodes : gather (partNode (argumentPart (s .w) t first count) (s .w)) count ≡ gather (calledNode (decoded c) first) count
+  unfolding partNode calledNode
+  part-nodes = rw (o .is) (gather-same _ _ count (λ k l. ap (λ n. n ∷ []) (argument-is t s (o .table) first count k l)))
 
-  pub scoped-all : (i b c : ℕ) → Chain (blockStep T) (stmtScoped T) i b → c ≡ stmtCount T → i ≤ c → c ≤ i → true ≡ scoped T
-  unfolding scoped
-  scoped-all i b c h hc l g = carry-all (blockStep T) (stmtScoped T) i b h (stmtCount T) (rw hc at l) (rw hc at g)
+  pub arguments-given :
+      (b i : ℕ) (part l m : List ℕ) (r : Bool) → r ≡ isCall (decoded c) i → r ≡ true → first ≡ stmtC (decoded c) i → count ≡ stmtD (decoded c) i
+      → part ≡ argumentPart (s .w) t first count → m ≡ given b (gather (partNode part (s .w)) count) l → m ≡ given b (argNodes (decoded c) i) l
+  unfolding argNodes
+  arguments-given b i part l m r hr e hc hd h g = g ∙ rw (h, part-nodes, ← hr, e, hc, hd)
 
-pub ruleset statements = (scoped-none, scoped-more, scoped-fail, scoped-all)
+pub arguments-none : (T : Table) (b i : ℕ) (l : List ℕ) (r : Bool) → r ≡ isCall T i → r ≡ false → l ≡ given b (argNodes T i) l
+unfolding argNodes given
+arguments-none T b i l r h e = rw (← h, e)
+
+-- the nodes of fields
+module _ (T : Table) (b i : ℕ) (l : List ℕ) (r : Bool) (h : r ≡ names 5 (held T 6 i 1)) where
+  pub fields-none : r ≡ false → l ≡ given b (entryUses T 6 i) l
+  unfolding given
+  fields-none e = rw (fields-are, ← h, e)
+
+  module _ (x : ℕ) (m : List ℕ) (e : r ≡ true) (hx : x ≡ stmtA T i) (g : m ≡ set l x b) (q : Bool) (hq : q ≡ names 5 (held T 6 i 2)) where
+    pub fields-one : q ≡ false → m ≡ given b (entryUses T 6 i) l
+    unfolding given
+    fields-one d = rw (fields-are, ← h, e, ← hq, d, ← hx) g
+
+    pub fields-two : (y : ℕ) (n : List ℕ) → q ≡ true → y ≡ stmtB T i → n ≡ set m y b → n ≡ given b (entryUses T 6 i) l
+    unfolding given
+    fields-two y n d hy k = rw (fields-are, ← h, e, ← hq, d, ← hx, ← hy, ← g) k
+
+pub ruleset fields = (fields-none, fields-one, fields-two)
+
+-- the operands of a node
+module _ (T : Table) (b n : ℕ) (l : List ℕ) (r : Bool) (h : r ≡ names 5 (held T 5 n 1)) where
+  pub operands-none : r ≡ false → l ≡ given b (entryUses T 5 n) l
+  unfolding given
+  operands-none e = rw (operands-are, ← h, e)
+
+  module _ (x : ℕ) (m : List ℕ) (e : r ≡ true) (hx : x ≡ nodeP T n) (g : m ≡ set l x b) (q : Bool) (hq : q ≡ names 5 (held T 5 n 2)) where
+    pub operands-one : q ≡ false → m ≡ given b (entryUses T 5 n) l
+    unfolding given
+    operands-one d = rw (operands-are, ← h, e, ← hq, d, ← hx) g
+
+    pub operands-two : (y : ℕ) (k : List ℕ) → q ≡ true → y ≡ nodeQ T n → k ≡ set m y b → k ≡ given b (entryUses T 5 n) l
+    unfolding given
+    operands-two y k d hy p = rw (operands-are, ← h, e, ← hq, d, ← hx, ← hy, ← g) p
+
+pub ruleset operands = (operands-none, operands-one, operands-two)
+
+-- the arguments of a statement after its fields
+given-append : (b : ℕ) (xs ys l : List ℕ) → given b (xs ++ ys) l ≡ given b xs (given b ys l)
+unfolding given
+given-append b [] ys l = refl
+given-append b (x ∷ xs) ys l = ap (λ m. set m x b) (given-append b xs ys l)
+
+pub stmt-given : (T : Table) (b i : ℕ) (l m n : List ℕ) → m ≡ given b (entryUses T 6 i) l → n ≡ given b (argNodes T i) m → n ≡ given b (roots T i) l
+unfolding roots
+stmt-given T b i l m n h g = rw (given-append, ← h) g
+
+-- a whole variable, and a node of another kind
+module _ (T : Table) (n b k : ℕ) (hk : k ≡ nodeKind T n) where
+  pub fits-whole : (x v : ℕ) (r : Bool) → k ≡ 1 → x ≡ nodeP T n → v ≡ b → r ≡ visible T v x → r ≡ fits T n b
+  unfolding fits
+  fits-whole x v r e hx hv h = rw (← hk, e, ← hx, ← hv) h
+
+  pub whole-none : (l : List ℕ) → k ≡ 1 → l ≡ given b (entryUses T 5 n) l
+  unfolding given
+  whole-none l e = rw (operands-are, has-first, ← hk, e)
+
+  pub fits-other : (k ≡ 1 → ⊥) → true ≡ fits T n b
+  unfolding fits
+  fits-other h = rw (← hk, ne-eqb k 1 h)
+
+pub ruleset wholes = (fits-whole, whole-none, fits-other)
+
+-- what a list holds when b was handed to the nodes xs
+module _ (b : ℕ) where
+  pub given-there : (x : ℕ) (xs l : List ℕ) → 1 ≤ occurs x xs → x < length l → getD (given b xs l) x 0 ≡ b
+  unfolding given occurs
+  given-there x [] l h g = absurd (omega arith)
+  given-there x (y ∷ xs) l h g =
+      cases (eqb y x)
+      (λ e. let q : y ≡ x = eqb-true y x e in rw q (getD-set-same (given b xs l) x b 0 (rw (length-given b xs l) g)))
+      (λ e.
+      let k : 1 ≤ occurs x xs = rw e at h in
+      getD-set-other (given b xs l) y x b 0 (λ q. eqb-false y x e (sym q)) ∙ given-there x xs l k g)
+
+  pub given-other : (x : ℕ) (xs l : List ℕ) → occurs x xs ≡ 0 → getD (given b xs l) x 0 ≡ getD l x 0
+  unfolding given occurs
+  given-other x [] l h = refl
+  given-other x (y ∷ xs) l h =
+      cases (eqb y x)
+      (λ e. let k : occurs x xs + 1 ≡ 0 = rw e at h in absurd (omega arith))
+      (λ e.
+      let k : occurs x xs ≡ 0 = rw e at h in
+      getD-set-other (given b xs l) y x b 0 (λ q. eqb-false y x e (sym q)) ∙ given-other x xs l k)

@@ -1,18 +1,12 @@
 -- Inner: for code and proofs only; no public promise is said with these definitions.
--- The fields of a statement that name nodes, and arguments as the part of the table that holds them has them. Assumes nothing.
+-- The fields of a statement that name nodes. Assumes nothing.
 use Prim.Native.Nat.{ℕ}
 use mathlib.Core.Bool.{Bool, true, false}
-use mathlib.Core.List.{List}
 use Rattle.basics.specs.Choice.{pick}
 use Rattle.table.specs.Table.{Table}
 use Rattle.table.specs.Entries.{stmtA, stmtB}
 use Rattle.table.specs.Kinds.{names, held}
-use Rattle.table.specs.Parts.{argumentIn}
 use Rattle.scopes.specs.Scopes.{nodeScoped}
-
--- argument k of a call as its part of the table holds it (the finder's law makes it the table's)
-unfoldable pub scopedIn : Table → ℕ → ℕ → List ℕ → ℕ → Bool
-scopedIn T b w part k = nodeScoped T b (argumentIn part w k)
 
 -- of the fields of statement i, a and b alone name nodes
 unfoldable pub fieldsScoped : Table → ℕ → ℕ → Bool

@@ -1,14 +1,19 @@
-// Refusal 8: a variable is its block's or its owner's, and a local call stays in its module.
+// Refusal 8: a variable is its block's or its owner's, and a local call stays in its module. Each statement hands its block to the nodes that
+// it uses, and each node to its operands, which stand before it.
 use code::kinds;
 ghost use mathlib.Core.Path.{_≡_};
+ghost use mathlib.Core.Bool.{true};
 ghost use Prim.Native.Nat.{_+_, _≤_, _<_};
-ghost use Rattle.basics.specs.Choice.{allBelow};
+ghost use lib.ListN.{length, getD, set};
+ghost use Rattle.basics.specs.Marks.{gather};
 ghost use Rattle.code.specs.Code.{decoded, Decodes};
-ghost use Rattle.table.specs.Entries.{stmtA, stmtB};
+ghost use Rattle.table.specs.Entries.{nodeCount};
 ghost use Rattle.nesting.specs.Nest.{blockStep};
 ghost use Rattle.table.specs.Kinds.{names, held, isCall};
-ghost use Rattle.scopes.specs.Scopes.{among, visible, nodeScoped, argumentsScoped, staysIn, stmtScoped, scoped};
-ghost use Rattle.scopes.specs.Parts.{scopedIn, fieldsScoped};
+ghost use Rattle.numbers.specs.Ranges.{inRange};
+ghost use Rattle.uses.specs.Uses.{entryUses, usedOnce};
+ghost use Rattle.scopes.specs.Scopes.{among, visible, staysIn, scoped};
+ghost use Rattle.scopes.specs.Handed.{given, partNode, argNodes, roots, fits, Stays};
 
 fn is_among(c: &code::Slots, b: usize, x: usize) -> bool
     ensures { λ r. ⌜ r ≡ among (decoded (now (c .entry))) b x ⌝ }
@@ -30,6 +35,17 @@ fn is_visible(c: &code::Slots, b: usize, x: usize) -> bool
     is_among(c, o, x)
 }
 
+fn has_first(c: &code::Slots, n: usize) -> bool
+    ensures { λ r. ⌜ r ≡ names 5 (held (decoded (now (c .entry))) 5 n 1) ⌝ }
+{
+    let k = code::node_kind(c, n);
+    if kinds::FIELD <= k {
+        // A string holds characters, and no node.
+        return k <= kinds::TRANSFER;
+    }
+    false
+}
+
 fn has_second(c: &code::Slots, n: usize) -> bool
     ensures { λ r. ⌜ r ≡ names 5 (held (decoded (now (c .entry))) 5 n 2) ⌝ }
 {
@@ -38,70 +54,6 @@ fn has_second(c: &code::Slots, n: usize) -> bool
         return true;
     }
     k == kinds::BINARY
-}
-
-// Each whole variable in node n is visible in block b. Operands stand before their node, so the recursion ends; a node is used once, so a table
-// is gone through once.
-fn node_scoped(c: &code::Slots, b: usize, n: usize) -> bool
-    ensures { λ r. ⌜ r ≡ nodeScoped (decoded (now (c .entry))) b n ⌝ }
-{
-    let k = code::node_kind(c, n);
-    if k == kinds::CONSTANT {
-        return true;
-    }
-    // A string holds characters, and no node.
-    if kinds::TRANSFER < k {
-        return true;
-    }
-    let p = code::node_p(c, n);
-    if k == kinds::WHOLE {
-        return is_visible(c, b, p);
-    }
-    if n <= p {
-        return false;
-    }
-    if node_scoped(c, b, p) {
-        if has_second(c, n) {
-            let q = code::node_q(c, n);
-            if n <= q {
-                return false;
-            }
-            return node_scoped(c, b, q);
-        }
-        return true;
-    }
-    false
-}
-
-// The first `count` arguments that a part of a table with numbers of w bytes holds.
-fn part_scoped(c: &code::Slots, b: usize, part: &[u8], w: usize, count: usize) -> bool
-    requires { ⌜ (1 ≤ w) × (w ≤ 2) × (count < 65536) ⌝ }
-    ensures { λ r. ⌜ r ≡ allBelow count (scopedIn (decoded (now (c .entry))) b w (now (part .entry))) ⌝ }
-{
-    let mut k = 0;
-    while k < count {
-        if node_scoped(c, b, table::argument(part, w, k)) {
-            k += 1;
-        } else {
-            return false;
-        }
-    }
-    true
-}
-
-fn arguments_scoped(
-    t: &[u8],
-    s: table::Sections,
-    c: &code::Slots,
-    b: usize,
-    first: usize,
-    count: usize,
-) -> bool
-    requires { ⌜ Decodes (now t) s (now c) ⌝ }
-    requires { ⌜ count < 65536 ⌝ }
-    ensures { λ r. ⌜ r ≡ argumentsScoped (decoded (now (c .entry))) b first count ⌝ }
-{
-    part_scoped(c, b, table::call_arguments(t, s, first, count), s.w, count)
 }
 
 fn names_a(c: &code::Slots, i: usize) -> bool
@@ -149,32 +101,76 @@ fn has_arguments(c: &code::Slots, i: usize) -> bool
     k == kinds::START
 }
 
+fn narrow(b: usize) -> u16
+    requires { ⌜ b < 65536 ⌝ }
+    ensures { λ r. ⌜ r ≡ b ⌝ }
+{
+    b as u16
+}
+
+fn wide(b: u16) -> usize
+    ensures { λ r. ⌜ r ≡ b ⌝ }
+{
+    b as usize
+}
+
+// Node n is used in block b.
+fn hand(blocks: &mut [u16], n: usize, b: u16)
+    ensures { λ _. ⌜ now (blocks .exit) ≡ set (now (blocks .entry)) n b ⌝ }
+{
+    if n < blocks.len() {
+        blocks[n] = b;
+    }
+}
+
+// The first `count` arguments that a part of a table with numbers of w bytes holds.
+fn hand_part(blocks: &mut [u16], b: u16, part: &[u8], w: usize, count: usize)
+    requires { ⌜ (1 ≤ w) × (w ≤ 2) × (count < 65536) ⌝ }
+    ensures { λ _. ⌜ now (blocks .exit) ≡ given b (gather (partNode (now (part .entry)) w) count) (now (blocks .entry)) ⌝ }
+{
+    let mut k = 0;
+    while k < count {
+        hand(blocks, table::argument(part, w, k), b);
+        k += 1;
+    }
+}
+
+fn hand_arguments(
+    t: &[u8],
+    s: table::Sections,
+    c: &code::Slots,
+    blocks: &mut [u16],
+    b: u16,
+    i: usize,
+)
+    requires { ⌜ Decodes (now t) s (now c) ⌝ }
+    ensures { λ _. ⌜ now (blocks .exit) ≡ given b (argNodes (decoded (now (c .entry))) i) (now (blocks .entry)) ⌝ }
+{
+    if has_arguments(c, i) {
+        let count = code::stmt_d(c, i);
+        let part = table::call_arguments(t, s, code::stmt_c(c, i), count);
+        hand_part(blocks, b, part, s.w, count);
+    }
+}
+
 // The nodes that the fields of statement i name.
-fn a_scoped(c: &code::Slots, i: usize, b: usize) -> bool
-    ensures { λ r. ⌜ r ≡ nodeScoped (decoded (now (c .entry))) b (stmtA (decoded (now (c .entry))) i) ⌝ }
-{
-    node_scoped(c, b, code::stmt_a(c, i))
-}
-
-fn b_scoped(c: &code::Slots, i: usize, b: usize) -> bool
-    ensures { λ r. ⌜ r ≡ nodeScoped (decoded (now (c .entry))) b (stmtB (decoded (now (c .entry))) i) ⌝ }
-{
-    node_scoped(c, b, code::stmt_b(c, i))
-}
-
-fn fields_scoped(c: &code::Slots, i: usize, b: usize) -> bool
-    ensures { λ r. ⌜ r ≡ fieldsScoped (decoded (now (c .entry))) i b ⌝ }
+fn hand_fields(c: &code::Slots, blocks: &mut [u16], b: u16, i: usize)
+    ensures { λ _. ⌜ now (blocks .exit) ≡ given b (entryUses (decoded (now (c .entry))) 6 i) (now (blocks .entry)) ⌝ }
 {
     if names_a(c, i) {
-        if a_scoped(c, i, b) {
-            if names_b(c, i) {
-                return b_scoped(c, i, b);
-            }
-            return true;
+        hand(blocks, code::stmt_a(c, i), b);
+        if names_b(c, i) {
+            hand(blocks, code::stmt_b(c, i), b);
         }
-        return false;
     }
-    true
+}
+
+fn hand_stmt(t: &[u8], s: table::Sections, c: &code::Slots, blocks: &mut [u16], b: u16, i: usize)
+    requires { ⌜ Decodes (now t) s (now c) ⌝ }
+    ensures { λ _. ⌜ now (blocks .exit) ≡ given b (roots (decoded (now (c .entry))) i) (now (blocks .entry)) ⌝ }
+{
+    hand_fields(c, blocks, b, i);
+    hand_arguments(t, s, c, blocks, b, i);
 }
 
 // A local call from block b stays in its module.
@@ -189,22 +185,6 @@ fn stays_in(c: &code::Slots, i: usize, b: usize) -> bool
     true
 }
 
-fn stmt_scoped(t: &[u8], s: table::Sections, c: &code::Slots, i: usize, b: usize) -> bool
-    requires { ⌜ Decodes (now t) s (now c) ⌝ }
-    ensures { λ r. ⌜ r ≡ stmtScoped (decoded (now (c .entry))) i b ⌝ }
-{
-    if fields_scoped(c, i, b) {
-        if stays_in(c, i, b) {
-            if has_arguments(c, i) {
-                return arguments_scoped(t, s, c, b, code::stmt_c(c, i), code::stmt_d(c, i));
-            }
-            return true;
-        }
-        return false;
-    }
-    false
-}
-
 // The block of the statement after i, where b is that of i.
 fn block_step(c: &code::Slots, i: usize, b: usize) -> usize
     requires { ⌜ b < 65536 ⌝ }
@@ -216,16 +196,18 @@ fn block_step(c: &code::Slots, i: usize, b: usize) -> usize
     b
 }
 
-// Whether a table keeps the rule of refusal 8.
-pub fn all_scoped(t: &[u8], s: table::Sections, c: &code::Slots) -> bool
+// Hands the block of each statement to the nodes that it uses. Whether local calls stay in their modules.
+fn hand_stmts(t: &[u8], s: table::Sections, c: &code::Slots, blocks: &mut [u16]) -> bool
     requires { ⌜ Decodes (now t) s (now c) ⌝ }
-    ensures { λ r. ⌜ r ≡ scoped (decoded (now (c .entry))) ⌝ }
+    requires { ⌜ nodeCount (decoded (now c)) ≤ length (now blocks) ⌝ }
+    ensures { λ r. ⌜ Stays (decoded (now (c .entry))) r (now (blocks .exit)) ⌝ }
 {
     let count = code::statements(c);
     let mut b = 0;
     let mut i = 0;
     while i < count {
-        if stmt_scoped(t, s, c, i, b) {
+        if stays_in(c, i, b) {
+            hand_stmt(t, s, c, blocks, narrow(b), i);
             b = block_step(c, i, b);
             i += 1;
         } else {
@@ -233,4 +215,61 @@ pub fn all_scoped(t: &[u8], s: table::Sections, c: &code::Slots) -> bool
         }
     }
     true
+}
+
+fn hand_operands(c: &code::Slots, blocks: &mut [u16], b: u16, n: usize)
+    ensures { λ _. ⌜ now (blocks .exit) ≡ given b (entryUses (decoded (now (c .entry))) 5 n) (now (blocks .entry)) ⌝ }
+{
+    if has_first(c, n) {
+        hand(blocks, code::node_p(c, n), b);
+        if has_second(c, n) {
+            hand(blocks, code::node_q(c, n), b);
+        }
+    }
+}
+
+// Node n, in the block that it was handed, which it hands on.
+fn node_scoped(c: &code::Slots, blocks: &mut [u16], n: usize) -> bool
+    requires { ⌜ n < length (now blocks) ⌝ }
+    ensures fits { λ r. ⌜ r ≡ fits (decoded (now (c .entry))) n (getD (now (blocks .entry)) n 0) ⌝ }
+    ensures hands { λ r. ⌜ now (blocks .exit) ≡ given (getD (now (blocks .entry)) n 0) (entryUses (decoded (now (c .entry))) 5 n) (now (blocks .entry)) ⌝ }
+{
+    let b = blocks[n];
+    if code::node_kind(c, n) == kinds::WHOLE {
+        return is_visible(c, wide(b), code::node_p(c, n));
+    }
+    hand_operands(c, blocks, b, n);
+    true
+}
+
+// From the last node to the first: the user of a node is a statement or stands after it.
+fn nodes_scoped(c: &code::Slots, blocks: &mut [u16]) -> bool
+    requires { ⌜ inRange (decoded (now c)) ≡ true ⌝ }
+    requires { ⌜ usedOnce (decoded (now c)) ≡ true ⌝ }
+    requires { ⌜ Stays (decoded (now c)) true (now blocks) ⌝ }
+    ensures { λ r. ⌜ r ≡ scoped (decoded (now (c .entry))) ⌝ }
+{
+    let mut n = code::nodes(c);
+    while n > 0 {
+        if node_scoped(c, blocks, n - 1) {
+            n -= 1;
+        } else {
+            return false;
+        }
+    }
+    true
+}
+
+// Whether a table keeps the rule of refusal 8. `blocks` is lent, with room for a block for each node.
+pub fn all_scoped(t: &[u8], s: table::Sections, c: &code::Slots, blocks: &mut [u16]) -> bool
+    requires { ⌜ Decodes (now t) s (now c) ⌝ }
+    requires { ⌜ inRange (decoded (now c)) ≡ true ⌝ }
+    requires { ⌜ usedOnce (decoded (now c)) ≡ true ⌝ }
+    requires { ⌜ nodeCount (decoded (now c)) ≤ length (now blocks) ⌝ }
+    ensures { λ r. ⌜ r ≡ scoped (decoded (now (c .entry))) ⌝ }
+{
+    if hand_stmts(t, s, c, blocks) {
+        return nodes_scoped(c, blocks);
+    }
+    false
 }

@@ -26,7 +26,7 @@ use Rattle.verdict.specs.Verdict.{judged, judgedBytes, verdict}
 
 -- arrays of n rows, and of 2 more for the standard types, for a table whose sections have fewer
 module _ (w : ℕ) (t : List ℕ) (n : ℕ) (few : (k : ℕ) → tableAt w t .count k < n) where
-  rooms-new : Rooms (tableAt w t) (replicate n 0) (replicate (2 + n) 0) (replicate n 0) (replicate n 0)
+  rooms-new : Rooms (tableAt w t) (replicate n 0) (replicate (2 + n) 0) (replicate n 0) (replicate n 0) (replicate n 0)
   rooms-new =
       let a = few 5 in
       let k = few 0 in
@@ -39,6 +39,7 @@ module _ (w : ℕ) (t : List ℕ) (n : ℕ) (few : (k : ℕ) → tableAt w t .co
           clear = λ j h. getD-replicate {A = ℕ} n j 0 0 (rw (length-replicate {A = ℕ} n 0) at h);
         };
         forNodes = blank-new (nodeCount (tableAt w t)) n (omega arith);
+        forScopes = rw (length-replicate {A = ℕ} n 0) (omega arith);
       }
 
 -- THE SMALL EDITION: a count of one byte is at most 255
@@ -47,12 +48,16 @@ unfolding tableOf
 rows-small t bytes k = count-byte (bytesRead 1 t) (read-bytes 1 t bytes) k
 
 module _ (t : List ℕ) (bytes : (i : ℕ) → getD t i 0 < 256) where
-  pub rooms-small : (s : Sections) (c : List ℕ) → Decodes t s c → s .w ≡ 1 → Rooms (decoded c) (replicate 256 0) (replicate 258 0) (replicate 256 0) (replicate 256 0)
+  pub rooms-small : (s : Sections) (c : List ℕ) → Decodes t s c → s .w ≡ 1 → Rooms (decoded c) (replicate 256 0) (replicate 258 0) (replicate 256 0) (replicate 256 0) (replicate 256 0)
   rooms-small s c d e = rw (d .is, e) (rooms-new 1 t 256 (count-byte t bytes))
 
   -- a row for each row, and then the table
   pub decodable-small : (s : Sections) (c : List ℕ) → Of t s → s .w ≡ 1 → Blank c → Decodable t s c
   decodable-small s c o e b = record { table = o; blank = b; room = rw e (new-room t bytes) }
+
+-- a test that passed says the rule
+pub rule-holds : (r b : Bool) → r ≡ b → r ≡ true → b ≡ true
+rule-holds r b h e = sym h ∙ e
 
 -- the verdict, from what the reader of the sections answered
 module _ (w : ℕ) (t : List ℕ) (f : Bool) (e : f ≡ whole w t) (c y z : List ℕ) where

@@ -1,10 +1,15 @@
 // The verdict on a table: the lowest refusal that applies, 0 where none does (01, Verdicts and other refusals).
 ghost use mathlib.Core.Path.{_≡_};
+ghost use mathlib.Core.Bool.{true};
+ghost use Prim.Native.Nat.{_≤_};
+ghost use lib.ListN.{length};
 ghost use Rattle.table.specs.Entries.{nodeCount};
 ghost use Rattle.code.specs.Code.{decoded, Decodes};
 ghost use Rattle.code.specs.Decoding as decoding;
 ghost use Rattle.types.specs.Kept.{Types};
 ghost use Rattle.sizes.specs.Kept.{Room, Sizes};
+ghost use Rattle.numbers.specs.Ranges.{inRange};
+ghost use Rattle.uses.specs.Uses.{usedOnce};
 ghost use Rattle.uses.specs.Marked.{Blank};
 ghost use Rattle.verdict.specs.Verdict.{judged, judgedUses, judgedLate, verdict};
 ghost use Rattle.verdict.specs.Rooms.{Rooms};
@@ -17,16 +22,20 @@ fn judge_late(
     c: &code::Slots,
     types: &[u16],
     sizes: &mut [u16],
+    blocks: &mut [u16],
 ) -> u32
     requires { ⌜ Decodes (now t) s (now c) ⌝ }
+    requires { ⌜ inRange (decoded (now c)) ≡ true ⌝ }
+    requires { ⌜ usedOnce (decoded (now c)) ≡ true ⌝ }
     requires { ⌜ Types (decoded (now c)) (now types) ⌝ }
     requires { ⌜ Room (decoded (now c)) (now sizes) ⌝ }
+    requires { ⌜ nodeCount (decoded (now c)) ≤ length (now blocks) ⌝ }
     ensures verdict { λ r. ⌜ r ≡ judgedLate (decoded (now (c .entry))) ⌝ }
     ensures sizes { λ r. ⌜ Sizes (decoded (now (c .entry))) (now (sizes .exit)) ⌝ }
 {
     sizes::find_sizes(c, sizes);
     if sizes::all_sized(c, sizes) {
-        if scopes::all_scoped(t, s, c) {
+        if scopes::all_scoped(t, s, c, blocks) {
             if typing::all_typed(t, s, c, types) {
                 return 0;
             }
@@ -45,17 +54,20 @@ fn judge_uses(
     types: &[u16],
     sizes: &mut [u16],
     seen: &mut [u8],
+    blocks: &mut [u16],
 ) -> u32
     requires { ⌜ Decodes (now t) s (now c) ⌝ }
+    requires { ⌜ inRange (decoded (now c)) ≡ true ⌝ }
     requires { ⌜ Types (decoded (now c)) (now types) ⌝ }
     requires { ⌜ Room (decoded (now c)) (now sizes) ⌝ }
     requires { ⌜ Blank (nodeCount (decoded (now c))) (now seen) ⌝ }
+    requires { ⌜ nodeCount (decoded (now c)) ≤ length (now blocks) ⌝ }
     ensures verdict { λ r. ⌜ r ≡ judgedUses (decoded (now (c .entry))) ⌝ }
     ensures sizes { λ r. ⌜ (r ≡ 0 → Sizes (decoded (now (c .entry))) (now (sizes .exit))) ⌝ }
 {
     if uses::each_once(c, seen) {
         if nesting::all_nested(c) {
-            return judge_late(t, s, c, types, sizes);
+            return judge_late(t, s, c, types, sizes, blocks);
         }
         return 6;
     }
@@ -72,9 +84,10 @@ fn judge(
     sizes: &mut [u16],
     marks: &mut [u8],
     seen: &mut [u8],
+    blocks: &mut [u16],
 ) -> u32
     requires { ⌜ Decodes (now t) s (now c) ⌝ }
-    requires { ⌜ Rooms (decoded (now c)) (now types) (now sizes) (now marks) (now seen) ⌝ }
+    requires { ⌜ Rooms (decoded (now c)) (now types) (now sizes) (now marks) (now seen) (now blocks) ⌝ }
     ensures verdict { λ r. ⌜ r ≡ judged (decoded (now (c .entry))) ⌝ }
     ensures types { λ r. ⌜ Types (decoded (now (c .entry))) (now (types .exit)) ⌝ }
     ensures sizes { λ r. ⌜ (r ≡ 0 → Sizes (decoded (now (c .entry))) (now (sizes .exit))) ⌝ }
@@ -82,7 +95,7 @@ fn judge(
     types::find_types(c, types);
     if entries::all_known(c) {
         if numbers::in_range(c, types, marks) {
-            return judge_uses(t, s, c, types, sizes, seen);
+            return judge_uses(t, s, c, types, sizes, seen, blocks);
         }
         return 4;
     }
@@ -109,6 +122,7 @@ fn judge_small(t: &[u8], s: table::Sections, c: &code::Slots) -> Judgement
     let mut sizes = [0u16; 258];
     let mut marks = [0u8; 256];
     let mut seen = [0u8; 256];
+    let mut blocks = [0u16; 256];
     let verdict = judge(
         t,
         s,
@@ -117,6 +131,7 @@ fn judge_small(t: &[u8], s: table::Sections, c: &code::Slots) -> Judgement
         &mut sizes[..],
         &mut marks[..],
         &mut seen[..],
+        &mut blocks[..],
     );
     Judgement {
         verdict,

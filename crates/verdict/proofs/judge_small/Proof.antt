@@ -12,5 +12,6 @@ judge-small-spec =
     (λ c. search needs)
     (λ c. search needs)
     (λ c. search needs)
-    (λ c κs. let a = c .before .before .before .before in (search needs, rooms-small (a .before .args .t .now) (λ i. omega (arith, a .shared-slice-known .given i)) _ _ (a .before .pre .0) (a .before .pre .1)))
+    (λ c. search needs)
+    (λ c κs. let a = c .before .before .before .before .before in (search needs, rooms-small (a .before .args .t .now) (λ i. omega (arith, a .shared-slice-known .given i)) _ _ (a .before .pre .0) (a .before .pre .1)))
     (λ c. search needs))

@@ -1,21 +1,21 @@
 use Prim.Native.Nat.{_≤_, _-_}
+use mathlib.Core.Path.{_≡_}
 use native.Mathlib.Omega.{arith}
 use borrow.Author.Needs.{needs}
-use Rattle.code.specs.Code.{decoded}
-use Rattle.basics.specs.Loops.{Passed}
+use Rattle.basics.specs.Marks.{gather}
+use Rattle.scopes.specs.Handed.{given, partNode}
 use Rattle.scopes.proofs.Scoping.{parts}
-use Rattle.scopes.specs.Parts.{scopedIn}
-use Rattle.scopes.proofs.part_scoped.Statement.{statement}
-use Rattle.scopes.proofs.part_scoped.Tie as tie
+use Rattle.scopes.proofs.hand_part.Statement.{statement}
+use Rattle.scopes.proofs.hand_part.Tie as tie
 
 abbrev Inv-loop : tie.InvT-loop
-Inv-loop c b part w count k₀ k = (k ≤ count) × Passed (scopedIn (decoded c) b w part) k
+Inv-loop blocks₀ b part w count k₀ blocks k = (k ≤ count) × (blocks ≡ given b (gather (partNode part w) k) blocks₀)
 
 abbrev μ-loop : tie.MeasureT-loop
-μ-loop c b part w count k₀ k = count - k
+μ-loop blocks₀ b part w count k₀ blocks k = count - k
 
-pub part-scoped-spec : {M : Type 1} → statement M
-part-scoped-spec =
+pub hand-part-spec : {M : Type 1} → statement M
+hand-part-spec =
     tie.close
     (tie.spec
     Inv-loop
