@@ -1,4 +1,13 @@
-// The kinds of entries by name (01, The table).
+// The standard types and the kinds of entries by name (01, The table).
+
+// The standard types: their numbers, which come before those of the declared ones, and how many they are.
+pub const INTEGER: usize = 0;
+
+pub const BOOLEAN: usize = 1;
+
+pub const CHARACTER: usize = 2;
+
+pub const STANDARD: usize = 3;
 
 // Types.
 pub const RECORD: usize = 1;

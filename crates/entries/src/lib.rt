@@ -1,5 +1,6 @@
 // Refusal 3: kinds, modes and operators are known, and unused fields are 0.
 use code::kinds;
+use code::operators;
 ghost use mathlib.Core.Path.{_≡_};
 ghost use Prim.Native.Nat.{_+_, _<_};
 ghost use Rattle.basics.specs.Choice.{allBelow};
@@ -23,11 +24,11 @@ fn type_known(c: &code::Slots, i: usize) -> bool
     requires { ⌜ i < 65536 ⌝ }
     ensures { λ r. ⌜ r ≡ typeKnown (decoded (now (c .entry))) i ⌝ }
 {
-    let k = code::type_kind(c, 3 + i);
+    let k = code::type_kind(c, kinds::STANDARD + i);
     if basics::between(kinds::RECORD, kinds::PROCESS, k) {
-        if spare(k <= kinds::ARRAY, code::type_q(c, 3 + i)) {
-            if spare(k == kinds::ARRAY, code::type_low(c, 3 + i)) {
-                return spare(k == kinds::ARRAY, code::type_high(c, 3 + i));
+        if spare(k <= kinds::ARRAY, code::type_q(c, kinds::STANDARD + i)) {
+            if spare(k == kinds::ARRAY, code::type_low(c, kinds::STANDARD + i)) {
+                return spare(k == kinds::ARRAY, code::type_high(c, kinds::STANDARD + i));
             }
             return false;
         }
@@ -71,10 +72,10 @@ fn operator_known(c: &code::Slots, i: usize) -> bool
 {
     let k = code::node_kind(c, i);
     if k == kinds::UNARY {
-        return basics::between(1, 3, code::node_q(c, i));
+        return basics::between(operators::MINUS, operators::VAL, code::node_q(c, i));
     }
     if k == kinds::BINARY {
-        return basics::between(1, 13, code::node_v(c, i));
+        return basics::between(operators::EQUAL, operators::OR, code::node_v(c, i));
     }
     true
 }

@@ -167,7 +167,7 @@ pub fn end_process(state: &mut [u8], p: usize)
     requires { ⌜ (1 ≤ p) × (p ≤ 64) ⌝ }
     ensures { λ _. ⌜ Becomes (now (state .exit)) (ended (memoryOf (now (state .entry))) p) ⌝ }
 {
-    machine::set_record_word(state, p, machine::STATUS, 3);
+    machine::set_record_word(state, p, machine::STATUS, machine::ENDED);
     hold(state, p, 0);
 }
 
@@ -324,7 +324,7 @@ pub fn create(state: &mut [u8], n: usize, block: u16)
     ensures { λ _. ⌜ Becomes (now (state .exit)) (created (memoryOf (now (state .entry))) n block) ⌝ }
 {
     wipe(state, n);
-    machine::set_record_word(state, n, machine::STATUS, 1);
+    machine::set_record_word(state, n, machine::STATUS, machine::UNSTARTED);
     machine::set_record_word(state, n, machine::MODULE, block);
     machine::set_record_word(state, 1, machine::CREATED, n as u16);
 }
@@ -338,7 +338,7 @@ fn give(state: &mut [u8], r: usize, n: usize, words: &[u16])
 {
     let at = machine::location_of(r, 0);
     copy_words(state, at, n, words);
-    machine::set_record_word(state, r, machine::STATUS, 2);
+    machine::set_record_word(state, r, machine::STATUS, machine::STARTED);
     hold(state, r, r as u16);
 }
 

@@ -12,6 +12,9 @@ pub const STATE_WORDS: usize = 18688;
 // The words of a process's area.
 pub const AREA: usize = 256;
 
+// The most processes of a run.
+pub const PROCESSES: u16 = 64;
+
 // The words of a control record, as Layout has them.
 pub const STATUS: usize = 0;
 
@@ -34,6 +37,13 @@ pub const CREATED: usize = 8;
 pub const FAILURE: usize = 9;
 // And the number that the run was begun with.
 pub const NUMBER: usize = 10;
+
+// The statuses of a created process.
+pub const UNSTARTED: u16 = 1;
+
+pub const STARTED: u16 = 2;
+
+pub const ENDED: u16 = 3;
 
 // n is the number of a failure (01, Step answers).
 pub fn is_failure(n: usize) -> bool

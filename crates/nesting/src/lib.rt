@@ -7,28 +7,41 @@ ghost use Rattle.code.specs.Code.{decoded};
 ghost use Rattle.nesting.specs.Nest.{classOf, closed, finished, blockEnd, nested};
 ghost use Rattle.nesting.specs.Ends.{ClassIs, BodyEnds, ArmsEnds, ArmEnds, StmtEnds};
 
+// The classes of statements, as classOf has them.
+const SIMPLE: usize = 0;
+
+const OPENER: usize = 1;
+
+const ARM: usize = 2;
+
+const END: usize = 3;
+
+const BLOCK_END: usize = 4;
+
+const NONE: usize = 5;
+
 fn class_of(k: usize) -> usize
     ensures { λ r. ⌜ r ≡ classOf k ⌝ }
 {
     if k <= kinds::START {
-        return 0;
+        return SIMPLE;
     }
     if k <= kinds::CYCLE {
-        return 1;
+        return OPENER;
     }
     if k == kinds::ARM {
-        return 2;
+        return ARM;
     }
     if k == kinds::END {
-        return 3;
+        return END;
     }
     if k == kinds::WRITE {
-        return 0;
+        return SIMPLE;
     }
     if k == kinds::BLOCK_END {
-        return 4;
+        return BLOCK_END;
     }
-    5
+    NONE
 }
 
 // The class of statement i; past the last there is none.
@@ -38,7 +51,7 @@ fn stmt_class(c: &code::Slots, i: usize) -> usize
     if i < code::statements(c) {
         return class_of(code::stmt_kind(c, i));
     }
-    5
+    NONE
 }
 
 // The number after the statement at i, or 0 where there is none.
@@ -46,10 +59,10 @@ fn stmt_end(c: &code::Slots, i: usize) -> usize
     ensures { λ r. ⌜ StmtEnds (decoded (now (c .entry))) i r ⌝ }
 {
     let class = stmt_class(c, i);
-    if class == 0 {
+    if class == SIMPLE {
         return i + 1;
     }
-    if class == 1 {
+    if class == OPENER {
         return arms_end(c, i, i + 1);
     }
     0
@@ -65,7 +78,7 @@ fn body_end(c: &code::Slots, i: usize) -> usize
         if k == 0 {
             return 0; // no statement begins at j
         }
-        if 2 <= stmt_class(c, k) {
+        if ARM <= stmt_class(c, k) {
             return k;
         }
         j = k;
@@ -76,7 +89,7 @@ fn body_end(c: &code::Slots, i: usize) -> usize
 fn arm_end(c: &code::Slots, i: usize) -> usize
     ensures { λ r. ⌜ ArmEnds (decoded (now (c .entry))) i r ⌝ }
 {
-    if stmt_class(c, i) != 2 {
+    if stmt_class(c, i) != ARM {
         return 0;
     }
     let j = body_end(c, i + 1);
@@ -107,7 +120,7 @@ fn arms_end(c: &code::Slots, o: usize, i: usize) -> usize
         if k == 0 {
             return 0;
         }
-        if stmt_class(c, k) == 3 {
+        if stmt_class(c, k) == END {
             return closing(c, o, k);
         }
         j = k;
@@ -118,7 +131,7 @@ fn arms_end(c: &code::Slots, o: usize, i: usize) -> usize
 fn finish(c: &code::Slots, b: usize, e: usize) -> usize
     ensures { λ r. ⌜ r ≡ finished (decoded (now (c .entry))) b e ⌝ }
 {
-    if stmt_class(c, e) == 4 {
+    if stmt_class(c, e) == BLOCK_END {
         if code::stmt_a(c, e) == b {
             return e + 1;
         }

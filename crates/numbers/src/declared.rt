@@ -47,7 +47,7 @@ fn record_ranged(c: &code::Slots, x: usize) -> bool
 fn array_ranged(c: &code::Slots, x: usize) -> bool
     ensures { λ r. ⌜ r ≡ arrayRanged (decoded (now (c .entry))) x ⌝ }
 {
-    if code::type_p(c, x) <= 2 {
+    if code::type_p(c, x) <= kinds::CHARACTER {
         return code::type_q(c, x) < x;
     }
     false
@@ -58,15 +58,15 @@ fn type_ranged(c: &code::Slots, i: usize) -> bool
     requires { ⌜ i < 65536 ⌝ }
     ensures { λ r. ⌜ r ≡ typeRanged (decoded (now (c .entry))) i ⌝ }
 {
-    let k = code::type_kind(c, 3 + i);
+    let k = code::type_kind(c, kinds::STANDARD + i);
     if k == kinds::RECORD {
-        return record_ranged(c, 3 + i);
+        return record_ranged(c, kinds::STANDARD + i);
     }
     if k == kinds::ARRAY {
-        return array_ranged(c, 3 + i);
+        return array_ranged(c, kinds::STANDARD + i);
     }
     if k == kinds::PROCESS {
-        return sorts::block_of(c, kinds::MODULE, code::type_p(c, 3 + i));
+        return sorts::block_of(c, kinds::MODULE, code::type_p(c, kinds::STANDARD + i));
     }
     true
 }
@@ -89,7 +89,7 @@ pub fn all_types(c: &code::Slots) -> bool
 fn var_ranged(c: &code::Slots, i: usize) -> bool
     ensures { λ r. ⌜ r ≡ entryRanged (decoded (now (c .entry))) 2 i ⌝ }
 {
-    code::var_type(c, i) < 3 + code::types(c)
+    code::var_type(c, i) < kinds::STANDARD + code::types(c)
 }
 
 pub fn all_vars(c: &code::Slots) -> bool
@@ -112,8 +112,8 @@ fn mark_module(c: &code::Slots, i: usize, marks: &mut [u8])
     requires { ⌜ i < 65536 ⌝ }
     ensures { λ _. ⌜ now (marks .exit) ≡ moduleMarked (decoded (now (c .entry))) i (now (marks .entry)) ⌝ }
 {
-    if code::type_kind(c, 3 + i) == kinds::PROCESS {
-        basics::mark(marks, code::type_p(c, 3 + i));
+    if code::type_kind(c, kinds::STANDARD + i) == kinds::PROCESS {
+        basics::mark(marks, code::type_p(c, kinds::STANDARD + i));
     }
 }
 

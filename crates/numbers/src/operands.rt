@@ -39,7 +39,7 @@ fn p_ranged(c: &code::Slots, n: usize) -> bool
     let k = code::node_kind(c, n);
     let p = code::node_p(c, n);
     if k == kinds::CONSTANT {
-        return p <= 2;
+        return p <= kinds::CHARACTER;
     }
     if k == kinds::WHOLE {
         return p < code::variables(c);
@@ -80,7 +80,7 @@ fn q_ranged(c: &code::Slots, types: &[u16], n: usize) -> bool
         return sorts::expression_below(c, n, q);
     }
     if k == kinds::TRANSFER {
-        return q <= 2;
+        return q <= kinds::CHARACTER;
     }
     if k == kinds::STRING {
         return basics::between(1, 255, q);

@@ -37,21 +37,21 @@ fn is_record(c: &code::Slots, i: usize) -> bool
     requires { ⌜ i < 65536 ⌝ }
     ensures { λ r. ⌜ r ≡ isRecord (decoded (now (c .entry))) i ⌝ }
 {
-    code::type_kind(c, 3 + i) == kinds::RECORD
+    code::type_kind(c, kinds::STANDARD + i) == kinds::RECORD
 }
 
 fn record_first(c: &code::Slots, i: usize) -> usize
     requires { ⌜ i < 65536 ⌝ }
     ensures { λ r. ⌜ Field (recordFirst (decoded (now (c .entry))) i) r ⌝ }
 {
-    code::type_p(c, 3 + i)
+    code::type_p(c, kinds::STANDARD + i)
 }
 
 fn record_count(c: &code::Slots, i: usize) -> usize
     requires { ⌜ i < 65536 ⌝ }
     ensures { λ r. ⌜ Field (recordCount (decoded (now (c .entry))) i) r ⌝ }
 {
-    code::type_q(c, 3 + i)
+    code::type_q(c, kinds::STANDARD + i)
 }
 
 fn is_call(c: &code::Slots, i: usize) -> bool

@@ -1,5 +1,6 @@
 // The variables of a module in the area of a process, and those of its frames, of which a var parameter names a live one.
 use super::working::has_worked;
+use code::kinds;
 use values::beginning::part_of_block;
 use values::beginning::var_words;
 use values::heads;
@@ -43,7 +44,7 @@ fn variable_holds(
     ensures { λ r. ⌜ r ≡ variableHolds (decoded (now (c .entry))) (memoryOf (now (state .entry))) p v at ⌝ }
 {
     let x = code::var_type(c, v);
-    if heads::head_of(c, heads, x) == 0 {
+    if heads::head_of(c, heads, x) == kinds::INTEGER {
         return true;
     }
     value_holds(c, sizes, heads, state, x, location_at(p, at))
@@ -213,7 +214,7 @@ fn frame_variable_holds(
     requires { ⌜ (1 ≤ p) × ((p ≤ 64) × ((f < 65536) × (at ≤ 13900000))) ⌝ }
     ensures { λ r. ⌜ r ≡ frameVariable (decoded (now (c .entry))) (memoryOf (now (state .entry))) p d f v at ⌝ }
 {
-    if code::var_mode(c, v) == 2 {
+    if code::var_mode(c, v) == kinds::VAR_PARAMETER {
         let a = area_word(state, p, f + 4 + at);
         return lives_at(
             c,

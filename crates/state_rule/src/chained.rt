@@ -2,8 +2,10 @@
 use super::areas::frames_hold;
 use super::working::call_made;
 use super::working::holds_on;
+use code::kinds;
 use values::beginning::var_words;
 use values::holding::words_of;
+use values::lent;
 use values::lent::area_word;
 use values::lent::created;
 use values::lent::record_word;
@@ -49,7 +51,7 @@ fn is_procedure(c: &code::Slots, b: usize) -> bool
     ensures { λ r. ⌜ r ≡ isProcedure (decoded (now (c .entry))) b ⌝ }
 {
     if b < code::blocks(c) {
-        return code::block_kind(c, b) == 2;
+        return code::block_kind(c, b) == kinds::PROCEDURE;
     }
     false
 }
@@ -58,7 +60,7 @@ pub fn is_module(c: &code::Slots, b: usize) -> bool
     ensures { λ r. ⌜ r ≡ isModule (decoded (now (c .entry))) b ⌝ }
 {
     if b < code::blocks(c) {
-        return code::block_kind(c, b) == 1;
+        return code::block_kind(c, b) == kinds::MODULE;
     }
     false
 }
@@ -103,7 +105,7 @@ fn is_of(state: &[u8], b: usize, w: usize) -> bool
 {
     if 1 <= w {
         if w <= created(state) {
-            if record_word(state, w, machine::STATUS) == 1 {
+            if record_word(state, w, machine::STATUS) == lent::UNSTARTED {
                 return false;
             }
             return b == record_word(state, w, machine::MODULE);

@@ -7,8 +7,10 @@ use areas::modules_hold;
 use basics::between;
 use chained::chain_ok;
 use chained::is_module;
+use code::kinds;
 use values::heads;
 use values::jumps;
+use values::lent;
 use values::lent::created;
 use values::lent::record_word;
 ghost use mathlib.Core.Path.{_≡_};
@@ -32,12 +34,12 @@ fn module_ok(c: &code::Slots, state: &[u8], p: usize) -> bool
     let status = record_word(state, p, machine::STATUS);
     let b = record_word(state, p, machine::MODULE);
     if p == 1 {
-        if between(2, 3, status) {
+        if between(lent::STARTED, lent::ENDED, status) {
             return b == 0;
         }
         return false;
     }
-    if between(1, 3, status) {
+    if between(lent::UNSTARTED, lent::ENDED, status) {
         return is_module(c, b);
     }
     false
@@ -59,7 +61,7 @@ fn running_ok(
     requires { ⌜ (1 ≤ p) × (p ≤ 64) ⌝ }
     ensures { λ r. ⌜ r ≡ runningOk (decoded (now (c .entry))) (memoryOf (now (state .entry))) p ⌝ }
 {
-    if record_word(state, p, machine::STATUS) == 2 {
+    if record_word(state, p, machine::STATUS) == lent::STARTED {
         return chain_ok(c, sizes, heads, jumps, state, p);
     }
     true
@@ -198,7 +200,7 @@ fn worth_finding(state: &[u8], n: usize) -> usize
     if n <= words_in_use(state) {
         return n;
     }
-    3
+    kinds::STANDARD
 }
 
 // The same, by either way.

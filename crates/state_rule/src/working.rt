@@ -1,4 +1,5 @@
 // Who works on what: what a process worked on when it made its calls, what it holds of that, and what its call statements say.
+use code::kinds;
 use values::lent::area_word;
 use values::lent::record_word;
 ghost use mathlib.Core.Path.{_≡_};
@@ -36,10 +37,10 @@ fn may_wait(c: &code::Slots, i: usize) -> bool
 {
     if i < code::statements(c) {
         let kind = code::stmt_kind(c, i);
-        if kind == 8 {
+        if kind == kinds::WHEN {
             return true;
         }
-        return kind == 9;
+        return kind == kinds::CYCLE;
     }
     false
 }
@@ -78,13 +79,13 @@ pub fn call_made(
     if i < code::statements(c) {
         let kind = code::stmt_kind(c, i);
         let v = area_word(state, p, f + 2);
-        if kind == 2 {
+        if kind == kinds::LOCAL_CALL {
             if code::stmt_a(c, i) == q {
                 return v == w;
             }
             return false;
         }
-        if kind == 3 {
+        if kind == kinds::PROCESS_CALL {
             if code::stmt_b(c, i) == q {
                 return !has_worked(state, p, d, area_word(state, p, f), v, w);
             }

@@ -40,7 +40,7 @@ fn make_first(state: &mut [u8], number: u16)
     requires { ⌜ State (now state) ⌝ }
     ensures { λ _. ⌜ Becomes (now (state .exit)) (firstMade (memoryOf (now (state .entry))) number) ⌝ }
 {
-    machine::set_record_word(state, 1, machine::STATUS, 2);
+    machine::set_record_word(state, 1, machine::STATUS, machine::STARTED);
     machine::set_record_word(state, 1, machine::HOLDER, 1);
     machine::set_record_word(state, 1, machine::CREATED, 1);
     machine::set_record_word(state, 1, machine::NUMBER, number);
@@ -113,8 +113,8 @@ fn is_shown(state: &[u8], p: usize) -> bool
     if 1 <= p {
         if p <= wide(machine::record_word(state, 1, machine::CREATED)) {
             let status = machine::record_word(state, p, machine::STATUS);
-            if 2 <= status {
-                return status <= 3;
+            if machine::STARTED <= status {
+                return status <= machine::ENDED;
             }
             return false;
         }

@@ -1,5 +1,6 @@
 // The types of nodes, found once for all nodes into a lent array; types that match.
 use code::kinds;
+use code::operators;
 ghost use mathlib.Core.Path.{_≡_};
 ghost use Prim.Native.Nat.{_+_, _-_, _≤_, _<_};
 ghost use Rattle.basics.specs.Course.{upto};
@@ -50,21 +51,21 @@ fn unary_type(o: usize, x: usize) -> usize
     requires { ⌜ x < 65536 ⌝ }
     ensures { λ r. ⌜ Field (unaryType o x) r ⌝ }
 {
-    if o == 2 {
+    if o == operators::NOT {
         return x;
     }
-    0
+    kinds::INTEGER
 }
 
 fn binary_type(o: usize, x: usize) -> usize
     requires { ⌜ x < 65536 ⌝ }
     ensures { λ r. ⌜ Field (binaryType o x) r ⌝ }
 {
-    if o <= 6 {
-        return 1;
+    if o <= operators::NOT_LESS {
+        return kinds::BOOLEAN;
     }
-    if o <= 11 {
-        return 0;
+    if o <= operators::MODULUS {
+        return kinds::INTEGER;
     }
     x
 }
@@ -185,7 +186,7 @@ pub fn is_string(c: &code::Slots, x: usize) -> bool
     ensures { λ r. ⌜ r ≡ isString (decoded (now (c .entry))) x ⌝ }
 {
     if code::type_kind(c, x) == kinds::ARRAY {
-        return code::type_q(c, x) == 2;
+        return code::type_q(c, x) == kinds::CHARACTER;
     }
     false
 }

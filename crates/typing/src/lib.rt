@@ -1,5 +1,6 @@
 // Refusal 9: the types of operands, guards, indexes, arguments and parameters.
 use code::kinds;
+use code::operators;
 ghost use mathlib.Core.Path.{_≡_};
 ghost use Prim.Native.Nat.{_+_, _≤_, _<_};
 ghost use Rattle.basics.specs.Choice.{allBelow};
@@ -16,10 +17,10 @@ ghost use Rattle.typing.specs.Parts.{parameterIn};
 fn constant_typed(x: usize, v: usize) -> bool
     ensures { λ r. ⌜ r ≡ inStandard x v ⌝ }
 {
-    if x == 1 {
+    if x == kinds::BOOLEAN {
         return v <= 1;
     }
-    if x == 2 {
+    if x == kinds::CHARACTER {
         return v <= 127;
     }
     true
@@ -37,22 +38,22 @@ fn element_typed(c: &code::Slots, x: usize, y: usize) -> bool
 fn unary_typed(o: usize, x: usize) -> bool
     ensures { λ r. ⌜ r ≡ unaryTyped o x ⌝ }
 {
-    if o == 2 {
-        return x <= 1;
+    if o == operators::NOT {
+        return x <= kinds::BOOLEAN;
     }
-    x == 0
+    x == kinds::INTEGER
 }
 
 fn alike_typed(o: usize, x: usize) -> bool
     ensures { λ r. ⌜ r ≡ alikeTyped o x ⌝ }
 {
-    if o <= 6 {
-        return x <= 2;
+    if o <= operators::NOT_LESS {
+        return x <= kinds::CHARACTER;
     }
-    if o <= 11 {
-        return x == 0;
+    if o <= operators::MODULUS {
+        return x == kinds::INTEGER;
     }
-    x <= 1
+    x <= kinds::BOOLEAN
 }
 
 // The operator o takes the types of nodes p and q.
@@ -60,7 +61,7 @@ fn binary_typed(c: &code::Slots, types: &[u16], o: usize, p: usize, q: usize) ->
     requires { ⌜ Types (decoded (now c)) (now types) ⌝ }
     ensures { λ r. ⌜ r ≡ binaryTyped (decoded (now (c .entry))) o p q ⌝ }
 {
-    if o <= 2 {
+    if o <= operators::NOT_EQUAL {
         return types::are_equal(c, types, p, q);
     }
     let x = types::type_of(c, types, p);
@@ -107,7 +108,7 @@ fn node_typed(c: &code::Slots, types: &[u16], n: usize) -> bool
         return binary_typed(c, types, o, code::node_p(c, n), code::node_q(c, n));
     }
     if k == kinds::TRANSFER {
-        return type_p(c, types, n) <= 2;
+        return type_p(c, types, n) <= kinds::CHARACTER;
     }
     true
 }
@@ -251,8 +252,8 @@ fn call_typed(t: &[u8], s: table::Sections, c: &code::Slots, types: &[u16], i: u
 fn write_typed(x: usize, y: usize) -> bool
     ensures { λ r. ⌜ r ≡ writeTyped x y ⌝ }
 {
-    if x == 0 {
-        return y == 0;
+    if x == kinds::INTEGER {
+        return y == kinds::INTEGER;
     }
     false
 }
@@ -267,7 +268,7 @@ fn stmt_typed(t: &[u8], s: table::Sections, c: &code::Slots, types: &[u16], i: u
         return types::are_equal(c, types, code::stmt_a(c, i), code::stmt_b(c, i));
     }
     if k == kinds::ARM {
-        return type_a(c, types, i) == 1;
+        return type_a(c, types, i) == kinds::BOOLEAN;
     }
     if k == kinds::WRITE {
         return write_typed(type_a(c, types, i), type_b(c, types, i));
@@ -278,7 +279,7 @@ fn stmt_typed(t: &[u8], s: table::Sections, c: &code::Slots, types: &[u16], i: u
 fn is_simple(c: &code::Slots, x: usize) -> bool
     ensures { λ r. ⌜ r ≡ simple (decoded (now (c .entry))) x ⌝ }
 {
-    if x <= 2 {
+    if x <= kinds::CHARACTER {
         return true;
     }
     code::type_kind(c, x) == kinds::PROCESS
@@ -373,7 +374,7 @@ fn characters_typed(c: &code::Slots) -> bool
     let count = code::characters(c);
     let mut i = 0;
     while i < count {
-        if constant_typed(2, code::character(c, i)) {
+        if constant_typed(kinds::CHARACTER, code::character(c, i)) {
             i += 1;
         } else {
             return false;

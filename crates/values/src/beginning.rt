@@ -1,6 +1,7 @@
 // Parts of variables: a part of a type begins at a word of a variable, or of the variables of a block.
 use super::holding::words_of;
 use super::jumps;
+use code::kinds;
 ghost use mathlib.Core.Path.{_≡_};
 ghost use Prim.Native.Nat.{_/_, _%_, _≤_};
 ghost use lib.Dec.{eqb};
@@ -75,10 +76,10 @@ fn part_begins(c: &code::Slots, sizes: &[u16], jumps: &[u16], x: usize, y: usize
         return true;
     }
     let kind = code::type_kind(c, z);
-    if kind == 1 {
+    if kind == kinds::RECORD {
         return part_of_fields(c, sizes, jumps, z, y, k);
     }
-    if kind == 2 {
+    if kind == kinds::ARRAY {
         return part_of_element(c, sizes, jumps, z, y, k);
     }
     false
@@ -167,7 +168,7 @@ pub fn var_words(c: &code::Slots, sizes: &[u16], v: usize) -> usize
     requires { ⌜ Ready (decoded (now c)) (now sizes) ⌝ }
     ensures { λ r. ⌜ Words (varWords (decoded (now (c .entry))) v) r ⌝ }
 {
-    if code::var_mode(c, v) == 2 {
+    if code::var_mode(c, v) == kinds::VAR_PARAMETER {
         return 1;
     }
     words_of(c, sizes, code::var_type(c, v))
@@ -190,7 +191,7 @@ fn part_of_variable(
 {
     if at <= k {
         if k < at + var_words(c, sizes, v) {
-            if code::var_mode(c, v) == 2 {
+            if code::var_mode(c, v) == kinds::VAR_PARAMETER {
                 return false;
             }
             return part_begins(c, sizes, jumps, code::var_type(c, v), y, k - at);

@@ -1,6 +1,7 @@
 // The head of each type, found once a call: what the words of a value must hold, so that no chain of types is walked for each value.
 // THE HEAD of a type is a simple type or process type, where each word of a value is a value of that one; else the first type down the
 // chain of only parts (records of one field, arrays of one element) that has several.
+use code::kinds;
 use words::numbers::narrow;
 use words::numbers::wide;
 ghost use mathlib.Core.Path.{_≡_};
@@ -15,10 +16,10 @@ fn has_parts(c: &code::Slots, x: usize) -> bool
     ensures { λ r. ⌜ r ≡ hasParts (decoded (now (c .entry))) x ⌝ }
 {
     let kind = code::type_kind(c, x);
-    if kind == 1 {
+    if kind == kinds::RECORD {
         return true;
     }
-    kind == 2
+    kind == kinds::ARRAY
 }
 
 // The head of type x. Those of the types below `heads.len()` are known; any other type may stand for itself.
@@ -109,10 +110,10 @@ fn found_head(c: &code::Slots, heads: &[u16], x: usize) -> usize
     ensures { λ r. ⌜ Head (decoded (now (c .entry))) x r ⌝ }
 {
     let kind = code::type_kind(c, x);
-    if kind == 1 {
+    if kind == kinds::RECORD {
         return record_head(c, heads, x);
     }
-    if kind == 2 {
+    if kind == kinds::ARRAY {
         return array_head(c, heads, x);
     }
     x
@@ -126,7 +127,7 @@ pub fn find_heads(c: &code::Slots, heads: &mut [u16], n: usize)
     heads[0] = 0;
     heads[1] = 1;
     heads[2] = 2;
-    let mut x = 3;
+    let mut x = kinds::STANDARD;
     while x < n {
         heads[x] = narrow(found_head(c, &heads[..x], x));
         x += 1;
@@ -139,7 +140,7 @@ pub fn known_types(c: &code::Slots) -> usize
 {
     let n = code::types(c);
     if n <= 255 {
-        return 3 + n;
+        return kinds::STANDARD + n;
     }
     258
 }

@@ -2,6 +2,7 @@
 use super::heads;
 use super::lent::refers_to;
 use super::lent::word_or_zero;
+use code::kinds;
 ghost use mathlib.Core.Path.{_≡_};
 ghost use Prim.Native.Nat.{_≤_};
 ghost use lib.Dec.{leb};
@@ -83,13 +84,13 @@ fn words_hold(c: &code::Slots, state: &[u8], h: usize, a: usize, n: usize) -> bo
     requires { ⌜ (a ≤ 20000000) × (n ≤ 200) ⌝ }
     ensures { λ r. ⌜ r ≡ wordsHold (decoded (now (c .entry))) (memoryOf (now (state .entry))) h a n ⌝ }
 {
-    if h == 1 {
+    if h == kinds::BOOLEAN {
         return words_up_to(state, a, n, 1);
     }
-    if h == 2 {
+    if h == kinds::CHARACTER {
         return words_up_to(state, a, n, 127);
     }
-    if code::type_kind(c, h) == 3 {
+    if code::type_kind(c, h) == kinds::PROCESS {
         return references_hold(state, code::type_p(c, h), a, n);
     }
     n == 0
@@ -111,14 +112,14 @@ pub fn value_holds(
     ensures { λ r. ⌜ r ≡ holds (decoded (now (c .entry))) (memoryOf (now (state .entry))) x a ⌝ }
 {
     let h = heads::head_of(c, heads, x);
-    if h == 0 {
+    if h == kinds::INTEGER {
         return true;
     }
     let kind = code::type_kind(c, h);
-    if kind == 1 {
+    if kind == kinds::RECORD {
         return fields_hold(c, sizes, heads, state, h, a);
     }
-    if kind == 2 {
+    if kind == kinds::ARRAY {
         return elements_hold(c, sizes, heads, state, h, a);
     }
     words_hold(c, state, h, a, words_of(c, sizes, x))

@@ -1,6 +1,7 @@
 // Jumps down the chains of only parts (records of one field, arrays of one element), found once a call, so that a part at the end of a long
 // chain is found in few steps. From each type on, a jump leads to its only part or further, so far that a chain of n types takes some
 // 2 log n jumps: beside each jump stands its rank, and where two jumps in a row have one rank, they and the step before make one of the next.
+use code::kinds;
 use words::numbers::narrow;
 use words::numbers::wide;
 ghost use mathlib.Core.Path.{_≡_};
@@ -46,7 +47,7 @@ fn only_part(c: &code::Slots, x: usize) -> usize
     ensures { λ r. ⌜ Jump (decoded (now (c .entry))) x r ⌝ }
 {
     let kind = code::type_kind(c, x);
-    if kind == 1 {
+    if kind == kinds::RECORD {
         if code::type_q(c, x) == 1 {
             let f = code::field_type(c, code::type_p(c, x));
             if f < x {
@@ -56,7 +57,7 @@ fn only_part(c: &code::Slots, x: usize) -> usize
         }
         return x;
     }
-    if kind == 2 {
+    if kind == kinds::ARRAY {
         let q = code::type_q(c, x);
         if q < x {
             if types::elements_of(c, x) == 1 {

@@ -8,6 +8,13 @@ ghost use Rattle.machine.specs.Layout.{location, recordAt, createdAt};
 ghost use Rattle.machine.specs.Lent.{State};
 ghost use Rattle.machine.specs.Processes.{refers};
 
+// The statuses of created processes, as numbers.
+pub const UNSTARTED: usize = machine::UNSTARTED as usize;
+
+pub const STARTED: usize = machine::STARTED as usize;
+
+pub const ENDED: usize = machine::ENDED as usize;
+
 // Word i of the state, 0 beyond its end: a damaged state may name any word.
 pub fn word_or_zero(state: &[u8], i: usize) -> usize
     requires { ⌜ State (now state) ⌝ }
