@@ -149,14 +149,14 @@ module _ (t m p : List ℕ) (x : Context) (h : Ready t m p x) (n : ℕ) (b : Boo
           one-each : nodeV (decoded t) n ≤ 2 → (length (left-gave .words) ≡ 1) × (length (right-gave .words) ≡ 1)
           one-each g = (left-gave .long ∙ left-single e .is, right-gave .long ∙ right-single e .is)
 
-          pub combine-returns : (op τ a d : ℕ) (o : words.Outcome) (w : ℕ) → op ≡ nodeV (decoded t) n → τ ≡ slotIn t v 23 → a ≡ l → d ≡ r → o ≡ binaryWord op τ a d → WordIs o w → Evaluated t m p x n w
-          combine-returns op τ a d o w ho read ha hd g hw =
+          pub combine-returns : (op τ a d w : ℕ) → op ≡ nodeV (decoded t) n → τ ≡ slotIn t v 23 → a ≡ l → d ≡ r → WordIs (binaryWord op τ a d) w → Evaluated t m p x n w
+          combine-returns op τ a d w ho read ha hd hw =
               let hτ = lends-type t m p x h v τ (left-evaluable .expression .below) read in
               let i = the-operator _ _ left-comes _ _ (comes-value _ _ _ (right-gave .is)) in
               let j = by-words (decoded t) (numbered (typeOf (decoded t) v)) (numbered (typeOf (decoded t) q)) (left-gave .words) (right-gave .words) (nodeV (decoded t) n) one-each in
               let u = subst Unstuck (i ∙ j) (c .evaluable .unstuck) in
               retell w hw
-              (g ∙ (binary-at ho hτ (ha ∙ sym (left-gave .first)) (hd ∙ sym (right-gave .first))
-              ∙ sym (ap firstWord (i ∙ j) ∙ first-binary (decoded t) (typeOf (decoded t) v) (typeOf (decoded t) q) (wordOf (left-gave .words)) (wordOf (right-gave .words)) (nodeV (decoded t) n) u)))
+              (binary-at ho hτ (ha ∙ sym (left-gave .first)) (hd ∙ sym (right-gave .first))
+              ∙ sym (ap firstWord (i ∙ j) ∙ first-binary (decoded t) (typeOf (decoded t) v) (typeOf (decoded t) q) (wordOf (left-gave .words)) (wordOf (right-gave .words)) (nodeV (decoded t) n) u))
 
 pub ruleset combines = (left-below, left-evaluable, left-single, left-fails, right-below, right-evaluable, right-single, right-fails, combine-returns)

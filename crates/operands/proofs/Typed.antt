@@ -192,29 +192,29 @@ of-whole T m page x v =
 -- operators
 pub unary-cases : (P : ℕ → Type 0) (o : ℕ) → P 1 → P 2 → P 3 → (unaryAt o ≡ noUnary → P o) → P o
 unfolding unaryAt
-unary-cases P o p₁ p₂ p₃ none =
-    cases (eqb o 1) (λ e. subst P (sym (eqb-true o 1 e)) p₁) (λ a.
-    cases (eqb o 2) (λ e. subst P (sym (eqb-true o 2 e)) p₂) (λ b.
-    cases (eqb o 3) (λ e. subst P (sym (eqb-true o 3 e)) p₃) (λ c.
-    none (rw (a, b, c)))))
+unary-cases P zero p₁ p₂ p₃ none = none refl
+unary-cases P (suc zero) p₁ p₂ p₃ none = p₁
+unary-cases P (suc (suc zero)) p₁ p₂ p₃ none = p₂
+unary-cases P (suc (suc (suc zero))) p₁ p₂ p₃ none = p₃
+unary-cases P (suc (suc (suc (suc o)))) p₁ p₂ p₃ none = none refl
 
 pub binary-cases : (P : ℕ → Type 0) (o : ℕ) → P 1 → P 2 → P 3 → P 4 → P 5 → P 6 → P 7 → P 8 → P 9 → P 10 → P 11 → P 12 → P 13 → (binaryAt o ≡ noBinary → P o) → P o
 unfolding binaryAt
-binary-cases P o p₁ p₂ p₃ p₄ p₅ p₆ p₇ p₈ p₉ q₀ q₁ q₂ q₃ none =
-    cases (eqb o 1) (λ e. subst P (sym (eqb-true o 1 e)) p₁) (λ a₁.
-    cases (eqb o 2) (λ e. subst P (sym (eqb-true o 2 e)) p₂) (λ a₂.
-    cases (eqb o 3) (λ e. subst P (sym (eqb-true o 3 e)) p₃) (λ a₃.
-    cases (eqb o 4) (λ e. subst P (sym (eqb-true o 4 e)) p₄) (λ a₄.
-    cases (eqb o 5) (λ e. subst P (sym (eqb-true o 5 e)) p₅) (λ a₅.
-    cases (eqb o 6) (λ e. subst P (sym (eqb-true o 6 e)) p₆) (λ a₆.
-    cases (eqb o 7) (λ e. subst P (sym (eqb-true o 7 e)) p₇) (λ a₇.
-    cases (eqb o 8) (λ e. subst P (sym (eqb-true o 8 e)) p₈) (λ a₈.
-    cases (eqb o 9) (λ e. subst P (sym (eqb-true o 9 e)) p₉) (λ a₉.
-    cases (eqb o 10) (λ e. subst P (sym (eqb-true o 10 e)) q₀) (λ b₀.
-    cases (eqb o 11) (λ e. subst P (sym (eqb-true o 11 e)) q₁) (λ b₁.
-    cases (eqb o 12) (λ e. subst P (sym (eqb-true o 12 e)) q₂) (λ b₂.
-    cases (eqb o 13) (λ e. subst P (sym (eqb-true o 13 e)) q₃) (λ b₃.
-    none (rw (a₁, a₂, a₃, a₄, a₅, a₆, a₇, a₈, a₉, b₀, b₁, b₂, b₃)))))))))))))))
+binary-cases P zero p₁ p₂ p₃ p₄ p₅ p₆ p₇ p₈ p₉ q₀ q₁ q₂ q₃ none = none refl
+binary-cases P (suc zero) p₁ p₂ p₃ p₄ p₅ p₆ p₇ p₈ p₉ q₀ q₁ q₂ q₃ none = p₁
+binary-cases P (suc (suc zero)) p₁ p₂ p₃ p₄ p₅ p₆ p₇ p₈ p₉ q₀ q₁ q₂ q₃ none = p₂
+binary-cases P (suc (suc (suc zero))) p₁ p₂ p₃ p₄ p₅ p₆ p₇ p₈ p₉ q₀ q₁ q₂ q₃ none = p₃
+binary-cases P (suc (suc (suc (suc zero)))) p₁ p₂ p₃ p₄ p₅ p₆ p₇ p₈ p₉ q₀ q₁ q₂ q₃ none = p₄
+binary-cases P (suc (suc (suc (suc (suc zero))))) p₁ p₂ p₃ p₄ p₅ p₆ p₇ p₈ p₉ q₀ q₁ q₂ q₃ none = p₅
+binary-cases P (suc (suc (suc (suc (suc (suc zero)))))) p₁ p₂ p₃ p₄ p₅ p₆ p₇ p₈ p₉ q₀ q₁ q₂ q₃ none = p₆
+binary-cases P (suc (suc (suc (suc (suc (suc (suc zero))))))) p₁ p₂ p₃ p₄ p₅ p₆ p₇ p₈ p₉ q₀ q₁ q₂ q₃ none = p₇
+binary-cases P (suc (suc (suc (suc (suc (suc (suc (suc zero)))))))) p₁ p₂ p₃ p₄ p₅ p₆ p₇ p₈ p₉ q₀ q₁ q₂ q₃ none = p₈
+binary-cases P (suc (suc (suc (suc (suc (suc (suc (suc (suc zero))))))))) p₁ p₂ p₃ p₄ p₅ p₆ p₇ p₈ p₉ q₀ q₁ q₂ q₃ none = p₉
+binary-cases P (suc (suc (suc (suc (suc (suc (suc (suc (suc (suc zero)))))))))) p₁ p₂ p₃ p₄ p₅ p₆ p₇ p₈ p₉ q₀ q₁ q₂ q₃ none = q₀
+binary-cases P (suc (suc (suc (suc (suc (suc (suc (suc (suc (suc (suc zero))))))))))) p₁ p₂ p₃ p₄ p₅ p₆ p₇ p₈ p₉ q₀ q₁ q₂ q₃ none = q₁
+binary-cases P (suc (suc (suc (suc (suc (suc (suc (suc (suc (suc (suc (suc zero)))))))))))) p₁ p₂ p₃ p₄ p₅ p₆ p₇ p₈ p₉ q₀ q₁ q₂ q₃ none = q₂
+binary-cases P (suc (suc (suc (suc (suc (suc (suc (suc (suc (suc (suc (suc (suc zero))))))))))))) p₁ p₂ p₃ p₄ p₅ p₆ p₇ p₈ p₉ q₀ q₁ q₂ q₃ none = q₃
+binary-cases P (suc (suc (suc (suc (suc (suc (suc (suc (suc (suc (suc (suc (suc (suc o)))))))))))))) p₁ p₂ p₃ p₄ p₅ p₆ p₇ p₈ p₉ q₀ q₁ q₂ q₃ none = none refl
 
 of-not : (T : Table) (τ i b : ℕ) → OfType T τ (pick (eqb τ 0) (simple 0 i) (need (eqb τ 1) (simple 1 b)))
 of-not T τ i b =

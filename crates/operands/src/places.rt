@@ -8,6 +8,7 @@ use super::packed::INDEX_RANGE;
 use super::packed::UNSET;
 use super::packed::long;
 use super::packed::thin;
+use code::kinds;
 use words::memory::get;
 ghost use mathlib.Core.Path.{_≡_};
 ghost use Prim.Native.Nat.{_+_, _<_, _≤_};
@@ -76,7 +77,7 @@ pub fn whole_at(c: &code::Slots, state: &[u8], x: &Bases, v: usize) -> usize
         return x[OWNED] + o;
     }
     let at = x[FRAMED] + o;
-    if code::var_mode(c, v) == 2 {
+    if code::var_mode(c, v) == kinds::VAR_PARAMETER {
         return wide(word_at(state, at));
     }
     at

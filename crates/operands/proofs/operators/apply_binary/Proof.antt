@@ -9,8 +9,10 @@ apply-binary-spec =
     (tie.spec
     (λ c κs. search needs)
     (λ c κs. search needs)
+    (λ c κs. search needs)
     (λ c. search applies)
     (λ c κs. search needs)
     (λ c. search applies)
+    (λ c κs. search needs)
     (λ c κs. search needs)
     (λ c. search applies))
