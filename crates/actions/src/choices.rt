@@ -2,24 +2,27 @@
 use super::Stack;
 use super::eval;
 use code::kinds;
-use guards::Found;
 use guards::enter;
 use guards::pass;
 use operands::Context;
-use words::values::Value;
-ghost use mathlib.Core.Path.{_≡_};
 ghost use Prim.Native.Nat.{_≤_};
 ghost use Rattle.table.specs.Entries.{stmtKind, stmtA};
-ghost use Rattle.words.specs.Values.{outcomeOf};
 ghost use Rattle.code.specs.Code.{decoded};
 ghost use Rattle.machine.specs.Memory.{memoryOf};
-ghost use Rattle.machine.specs.Operands.{operand};
-ghost use Rattle.operands.specs.Answers.{firstWord, Evaluable, OneWord};
+ghost use Rattle.operands.specs.Answers.{Evaluable, OneWord};
+ghost use Rattle.operands.specs.Packed.{Evaluated};
 ghost use Rattle.operands.specs.Ready.{contextIn};
 ghost use Rattle.effects.specs.Effects.{CarriedOut};
-ghost use Rattle.guards.specs.Guards.{Choosable, Chosen};
+ghost use Rattle.guards.specs.Guards.{Choosable};
 ghost use Rattle.engine.specs.Planning.{Rooted};
 ghost use Rattle.actions.specs.Acting.{Acting};
+ghost use Rattle.actions.specs.Choosing.{Picked};
+
+// Value 0 and the end of the arms, a value above 65,535, which is a failure, or the arm whose guard is true.
+pub struct Choice {
+    pub at: usize,
+    pub value: u32,
+}
 
 // The value of the guard of arm i.
 fn guard(
@@ -30,12 +33,12 @@ fn guard(
     page: &[u8],
     x: Context,
     i: usize,
-) -> Value
+) -> u32
     requires { ⌜ Acting (now c) (now k) (now state) (now page) x ⌝ }
     requires { ⌜ Evaluable (decoded (now c)) (memoryOf (now state)) (memoryOf (now page)) (contextIn x) (stmtA (decoded (now c)) i) ⌝ }
     requires { ⌜ OneWord (decoded (now c)) (stmtA (decoded (now c)) i) ⌝ }
     requires { ⌜ Rooted (decoded (now c)) (stmtA (decoded (now c)) i) ⌝ }
-    ensures { λ r. ⌜ outcomeOf r ≡ firstWord (operand (decoded (now (c .entry))) (memoryOf (now (state .entry))) (memoryOf (now (page .entry))) (contextIn x) (stmtA (decoded (now (c .entry))) i)) ⌝ }
+    ensures { λ r. ⌜ Evaluated (now (c .entry)) (now (state .entry)) (now (page .entry)) x (stmtA (decoded (now (c .entry))) i) r ⌝ }
 {
     let a = code::stmt_a(c, i);
     eval(c, k, stack, state, page, x, a)
@@ -50,27 +53,20 @@ fn choose(
     page: &[u8],
     x: Context,
     i: usize,
-) -> Found
+) -> Choice
     requires { ⌜ Acting (now c) (now k) (now state) (now page) x ⌝ }
     requires { ⌜ Choosable (decoded (now c)) (memoryOf (now state)) (memoryOf (now page)) (contextIn x) i ⌝ }
-    ensures { λ r. ⌜ Chosen (decoded (now (c .entry))) (memoryOf (now (state .entry))) (memoryOf (now (page .entry))) (contextIn x) i r ⌝ }
+    ensures { λ r. ⌜ Picked (decoded (now (c .entry))) (memoryOf (now (state .entry))) (memoryOf (now (page .entry))) (contextIn x) i r ⌝ }
 {
     let mut j = i;
     while code::stmt_kind(c, j) == kinds::ARM {
         let v = guard(c, k, stack, state, page, x, j);
-        match v {
-            Value::Fail(f) => {
-                return Found::Fails(f);
-            }
-            Value::Word(w) => {
-                if w != 0 {
-                    return Found::Arm(j);
-                }
-            }
+        if v != 0 {
+            return Choice { at: j, value: v };
         }
         j = code::stmt_link(c, j);
     }
-    Found::End(j)
+    Choice { at: j, value: 0 }
 }
 
 // An if, while, when or cycle is followed by its first arm.
@@ -89,9 +85,13 @@ pub fn open(
     let waits = kinds::WHEN <= code::stmt_kind(c, x.statement);
     let first = x.statement + 1;
     let r = choose(c, k, stack, state, page, x, first);
-    match r {
-        Found::Fails(f) => effects::fail(state, f),
-        Found::Arm(i) => enter(state, x, waits, i),
-        Found::End(i) => pass(state, x, waits, i),
+    let v = r.value;
+    let i = r.at;
+    if 65536 <= v {
+        return effects::fail_by(state, v);
     }
+    if v == 0 {
+        return pass(state, x, waits, i);
+    }
+    enter(state, x, waits, i)
 }

@@ -2,8 +2,8 @@
 use super::Stack;
 use super::eval;
 use operands::Context;
+use operands::packed::cut;
 use transfers::devices::write_word;
-use words::values::Value;
 ghost use mathlib.Core.Path.{_≡_};
 ghost use Rattle.table.specs.Entries.{stmtKind};
 ghost use Rattle.code.specs.Code.{decoded};
@@ -27,10 +27,10 @@ fn write_value(
 {
     let b = code::stmt_b(c, x.statement);
     let v = eval(c, k, stack, state, page, x, b);
-    match v {
-        Value::Fail(f) => effects::fail(state, f),
-        Value::Word(w) => write_word(state, page, x, address, w),
+    if 65536 <= v {
+        return effects::fail_by(state, v);
     }
+    write_word(state, page, x, address, cut(v))
 }
 
 // 12.3.
@@ -48,8 +48,8 @@ pub fn write(
 {
     let a = code::stmt_a(c, x.statement);
     let v = eval(c, k, stack, state, page, x, a);
-    match v {
-        Value::Fail(f) => effects::fail(state, f),
-        Value::Word(w) => write_value(c, k, stack, state, page, x, w),
+    if 65536 <= v {
+        return effects::fail_by(state, v);
     }
+    write_value(c, k, stack, state, page, x, cut(v))
 }

@@ -18,6 +18,7 @@ use Rattle.machine.specs.Layout.{location, frameAt, worksAt, holderAt, depthAt,
 use Rattle.machine.specs.Lent.{State, Becomes}
 use Rattle.machine.specs.Outcomes.{ok, stuck}
 use Rattle.machine.specs.Entries.{Statement, noStatement, statementOf, stmtAt}
+use Rattle.machine.proofs.Entries.{statement-cases}
 use Rattle.machine.specs.Context as machine
 use Rattle.machine.specs.Context.{contextOf, contextual}
 use Rattle.machine.specs.Calls.{popped, returns, return}
@@ -41,26 +42,11 @@ module _ (T : Table) (m page : Memory) (x : machine.Context) (e : ℕ) where
   there false y g = absurd (g refl)
 
   a-call : (k a b c d l : ℕ) → (returns T m page x e (statementOf k a b c d l) ≡ stuck → ⊥) → (k ≡ 3 → ⊥) → k ≡ 2
-  unfolding returns statementOf
-  a-call k a b c d l g n =
-      cases (eqb k 2)
-      (λ e2. eqb-true k 2 e2)
-      (λ e2.
-      absurd (g
-      (let e3 = ne-eqb k 3 n in
-      cases (eqb k 0) (λ e0. rw e0)
-      (λ e0. cases (eqb k 1) (λ e1. rw (e0, e1))
-      (λ e1. cases (eqb k 4) (λ e4. rw (e0, e1, e2, e3, e4))
-      (λ e4. cases (eqb k 5) (λ e5. rw (e0, e1, e2, e3, e4, e5))
-      (λ e5. cases (eqb k 6) (λ e6. rw (e0, e1, e2, e3, e4, e5, e6))
-      (λ e6. cases (eqb k 7) (λ e7. rw (e0, e1, e2, e3, e4, e5, e6, e7))
-      (λ e7. cases (eqb k 8) (λ e8. rw (e0, e1, e2, e3, e4, e5, e6, e7, e8))
-      (λ e8. cases (eqb k 9) (λ e9. rw (e0, e1, e2, e3, e4, e5, e6, e7, e8, e9))
-      (λ e9. cases (eqb k 10) (λ ea. rw (e0, e1, e2, e3, e4, e5, e6, e7, e8, e9, ea))
-      (λ ea. cases (eqb k 11) (λ eb. rw (e0, e1, e2, e3, e4, e5, e6, e7, e8, e9, ea, eb))
-      (λ eb. cases (eqb k 12) (λ ec. rw (e0, e1, e2, e3, e4, e5, e6, e7, e8, e9, ea, eb, ec))
-      (λ ec. cases (eqb k 13) (λ ed. rw (e0, e1, e2, e3, e4, e5, e6, e7, e8, e9, ea, eb, ec, ed))
-      (λ ed. rw (e0, e1, e2, e3, e4, e5, e6, e7, e8, e9, ea, eb, ec, ed))))))))))))))))
+  unfolding returns
+  a-call k a b c d l h n =
+      statement-cases (λ s. (returns T m page x e s ≡ stuck → ⊥) → k ≡ 2) k a b c d l
+      (λ q g. absurd (g refl)) (λ q g. absurd (g refl)) (λ q g. q) (λ q g. absurd (n q)) (λ q g. absurd (g refl)) (λ q g. absurd (g refl)) (λ q g. absurd (g refl))
+      (λ q g. absurd (g refl)) (λ q g. absurd (g refl)) (λ q g. absurd (g refl)) (λ q g. absurd (g refl)) (λ q g. absurd (g refl)) (λ q g. absurd (g refl)) (λ q g. absurd (g refl)) (λ g. absurd (g refl)) h
 
   by-local : (k a b c d l : ℕ) → k ≡ 2 → returns T m page x e (statementOf k a b c d l) ≡ ok (popped T m page x m e)
   unfolding returns statementOf

@@ -22,12 +22,12 @@ ghost use Rattle.machine.specs.Statements.{free};
 ghost use Rattle.calls.specs.Serving.{Serving, Starting, Beginning};
 
 // Process r can serve a call when it is started and nobody holds its variables.
-fn is_free(state: &[u8], r: usize) -> bool
+pub fn is_free(state: &[u8], r: usize) -> bool
     requires { ⌜ State (now state) ⌝ }
     requires { ⌜ (1 ≤ r) × (r ≤ 64) ⌝ }
     ensures { λ b. ⌜ b ≡ free (memoryOf (now (state .entry))) r ⌝ }
 {
-    if machine::record_word(state, r, machine::STATUS) == 1 {
+    if machine::record_word(state, r, machine::STATUS) == machine::UNSTARTED {
         return false;
     }
     machine::record_word(state, r, machine::HOLDER) == 0
@@ -80,7 +80,7 @@ fn call_process(
 }
 
 // A call of process r, which can serve it.
-fn call_on(c: &code::Slots, state: &mut [u8], page: &[u8], x: Context, r: usize) -> u8
+pub fn call_on(c: &code::Slots, state: &mut [u8], page: &[u8], x: Context, r: usize) -> u8
     requires { ⌜ Serving (now c) (now state) (now page) x r ⌝ }
     requires { ⌜ free (memoryOf (now state)) r ≡ true ⌝ }
     ensures { λ a. ⌜ CarriedOut (now (c .entry)) (now (state .entry)) (now (page .entry)) x a (now (state .exit)) (now (page .entry)) ⌝ }
@@ -165,7 +165,7 @@ fn start_once(c: &code::Slots, state: &mut [u8], page: &[u8], x: Context, r: usi
     ensures { λ a. ⌜ CarriedOut (now (c .entry)) (now (state .entry)) (now (page .entry)) x a (now (state .exit)) (now (page .entry)) ⌝ }
 {
     let status = machine::record_word(state, r, machine::STATUS);
-    if status == 1 {
+    if status == machine::UNSTARTED {
         return start_created(c, state, page, x, r);
     }
     effects::fail(state, Failure::StartedTwice)

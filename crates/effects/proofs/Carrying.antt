@@ -1,22 +1,27 @@
 -- A statement that is not stuck exists, and does what its kind says. Assumes nothing.
-use Prim.Native.Nat.{ℕ, _<_}
+use Prim.Native.Nat.{ℕ, _-_, _<_}
 use mathlib.Core.Path.{_≡_, refl, _∙_}
 use mathlib.Core.Bool.{Bool, true, false}
 use mathlib.Core.List.{List}
-use borrow.Author.Tests.{ltb-true, lt-ltb}
+use native.Mathlib.Omega.{arith}
+use borrow.Author.Tests.{eqb-true, ltb-true, lt-ltb}
 use lib.ListN.{length}
-use lib.Dec.{ltb}
-use Rattle.basics.specs.Choice.{pick}
+use lib.Dec.{eqb, ltb}
+use mir.Val.{Fits}
+use mir.Syntax.{w8}
+use Rattle.basics.specs.Choice.{pick, between}
+use Rattle.basics.proofs.Bools.{either-case}
 use Rattle.table.specs.Table.{Table}
 use Rattle.table.specs.Entries.{stmtCount, stmtKind, stmtA, stmtB, stmtC, stmtD, stmtLink}
 use Rattle.machine.specs.Memory.{Memory, memoryOf, update}
 use Rattle.machine.specs.Layout.{failureAt, pageWords, pageSize}
 use Rattle.machine.specs.Lent.{Changed, Becomes}
-use Rattle.machine.specs.Outcomes.{ok, fail, stuck}
+use Rattle.machine.specs.Outcomes.{ok, fail, stuck, isFailure}
 use Rattle.machine.specs.Entries.{Statement, if, while, when, cycle, noStatement, statementOf, stmtAt}
 use Rattle.machine.specs.Context.{Context}
 use Rattle.machine.specs.Statements.{effect, goOn, doAssign, doLocalCall, doProcessCall, doCreate, doStart, doOpener, doEnd, doWrite, doBlockEnd, perform}
 use Rattle.machine.specs.Step.{settled}
+use Rattle.machine.proofs.Tests.{range-high}
 use Rattle.effects.specs.Effects.{carried, Stepped}
 
 there : (b : Bool) (T : Table) (m page : Memory) (x : Context) (y : Statement)
@@ -125,3 +130,14 @@ module _ (T : Table) (s d s1 d1 : List ℕ) (x : Context) where
 pub marked : (n r v : ℕ) (s s1 : List ℕ) → r ≡ n → v ≡ r → Becomes s1 (update (memoryOf s) failureAt v)
     → Becomes s1 (update (memoryOf s) failureAt n)
 marked n r v s s1 e k i = rw (k, e) at i
+
+-- ---- the laws of `fail_by`
+failure-small : (n : ℕ) → isFailure n ≡ true → n < 256
+unfolding isFailure
+failure-small n e =
+    either-case (between 16 24 n) (eqb n 31) e
+    (λ h. let q = range-high 16 24 n h in omega arith)
+    (λ h. let q = eqb-true n 31 h in omega arith)
+
+pub failure-fits : (r v : ℕ) → v ≡ r - 65536 → isFailure (r - 65536) ≡ true → Fits w8 v
+failure-fits r v h e = let l = failure-small (r - 65536) e in record { fits = omega arith }

@@ -6,6 +6,7 @@ ghost use Prim.Native.Nat.{_≤_};
 ghost use Rattle.table.specs.Entries.{stmtKind};
 ghost use Rattle.code.specs.Code.{decoded};
 ghost use Rattle.effects.specs.Effects.{CarriedOut, Standing};
+ghost use Rattle.statements.specs.Other.{Other};
 
 // Calls, create and start: kinds 2 to 5.
 fn perform_call(c: &code::Slots, state: &mut [u8], page: &[u8], x: Context, k: usize) -> u8
@@ -25,6 +26,21 @@ fn perform_call(c: &code::Slots, state: &mut [u8], page: &[u8], x: Context, k: u
     calls::processes::start(c, state, page, x)
 }
 
+// What is carried out alike with a plan and without, besides arms and ends: skip, calls, create and start, the end of a block.
+pub fn perform_other(c: &code::Slots, state: &mut [u8], page: &[u8], x: Context, k: usize) -> u8
+    requires { ⌜ Standing (now c) (now state) (now page) x ⌝ }
+    requires { ⌜ (stmtKind (decoded (now c)) (x .statement) ≡ k) × Other k ⌝ }
+    ensures { λ r. ⌜ CarriedOut (now (c .entry)) (now (state .entry)) (now (page .entry)) x r (now (state .exit)) (now (page .entry)) ⌝ }
+{
+    if k == kinds::SKIP {
+        return guards::skip(c, state, page, x);
+    }
+    if k <= kinds::START {
+        return perform_call(c, state, page, x, k);
+    }
+    calls::procedures::block_end(c, state, page, x)
+}
+
 // The statement where its process stands: the answer, the state and the page are those of `carried`.
 pub fn perform(c: &code::Slots, state: &mut [u8], page: &mut [u8], x: Context) -> u8
     requires { ⌜ Standing (now c) (now state) (now page) x ⌝ }
@@ -34,11 +50,8 @@ pub fn perform(c: &code::Slots, state: &mut [u8], page: &mut [u8], x: Context) -
     if k == kinds::ASSIGN {
         return transfers::assignments::assign(c, state, page, x);
     }
-    if k == kinds::SKIP {
-        return guards::skip(c, state, page, x);
-    }
     if k <= kinds::START {
-        return perform_call(c, state, page, x, k);
+        return perform_other(c, state, page, x, k);
     }
     if k <= kinds::CYCLE {
         return guards::open(c, state, page, x);
@@ -49,5 +62,5 @@ pub fn perform(c: &code::Slots, state: &mut [u8], page: &mut [u8], x: Context) -
     if k == kinds::WRITE {
         return transfers::devices::write(c, state, page, x);
     }
-    calls::procedures::block_end(c, state, page, x)
+    perform_other(c, state, page, x, k)
 }

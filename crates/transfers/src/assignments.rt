@@ -46,7 +46,7 @@ fn assign_words(c: &code::Slots, state: &mut [u8], page: &[u8], x: Context, i: u
 }
 
 // A string constant (02, b). The page is left what it is.
-fn assign_text(c: &code::Slots, state: &mut [u8], page: &[u8], x: Context, i: usize) -> u8
+pub fn assign_text(c: &code::Slots, state: &mut [u8], page: &[u8], x: Context, i: usize) -> u8
     requires { ⌜ Assigning (now c) (now state) (now page) x i ⌝ }
     requires { ⌜ nodeKind (decoded (now c)) (stmtB (decoded (now c)) (x .statement)) ≡ 8 ⌝ }
     ensures { λ r. ⌜ CarriedOut (now (c .entry)) (now (state .entry)) (now (page .entry)) x r (now (state .exit)) (now (page .entry)) ⌝ }

@@ -22,7 +22,7 @@ fn create_next(state: &mut [u8], page: &[u8], x: Context, i: usize, block: usize
     ensures { λ r. ⌜ Stepped r (now (state .exit)) (now (page .entry)) (settled (memoryOf (now (state .entry))) (memoryOf (now (page .entry))) (creates (memoryOf (now (state .entry))) (memoryOf (now (page .entry))) x i block)) ⌝ }
 {
     let n = machine::record_word(state, 1, machine::CREATED);
-    if n == 64 {
+    if n == machine::PROCESSES {
         return effects::fail(state, Failure::ProcessLimit);
     }
     frames::create_at(

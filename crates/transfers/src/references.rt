@@ -24,7 +24,7 @@ fn refer(w: u16) -> Reference
 }
 
 // The process that the variable at location a refers to; before its value, its mark is tested (02, g).
-fn refer_at(state: &[u8], a: usize) -> Reference
+pub fn refer_at(state: &[u8], a: usize) -> Reference
     requires { ⌜ State (now state) ⌝ }
     requires { ⌜ a < locations ⌝ }
     ensures { λ r. ⌜ referred r ≡ placeRefers (memoryOf (now (state .entry))) a ⌝ }

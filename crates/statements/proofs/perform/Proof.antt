@@ -1,4 +1,4 @@
-use Rattle.statements.proofs.Performs.{last-is}
+use Rattle.statements.proofs.Performs.{others}
 use borrow.Author.Needs.{needs}
 use Rattle.statements.proofs.perform.Statement.{statement}
 use Rattle.statements.proofs.perform.Tie as tie
@@ -12,7 +12,7 @@ perform-spec =
     (λ c. search needs)
     (λ c. search needs)
     (λ c. search needs)
-    (λ c κs. search needs)
+    (λ c κs. (search needs, (search needs, search others)))
     (λ c. search needs)
     (λ c. search needs)
     (λ c. search needs)
@@ -28,11 +28,7 @@ perform-spec =
     (λ c. search needs)
     (λ c. search needs)
     (λ c. search needs)
-    (λ c κs. search needs)
-    (λ c. search needs)
-    (λ c. search needs)
-    (λ c. search needs)
-    (λ c κs. (search needs, search last-is))
+    (λ c κs. (search needs, (search needs, search others)))
     (λ c. search needs)
     (λ c. search needs)
     (λ c. search needs))

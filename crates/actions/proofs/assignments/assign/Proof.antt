@@ -1,4 +1,5 @@
-use Rattle.transfers.proofs.Assigning.{assigns, assign-target}
+use Rattle.transfers.proofs.Assigning.{assigns}
+use Rattle.actions.proofs.Answering.{answers, listed-fails}
 use Rattle.actions.proofs.Rooting.{roots}
 use borrow.Author.Needs.{needs}
 use Rattle.actions.proofs.assignments.assign.Statement.{statement}
@@ -10,11 +11,10 @@ assign-spec =
     (tie.spec
     (λ c κs. search needs)
     (λ c κs. (search needs, (search assigns, search roots)))
+    (λ c κs. (search needs, listed-fails _ (c .before .before .select .ensures .listed) (search needs)))
     (λ c. search needs)
+    (λ c. search answers)
     (λ c κs. search needs)
-    (λ c. search needs)
-    (λ c κs. (search needs, assign-target _ _ _ _ (c .before .before .before .before .before .before .before .before .before .before .before .before .pre .0 .standing) (c .before .before .before .before .before .before .before .before .before .before .before .before .pre .1) _ (c .before .before .before .before .before .before .before .before .stmt-a .ensures .is) _ (c .before .before .before .before .before .select .ensures) _ (c .before .before .before .l2 .given .1)))
-    (λ c. search needs)
-    (λ c. search (assigns, needs))
+    (λ c κs. (search needs, search answers))
     (λ c. search needs)
     (λ c. search needs))

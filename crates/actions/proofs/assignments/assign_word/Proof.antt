@@ -1,4 +1,5 @@
 use Rattle.transfers.proofs.Assigning.{assigns}
+use Rattle.actions.proofs.Answering.{answers, listed-fails}
 use Rattle.actions.proofs.Rooting.{roots}
 use borrow.Author.Needs.{needs}
 use Rattle.actions.proofs.assignments.assign_word.Statement.{statement}
@@ -10,12 +11,11 @@ assign-word-spec =
     (tie.spec
     (λ c κs. search needs)
     (λ c κs. (search needs, (search assigns, (search assigns, search roots))))
+    (λ c κs. (search needs, listed-fails _ (c .before .before .eval .ensures .listed) (search needs)))
     (λ c. search needs)
+    (λ c. search answers)
     (λ c κs. search needs)
-    (λ c. search needs)
     (λ c κs. search (assigns, needs))
     (λ c κs. search needs)
     (λ c. search needs)
-    (λ c. search (assigns, needs))
-    (λ c. search needs)
-    (λ c. search (assigns, needs)))
+    (λ c. search answers))

@@ -1,5 +1,6 @@
+use Rattle.actions.proofs.Answering.{listed-fails}
+use Rattle.actions.proofs.Guarding.{planned-opening}
 use borrow.Author.Needs.{needs}
-use Rattle.guards.proofs.Opening.{opening, end-going}
 use Rattle.actions.proofs.choices.open.Statement.{statement}
 use Rattle.actions.proofs.choices.open.Tie as tie
 
@@ -8,17 +9,14 @@ open-spec =
     tie.close
     (tie.spec
     (λ c κs. search needs)
-    (λ c. search opening)
-    (λ c κs. (search needs, search opening))
+    (λ c. search planned-opening)
+    (λ c κs. (search needs, search planned-opening))
+    (λ c κs. (search planned-opening, listed-fails _ (c .before .before .choose .ensures .listed) (search needs)))
     (λ c. search needs)
-    (λ c κs. search needs)
+    (λ c. search planned-opening)
+    (λ c κs. search planned-opening)
     (λ c. search needs)
-    (λ c κs. search opening)
+    (λ c. search planned-opening)
+    (λ c κs. search planned-opening)
     (λ c. search needs)
-    (λ c κs. search end-going)
-    (λ c. search needs)
-    (λ c. search opening)
-    (λ c. search needs)
-    (λ c. search opening)
-    (λ c. search needs)
-    (λ c. search opening))
+    (λ c. search planned-opening))

@@ -1,4 +1,5 @@
-use Rattle.transfers.proofs.Writing.{writings, address-writing}
+use Rattle.transfers.proofs.Writing.{writings}
+use Rattle.actions.proofs.Answering.{written, listed-fails, address-found}
 use Rattle.actions.proofs.Rooting.{roots}
 use borrow.Author.Needs.{needs}
 use Rattle.actions.proofs.devices.write.Statement.{statement}
@@ -10,13 +11,12 @@ write-spec =
     (tie.spec
     (λ c κs. search needs)
     (λ c κs. (search needs, (search writings, (search writings, search roots))))
+    (λ c κs. (search needs, listed-fails _ (c .before .before .eval .ensures .listed) (search needs)))
     (λ c. search needs)
+    (λ c. search needs)
+    (λ c. search written)
     (λ c κs. search needs)
-    (λ c. search needs)
-    (λ c κs. (search needs, address-writing _ _ _ _ (c .before .before .before .before .before .before .before .before .before .before .before .before .before .before .pre .0 .standing) (c .before .before .before .before .before .before .before .before .before .before .before .before .before .before .pre .1) _ (c .before .before .before .before .before .before .before .before .before .before .stmt-a .ensures .is) _ (c .before .before .before .before .before .before .eval .ensures) _ (c .before .before .before .before .v2 .given .1)))
-    (λ c. search needs)
-    (λ c. search needs)
-    (λ c. search (writings, needs))
+    (λ c κs. (search needs, let b = c .before .before .before .before .before in address-found _ _ _ _ (b .before .before .before .before .before .before .before .before .pre .0 .standing) (b .before .before .before .before .before .before .before .before .pre .1) _ (b .before .before .before .before .stmt-a .ensures .is) _ (b .eval .ensures) _ (search needs) (search needs)))
     (λ c. search needs)
     (λ c. search needs)
     (λ c. search needs))
