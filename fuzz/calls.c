@@ -1,7 +1,8 @@
 /* A fuzz target of the four calls that take tables, for libFuzzer (make fuzz) or AFL++, and for fuzz/short.c, which makes inputs of its own.
  *
  * An input: a byte of flags, one of which is the number that the run begins with; a byte n, and n damages to the state, each a word (where) and a
- * byte (what is flipped); a byte n, and n bytes of schedule; three bytes, what to look at; and the rest, which is the table.
+ * byte (what is flipped); a byte n, and n bytes of schedule, which by a flag are gone through four times; three bytes, what to look at; and the rest,
+ * which is the table.
  *
  * What must hold of any input: nothing crashes or is touched beside a slice; a refusal changes no lent byte; begin, run and look give a table the
  * verdict of check; begin refuses other numbers than 0 and 1; each answer is one of joyce.h, and after a failure all are the same; no step answers
@@ -23,13 +24,16 @@
 
 int LLVMFuzzerTestOneInput(const uint8_t *data, size_t size);
 
-enum { WRONG_STATE = 1, WRONG_PAGE = 2, SHORT_ANSWERS = 4, LONG_ANSWERS = 8, WARM = 16, SINGLE_STEPS = 32, ZEROS = 64 };
-enum { SCHEDULE_MAX = 255, TAIL = 64 };
+enum { WRONG_STATE = 1, WRONG_PAGE = 2, SHORT_ANSWERS = 4, LONG_ANSWERS = 8, WARM = 16, SINGLE_STEPS = 32, ZEROS = 64, REPEATED = 128 };
+/* A run goes by a plan where it has so many steps more than the table has nodes (crates/stepper): 319 steps where those are 255. */
+enum { PLAN_PAYS = 64 };
+enum { REPEATS = 4, SCHEDULE_MAX = REPEATS * 255, TAIL = 64 };
 
 struct input {
     const uint8_t *rest;
     size_t left;
-    uint8_t flags, damages, turns;
+    uint8_t flags, damages;
+    size_t turns;
     const uint8_t *damage, *schedule, *looks, *table;
     size_t table_len;
 };
@@ -84,6 +88,15 @@ static void *filled(size_t length, int byte)
     return bytes;
 }
 
+/* The steps of a run, lent with their exact length. */
+static uint8_t *all_turns(const uint8_t *schedule, size_t turns, size_t times)
+{
+    uint8_t *all = filled(times * turns, 0);
+    for (size_t i = 0; i < times; i++)
+        memcpy(all + i * turns, schedule, turns);
+    return all;
+}
+
 static struct lent lend(const struct input *in)
 {
     struct lent l = {.state_len = JOYCE_STATE_SIZE, .page_len = JOYCE_PAGE_SIZE, .answers_len = in->turns};
@@ -136,7 +149,7 @@ static uint32_t run(const struct input *in, struct lent *l, size_t first, size_t
 
 #ifdef COUNT
 static struct {
-    unsigned long inputs, verdicts[JOYCE_TYPES + 1], accepted_long, stepped, stepped_strings, by_reserve, by_area;
+    unsigned long inputs, verdicts[JOYCE_TYPES + 1], accepted_long, stepped, stepped_strings, planned, planned_long, by_reserve, by_area;
     bool has_stepped; /* the input at hand */
 } seen;
 
@@ -147,9 +160,10 @@ static double share(unsigned long part)
 
 static void tell(void)
 {
-    fprintf(stderr, "%lu inputs, %.1f %% step an accepted program, %.1f %% one with string constants, %.1f %% pass a reserve, %.1f %% pass an area; "
-                    "accepted and longer than 100 bytes: %.1f %%; verdicts", seen.inputs, share(seen.stepped), share(seen.stepped_strings),
-            share(seen.by_reserve), share(seen.by_area), share(seen.accepted_long));
+    fprintf(stderr, "%lu inputs, %.1f %% step an accepted program, %.1f %% one with string constants, %.1f %% one by a plan, %lu of these of more "
+                    "than 191 nodes, %.1f %% pass a reserve, %.1f %% pass an area; accepted and longer than 100 bytes: %.1f %%; verdicts",
+            seen.inputs, share(seen.stepped), share(seen.stepped_strings), share(seen.planned), seen.planned_long, share(seen.by_reserve),
+            share(seen.by_area), share(seen.accepted_long));
     for (int i = 0; i <= JOYCE_TYPES; i++)
         if (i != JOYCE_LENGTH)
             fprintf(stderr, " %d: %.1f %%", i, share(seen.verdicts[i]));
@@ -167,14 +181,28 @@ static void count_steps(const uint8_t *answers, size_t turns)
     seen.has_stepped |= memchr(answers, JOYCE_DONE, turns) != NULL;
 }
 
-/* The eighth section of an accepted table has characters. */
-static bool has_strings(const struct input *in)
+/* Where a section of an accepted table begins. */
+static size_t section_at(const struct input *in, int section)
 {
     static const size_t sizes[] = {7, 1, 2, 8, 1, 5, 6};
     size_t at = 0;
-    for (int i = 0; i < 7 && at < in->table_len; i++)
+    for (int i = 0; i < section && at < in->table_len; i++)
         at += 1 + in->table[at] * sizes[i];
-    return at + 1 < in->table_len;
+    return at;
+}
+
+/* The eighth section of an accepted table has characters. */
+static bool has_strings(const struct input *in)
+{
+    return section_at(in, 7) + 1 < in->table_len;
+}
+
+static void count_plan(const struct input *in)
+{
+    size_t at = section_at(in, 5), nodes = at < in->table_len ? in->table[at] : 0;
+    bool is_planned = seen.has_stepped && !has_strings(in) && in->turns >= nodes + PLAN_PAYS;
+    seen.planned += is_planned;
+    seen.planned_long += is_planned && nodes > 191;
 }
 
 static void count(const struct input *in, uint32_t verdict)
@@ -183,6 +211,7 @@ static void count(const struct input *in, uint32_t verdict)
     seen.accepted_long += verdict == JOYCE_ACCEPTED && in->table_len > 100;
     seen.stepped += seen.has_stepped;
     seen.stepped_strings += seen.has_stepped && has_strings(in);
+    count_plan(in);
     seen.has_stepped = false;
 }
 static void count_room(bool is_reserve)
@@ -366,6 +395,10 @@ int LLVMFuzzerTestOneInput(const uint8_t *data, size_t size)
     uint8_t *table = filled(in.table_len, 0);
     memcpy(table, in.table, in.table_len);
     in.table = table;
+    size_t times = in.flags & REPEATED ? REPEATS : 1;
+    uint8_t *schedule = all_turns(in.schedule, in.turns, times);
+    in.schedule = schedule;
+    in.turns *= times;
     uint32_t verdict = joyce_check(table, in.table_len);
     expect(verdict != JOYCE_LENGTH && verdict <= JOYCE_TYPES, "check returns what is no verdict");
 
@@ -380,6 +413,7 @@ int LLVMFuzzerTestOneInput(const uint8_t *data, size_t size)
     count(&in, verdict);
     expect(memcmp(table, data + (size - in.table_len), in.table_len) == 0, "the table was changed");
     release(&l);
+    free(schedule);
     free(table);
     return 0;
 }

@@ -933,7 +933,8 @@ static void change_head(struct head *h)
 {
     change_schedule(h);
     if (one_in(2))
-        h->flags = (uint8_t)((below(12) ? 0 : below(8)) | (below(3) ? 0 : 8) | (below(2) ? 16 : 0) | (below(4) ? 0 : 32) | (below(2) ? 64 : 0));
+        h->flags = (uint8_t)((below(12) ? 0 : below(8)) | (below(3) ? 0 : 8) | (below(2) ? 16 : 0) | (below(4) ? 0 : 32) | (below(2) ? 64 : 0) |
+                             (below(4) ? 0 : 128));
     if (one_in(2)) {
         h->damages = (uint8_t)(below(4) ? 0 : 1 + below(4));
         for (int i = 0; i < h->damages; i++) {

@@ -64,8 +64,9 @@ static uint32_t telling_place(void)
 static size_t put_head(uint8_t *input)
 {
     size_t at = 0;
-    uint32_t damages = below(3) ? 0 : 1 + below(4), turns = below(8) ? below(64) : below(256);
-    input[at++] = (uint8_t)((below(8) ? 0 : below(8)) | (below(3) ? 0 : 8) | (below(4) ? 16 : 0) | (below(4) ? 0 : 32) | (below(2) ? 64 : 0));
+    uint32_t damages = below(3) ? 0 : 1 + below(4), repeated = below(4) ? 0 : 128, turns = below(repeated ? 2 : 8) ? below(64) : below(256);
+    input[at++] = (uint8_t)((below(8) ? 0 : below(8)) | (below(3) ? 0 : 8) | (below(4) ? 16 : 0) | (below(4) ? 0 : 32) | (below(2) ? 64 : 0) |
+                            repeated);
     input[at++] = (uint8_t)damages;
     for (uint32_t i = 0; i < damages; i++) {
         uint32_t place = telling_place();
