@@ -1,8 +1,7 @@
 // Process calls (11.3): where the process variable stands is found by the plan; the call is then made as without one.
 use super::Stack;
 use super::select;
-use calls::processes::call_on;
-use calls::processes::is_free;
+use calls::processes::serve;
 use operands::Context;
 use operands::packed::widen;
 use transfers::Reference;
@@ -13,19 +12,7 @@ ghost use Rattle.table.specs.Entries.{stmtKind, stmtA};
 ghost use Rattle.code.specs.Code.{decoded};
 ghost use Rattle.operands.specs.Packed.{Located};
 ghost use Rattle.effects.specs.Effects.{CarriedOut, Standing};
-ghost use Rattle.calls.specs.Serving.{Serving};
 ghost use Rattle.actions.specs.Acting.{Acting};
-
-// The caller waits where process r cannot serve. With a caller for each of the two ways the compiler keeps the test in the step.
-fn serve(c: &code::Slots, state: &mut [u8], page: &[u8], x: Context, r: usize) -> u8
-    requires { ⌜ Serving (now c) (now state) (now page) x r ⌝ }
-    ensures { λ a. ⌜ CarriedOut (now (c .entry)) (now (state .entry)) (now (page .entry)) x a (now (state .exit)) (now (page .entry)) ⌝ }
-{
-    if is_free(state, r) {
-        return call_on(c, state, page, x, r);
-    }
-    1
-}
 
 // The call of the process that the variable at location i refers to.
 fn call_at(c: &code::Slots, state: &mut [u8], page: &[u8], x: Context, i: usize) -> u8

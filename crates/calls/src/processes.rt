@@ -22,7 +22,7 @@ ghost use Rattle.machine.specs.Statements.{free};
 ghost use Rattle.calls.specs.Serving.{Serving, Starting, Beginning};
 
 // Process r can serve a call when it is started and nobody holds its variables.
-pub fn is_free(state: &[u8], r: usize) -> bool
+fn is_free(state: &[u8], r: usize) -> bool
     requires { ⌜ State (now state) ⌝ }
     requires { ⌜ (1 ≤ r) × (r ≤ 64) ⌝ }
     ensures { λ b. ⌜ b ≡ free (memoryOf (now (state .entry))) r ⌝ }
@@ -80,7 +80,7 @@ fn call_process(
 }
 
 // A call of process r, which can serve it.
-pub fn call_on(c: &code::Slots, state: &mut [u8], page: &[u8], x: Context, r: usize) -> u8
+fn call_on(c: &code::Slots, state: &mut [u8], page: &[u8], x: Context, r: usize) -> u8
     requires { ⌜ Serving (now c) (now state) (now page) x r ⌝ }
     requires { ⌜ free (memoryOf (now state)) r ≡ true ⌝ }
     ensures { λ a. ⌜ CarriedOut (now (c .entry)) (now (state .entry)) (now (page .entry)) x a (now (state .exit)) (now (page .entry)) ⌝ }
@@ -96,7 +96,7 @@ pub fn call_on(c: &code::Slots, state: &mut [u8], page: &[u8], x: Context, r: us
 }
 
 // The caller waits where process r cannot serve.
-fn serve(c: &code::Slots, state: &mut [u8], page: &[u8], x: Context, r: usize) -> u8
+pub fn serve(c: &code::Slots, state: &mut [u8], page: &[u8], x: Context, r: usize) -> u8
     requires { ⌜ Serving (now c) (now state) (now page) x r ⌝ }
     ensures { λ a. ⌜ CarriedOut (now (c .entry)) (now (state .entry)) (now (page .entry)) x a (now (state .exit)) (now (page .entry)) ⌝ }
 {
