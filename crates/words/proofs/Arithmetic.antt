@@ -1,10 +1,10 @@
 -- What the code's operations in 32 bits come to: conversions, the test of a range, sums, differences, products. Assumes nothing.
-use Prim.Native.Nat.{ℕ, zero, suc, _+_, _*_, _-_, _<_, _≤_}
+use Prim.Native.Nat.{ℕ, zero, suc, _+_, _*_, _-_, _%_, _<_, _≤_}
 use mathlib.Core.Path.{_≡_, sym, ap, _∙_}
 use mathlib.Core.Bool.{Bool, true, false, cond}
 use native.Mathlib.Omega.{arith}
 use native.Mathlib.Nat.{mul-le-mul, le-trans}
-use borrow.Author.Tests.{lt-ltb, le-ltb}
+use borrow.Author.Tests.{lt-ltb, le-ltb, ltb-true, ltb-false}
 use lib.Bits.{bitAnd, and-mask}
 use lib.Dec.{T, ltb}
 use lib.IntN.{ℤ, pos, negsuc, negℤ, natAbs, _+ℤ_, _-ℤ_, _*ℤ_, subℕ, +ℤ-idl}
@@ -13,6 +13,7 @@ use mir.Syntax.{w16, w32}
 use mir.Val.{Fits, SFits, toZ, ofZ}
 use mir.Facts.{sfits-widen}
 use mir.ValLaws.{toZ-ofZ, toZ-pos, toZ-fits}
+use Rattle.basics.specs.Cases.{cases}
 use Rattle.basics.specs.Choice.{both}
 use Rattle.words.specs.Numbers.{intOf, wordOf, between}
 use Rattle.words.specs.Magnitudes.{signedZ}
@@ -24,22 +25,23 @@ use Rattle.words.proofs.Integers.{word-lt, in-range-mag}
 fits-int : (w : ℕ) → Fits w16 w → SFits w32 (intOf w)
 fits-int w f = sfits-widen tt (toZ-fits w16 w f)
 
-module _ (w : ℕ) (f : Fits w16 w) where
-  pub low-returns : w < 32768 → toZ w32 w ≡ intOf w
-  low-returns h = toZ-pos w32 w (omega arith) ∙ simp (lt-ltb w 32768 h)
-
-  module _ (h : 32768 ≤ w) where
-    high : toZ w32 w -ℤ pos 65536 ≡ intOf w
-    high = rw (toZ-pos w32 w (omega arith)) (simp (lt-ltb w 65536 (f .fits), le-ltb w 32768 h))
-
-    pub high-fits : SFits w32 (toZ w32 w -ℤ pos 65536)
-    high-fits = rw high (fits-int w f)
-
-    pub high-returns : toZ w32 (ofZ w32 (toZ w32 w -ℤ pos 65536)) ≡ intOf w
-    high-returns = rw high (toZ-ofZ w32 (intOf w) (fits-int w f))
-
 pub back : {w : ℕ} {z : ℤ} → z ≡ intOf w → Fits w16 w → toZ w32 (ofZ w32 z) ≡ intOf w
 back {w} e f = rw e (toZ-ofZ w32 (intOf w) (fits-int w f))
+
+-- half the range is added, modulo the range, and taken off again
+module _ (w : ℕ) (f : Fits w16 w) where
+  turned : toZ w32 ((w + 32768) % 65536) -ℤ pos 32768 ≡ intOf w
+  turned =
+      rw (toZ-pos w32 ((w + 32768) % 65536) (omega arith))
+      (cases (ltb w 32768)
+      (λ e. let h = ltb-true w 32768 e in rw (e, le-ltb ((w + 32768) % 65536) 32768 (omega arith)) (ap pos (omega arith)))
+      (λ e. let h = ltb-false w 32768 e in rw (e, lt-ltb ((w + 32768) % 65536) 32768 (omega arith)) (ap negsuc (omega arith))))
+
+  pub turned-fits : SFits w32 (toZ w32 ((w + 32768) % 65536) -ℤ pos 32768)
+  turned-fits = rw turned (fits-int w f)
+
+  pub turned-returns : toZ w32 (ofZ w32 (toZ w32 ((w + 32768) % 65536) -ℤ pos 32768)) ≡ intOf w
+  turned-returns = back turned f
 
 -- ---- from a sign and a magnitude
 mag-minus : (n : ℕ) → mag (negℤ (pos n)) ≤ n
@@ -102,7 +104,7 @@ module _ (z : ℤ) (f : SFits w32 z) (b : Bool) (e : b ≡ between (negsuc 32767
   unfolding ranged
   fail-returns t = rw (← tested, t)
 
-pub ruleset conversions = (low-returns, high-fits, high-returns, minus-fits, minus-returns, plus-returns, between-above, between-below, cast-sign, cast-fits, word-returns, fail-returns)
+pub ruleset conversions = (turned-fits, turned-returns, minus-fits, minus-returns, plus-returns, between-above, between-below, cast-sign, cast-fits, word-returns, fail-returns)
 
 -- ---- how large a result is
 mag-sub : (a b : ℕ) → mag (subℕ a b) ≤ a + b

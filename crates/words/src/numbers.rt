@@ -6,11 +6,8 @@ ghost use Rattle.words.specs.Numbers.{intOf, between};
 pub fn integer(w: u16) -> i32
     ensures { λ r. ⌜ r ≡ intOf w ⌝ }
 {
-    if w < 32768 {
-        w as i32
-    } else {
-        w as i32 - 65536
-    }
+    // without a branch: the compiler makes it one sign extension
+    ((w as u32 + 32768) % 65536) as i32 - 32768
 }
 
 // A word as a number, and a number as a word.

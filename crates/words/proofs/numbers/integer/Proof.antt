@@ -8,5 +8,4 @@ integer-spec = tie.close (tie.spec
     (λ c. search needs)
     (λ c. search needs)
     (λ c. search conversions)
-    (λ c. search conversions)
     (λ c. search conversions))
