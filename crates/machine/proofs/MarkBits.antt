@@ -72,6 +72,24 @@ pub put-own : (w k : ℕ) (v : Bool) → bitOf w k ≡ bitNumber v → putBit w 
 unfolding putBit
 put-own w k v e = rw (← e) (omega (arith, bit-le w k))
 
+-- ---- one bit of x and y together, x the lowest n bits
+
+half : (n x y : ℕ) → (x + y * 2 ^ suc n) / 2 ≡ x / 2 + y * 2 ^ n
+half n x y = rw (pow-suc 2 n) (omega arith)
+
+pub bit-lower : (n x y k : ℕ) → k < n → bitOf (x + y * 2 ^ n) k ≡ bitOf x k
+bit-lower zero x y k h = absurd (omega arith)
+bit-lower (suc n) x y zero h = rw (bit-zero (x + y * 2 ^ suc n), bit-zero x, pow-suc 2 n) (omega arith)
+bit-lower (suc n) x y (suc k) h =
+    rw (bit-suc (x + y * 2 ^ suc n) k, bit-suc x k, half n x y) (bit-lower n (x / 2) y k (omega arith))
+
+pub bit-higher : (n x y k : ℕ) → x < 2 ^ n → bitOf (x + y * 2 ^ n) (n + k) ≡ bitOf y k
+bit-higher zero x y k h = let e : x + y * 2 ^ 0 ≡ y = omega arith in let f : 0 + k ≡ k = omega arith in rw (e, f)
+bit-higher (suc n) x y k h =
+    let p = pow-suc 2 n in
+    let e : suc n + k ≡ suc (n + k) = omega arith in
+    rw (e, bit-suc (x + y * 2 ^ suc n) (n + k), half n x y) (bit-higher n (x / 2) y k (omega arith))
+
 -- ---- runs of bits
 
 mask-none : (k : ℕ) → maskOf k 0 ≡ 0

@@ -1,28 +1,51 @@
 -- What the code does, as flat laws. Assumes nothing.
-use Prim.Native.Nat.{ℕ, _+_, _-_, _*_, _/_, _%_, _<_, _≤_}
-use mathlib.Core.Path.{_≡_, refl, sym, _∙_}
+use Prim.Native.Nat.{ℕ, _+_, _-_, _*_, _/_, _%_, _^_, _<_, _≤_}
+use mathlib.Core.Path.{_≡_, refl, sym, ap, _∙_}
 use mathlib.Core.Bool.{Bool, true, false}
 use mathlib.Core.List.{List}
 use native.Mathlib.Omega.{arith}
 use borrow.Author.Needs.{needs}
 use lib.Dec.{eqb, ltb}
+use lib.ListN.{getD}
 use borrow.Author.Tests.{eqb-true, eqb-false, ltb-true, ltb-false}
 use Rattle.basics.specs.Cases.{cases}
 use Rattle.basics.specs.Choice.{both}
+use Rattle.words.specs.Bytes.{Bytes}
 use Rattle.machine.specs.Memory.{Memory, memoryOf, update}
 use Rattle.machine.specs.Layout.{plainWords, locations}
 use Rattle.machine.specs.Lent.{State, Becomes}
 use Rattle.machine.specs.Marks.{bitOf, markWord, marked, setMarks, allMarked}
 use Rattle.machine.specs.MarkRuns.{putRun, fullRun, Part}
+use Rattle.machine.proofs.MarkBits.{bit-lower, bit-higher}
 use Rattle.machine.proofs.MarkLaws.{marks-none, marks-add, marks-run, all-add, all-run}
+
+-- ---- one location: its mark is bit a % 8 of byte a / 8 of the marks, for the low byte of a word comes first
+
+module _ (s : List ℕ) (b : Bytes s) (a : ℕ) where
+  byte-bit : bitOf (getD s (plainWords * 2 + a / 8) 0) (a % 8) ≡ bitOf (memoryOf s (plainWords + a / 16)) (a % 16)
+  unfolding memoryOf
+  byte-bit =
+      let x = getD s ((plainWords + a / 16) * 2) 0 in
+      let y = getD s ((plainWords + a / 16) * 2 + 1) 0 in
+      cases (ltb (a % 16) 8)
+      (λ t.
+      let h = ltb-true (a % 16) 8 t in
+      let i : plainWords * 2 + a / 8 ≡ (plainWords + a / 16) * 2 = omega arith in
+      let k : a % 8 ≡ a % 16 = omega arith in
+      rw (i, k) (sym (bit-lower 8 x y (a % 16) h)))
+      (λ t.
+      let h = ltb-false (a % 16) 8 t in
+      let i : plainWords * 2 + a / 8 ≡ (plainWords + a / 16) * 2 + 1 = omega arith in
+      let k : a % 16 ≡ 8 + a % 8 = omega arith in
+      rw (i, k) (sym (bit-higher 8 x y (a % 8) (b .small ((plainWords + a / 16) * 2)))))
+
+  pub mark-is : eqb (getD s (plainWords * 2 + a / 8) 0 / 2 ^ (a % 8) % 2) 1 ≡ marked (memoryOf s) a
+  unfolding marked markWord bitOf
+  mark-is = ap (λ (x : ℕ). eqb x 1) byte-bit
 
 -- ---- in one word
 
 module _ (s : List ℕ) (a w : ℕ) (e : w ≡ memoryOf s (plainWords + a / 16)) where
-  pub mark-is : (r : Bool) → r ≡ eqb (bitOf w (a % 16)) 1 → r ≡ marked (memoryOf s) a
-  unfolding marked markWord
-  mark-is r h = rw (← e) h
-
   pub run-is : (r : Bool) (c : ℕ) → a % 16 + c ≤ 16 → r ≡ fullRun w (a % 16) c → r ≡ allMarked (memoryOf s) a c
   unfolding markWord
   run-is r c l h = h ∙ rw e (sym (all-run (memoryOf s) a c l))
