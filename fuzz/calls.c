@@ -25,8 +25,7 @@
 int LLVMFuzzerTestOneInput(const uint8_t *data, size_t size);
 
 enum { WRONG_STATE = 1, WRONG_PAGE = 2, SHORT_ANSWERS = 4, LONG_ANSWERS = 8, WARM = 16, SINGLE_STEPS = 32, ZEROS = 64, REPEATED = 128 };
-/* A run goes by a plan where it has so many steps more than the table has nodes (crates/stepper): 319 steps where those are 255. */
-enum { PLAN_PAYS = 64 };
+/* A run goes by a plan where it has as many steps as the table has nodes (crates/stepper), at most 255. */
 enum { REPEATS = 4, SCHEDULE_MAX = REPEATS * 255, TAIL = 64 };
 
 struct input {
@@ -200,7 +199,7 @@ static bool has_strings(const struct input *in)
 static void count_plan(const struct input *in)
 {
     size_t at = section_at(in, 5), nodes = at < in->table_len ? in->table[at] : 0;
-    bool is_planned = seen.has_stepped && !has_strings(in) && in->turns >= nodes + PLAN_PAYS;
+    bool is_planned = seen.has_stepped && !has_strings(in) && in->turns >= nodes;
     seen.planned += is_planned;
     seen.planned_long += is_planned && nodes > 191;
 }
