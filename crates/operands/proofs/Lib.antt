@@ -1,5 +1,6 @@
 pub mod Packing
 pub mod Bearings
+pub mod Indexes
 pub mod Standing
 pub mod Applying
 pub mod Nodes

@@ -5,9 +5,8 @@ use mathlib.Core.Bool.{Bool, true, false}
 use mathlib.Core.List.{List, _∷_}
 use lib.ListN.{getD}
 use lib.Dec.{eqb, leb, ltb}
-use native.Mathlib.Nat.{mul-le-mul}
 use native.Mathlib.Omega.{arith}
-use borrow.Author.Tests.{eq-eqb, ne-eqb, eqb-true, eqb-false, le-leb, lt-leb}
+use borrow.Author.Tests.{eq-eqb, ne-eqb, eqb-true, eqb-false}
 use mir.Val.{Fits}
 use mir.Syntax.{w64}
 use Rattle.basics.specs.Choice.{both}
@@ -15,7 +14,6 @@ use Rattle.basics.specs.Cases.{cases}
 use Rattle.table.specs.Table.{Table}
 use Rattle.table.specs.Entries.{nodeKind, varMode, typeP, typeQ, typeLow, typeHigh}
 use Rattle.table.specs.Reading.{Field}
-use Rattle.types.specs.Match.{offset}
 use Rattle.types.specs.Types.{typeOf}
 use Rattle.types.proofs.Matching.{constant-none}
 use Rattle.sizes.specs.Sizes.{wordsOf, offsetIn}
@@ -25,11 +23,10 @@ use Rattle.machine.specs.Memory.{memoryOf, within, Memory, wordsAt}
 use Rattle.machine.specs.Layout.{location, locations}
 use Rattle.machine.specs.Outcomes.{ok, failWhere, place}
 use Rattle.machine.specs.Operands.{outside, same}
-use Rattle.words.specs.Operators.{leW}
 use Rattle.machine.proofs.Tests.{failure-i}
 use Rattle.operands.specs.Answers.{single}
 use Rattle.operands.proofs.TypeWords.{single-numbered, single-constant}
-use Rattle.operands.proofs.Yielding.{le-offset}
+use Rattle.operands.proofs.Indexes.{index-outside, index-inside, index-is, index-times, index-sum}
 use Rattle.operands.proofs.Packing.{tell-place, tell-no-place}
 use Rattle.machine.specs.Variables.{offsetOf}
 use Rattle.code.specs.Code.{slotIn, decoded}
@@ -37,7 +34,7 @@ use Rattle.code.proofs.Slots.{slot-none}
 use Rattle.operands.specs.declared.Context.{Context}
 use Rattle.operands.specs.Bases.{contextAt, Based}
 use Rattle.operands.specs.Packed.{PlaceIs}
-use Rattle.operands.specs.Places.{numbered, framed, frameAt, wholeAt, elementAt, Matched}
+use Rattle.operands.specs.Places.{numbered, framed, frameAt, wholeAt, IndexIs, elementAt, Matched}
 use Rattle.operands.specs.Ready.{Naming, Fielded, Sized, Indexed, Valued, Counted}
 
 pub memory-word : (s : List ℕ) (a r : ℕ) → r ≡ wordAt s a → r ≡ memoryOf s a
@@ -161,53 +158,36 @@ counted-single t n τ w h f g =
 pub element-room : (t : List ℕ) (a τ i : ℕ) → Indexed t a τ i → outside (typeLow (decoded t) τ) (typeHigh (decoded t) τ) i ≡ false → elementAt (decoded t) a τ i < 65536
 element-room t a τ i h = h .room
 
-module _ (T : Table) (a τ i c k d low : ℕ) (hc : Field i c) (hk : k ≡ offset c) (hd : Field (typeLow T τ) d) (hl : low ≡ offset d) where
-  low-test : leW (typeLow T τ) i ≡ leb low k
-  low-test = let u = hc .is in let v = hd .is in rw (← u, ← v, hl, hk) (le-offset d c (hd .small) (hc .small))
+module _ (T : Table) (a τ i low high k d : ℕ) (hl : Field (typeLow T τ) low) (hh : Field (typeHigh T τ) high) (hk : Field i k) (e : IndexIs low high k d) where
+  index-at : IndexIs (typeLow T τ) (typeHigh T τ) i d
+  index-at = rw (← hl .is, ← hh .is, ← hk .is) e
 
   abbrev Element : ℕ → Type 0
   Element r = PlaceIs (typeQ T τ) (failWhere (outside (typeLow T τ) (typeHigh T τ) i) 18 (ok (place (elementAt T a τ i) (typeQ T τ)))) r
 
-  out-of-range : outside (typeLow T τ) (typeHigh T τ) i ≡ true → Element 65554
+  pub index-out : d ≡ 65536 → Element 65554
   unfolding failWhere
-  out-of-range e =
-      tell-no-place (typeQ T τ) _ 65554 (record { is = λ g. failure-i 18 (omega arith) (omega arith) }) (omega arith) (rw e)
+  index-out q =
+      let o = index-outside _ _ i d index-at (rw (← hk .is) (hk .small)) q in
+      tell-no-place (typeQ T τ) _ 65554 (record { is = λ g. failure-i 18 (omega arith) (omega arith) }) (omega arith) (rw o)
 
-  pub index-low : k < low → Element 65554
-  unfolding outside both
-  index-low h = out-of-range (rw (low-test, lt-leb low k h))
+  module _ (n : d ≡ 65536 → ⊥) (y w : ℕ) (u : y ≡ typeQ T τ) (q : w ≡ wordsOf T y) where
+    stands : a + d * w ≡ elementAt T a τ i
+    unfolding elementAt
+    stands = rw (q, u, index-is _ _ i d index-at n)
 
-  module _ (e high : ℕ) (he : Field (typeHigh T τ) e) (hh : high ≡ offset e) (h : low ≤ k) where
-    high-test : leW i (typeHigh T τ) ≡ leb k high
-    high-test = let u = hc .is in let v = he .is in rw (← u, ← v, hh, hk) (le-offset c e (hc .small) (he .small))
+    pub index-room : (outside (typeLow T τ) (typeHigh T τ) i ≡ false → elementAt T a τ i < 65536) → a + d * w < 65536
+    index-room r = rw stands (r (index-inside _ _ i d index-at n))
 
-    pub index-high : high < k → Element 65554
-    unfolding outside both
-    index-high g = out-of-range (rw (low-test, high-test, le-leb low k h, lt-leb k high g))
+    pub index-in : (r : ℕ) → Field (a + d * w) r → Element r
+    unfolding failWhere
+    index-in r f = tell-place (typeQ T τ) _ _ r f (rw (index-inside _ _ i d index-at n, stands))
 
-    module _ (y w : ℕ) (g : k ≤ high) (u : y ≡ typeQ T τ) (q : w ≡ wordsOf T y) where
-      in-range : outside (typeLow T τ) (typeHigh T τ) i ≡ false
-      unfolding outside both
-      in-range = rw (low-test, high-test, le-leb low k h, le-leb k high g)
+pub element-fits : (low high i d w : ℕ) → IndexIs low high i d → w ≤ 200 → Fits w64 (d * w)
+element-fits low high i d w e g = index-times low high i d e w (omega arith)
 
-      stands : a + (k - low) * w ≡ elementAt T a τ i
-      unfolding elementAt
-      stands = rw (q, u, hk, hl, hc .is, hd .is)
-
-      pub index-room : (outside (typeLow T τ) (typeHigh T τ) i ≡ false → elementAt T a τ i < 65536) → a + (k - low) * w < 65536
-      index-room r = rw stands (r in-range)
-
-      pub index-in : (r : ℕ) → Field (a + (k - low) * w) r → Element r
-      unfolding failWhere
-      index-in r f = tell-place (typeQ T τ) _ _ r f (rw (in-range, stands))
-
-pub element-fits : (k low w : ℕ) → k < 65536 → w ≤ 200 → Fits w64 ((k - low) * w)
-element-fits k low w h g =
-    let l : k - low ≤ 65536 = omega arith in let m : (k - low) * w ≤ 65536 * 200 = mul-le-mul l g in record { fits = omega arith }
-
-pub element-sum : (a k low w : ℕ) → a < locations → k < 65536 → w ≤ 200 → Fits w64 (a + (k - low) * w)
-element-sum a k low w l h g =
-    let q : k - low ≤ 65536 = omega arith in let m : (k - low) * w ≤ 65536 * 200 = mul-le-mul q g in record { fits = omega arith }
+pub element-sum : (low high i d a w : ℕ) → IndexIs low high i d → a < locations → w ≤ 200 → Fits w64 (a + d * w)
+element-sum low high i d a w e l g = index-sum low high i d e w (omega arith) a (omega arith)
 
 -- words that are compared
 module _ (f g : Memory) (a b n i : ℕ) where
@@ -245,4 +225,4 @@ matched-none f g a b n =
 
 pub ruleset matching = (matched-none, matched-more, matched-not, matched-all)
 
-pub ruleset standing = (memory-word, owned-fits, owned-returns, framed-low, framed-fits, frame-own, frame-bound, field-at, type-words, few-words, same-sized, value-sized, value-words, counted-single, index-low, index-high, element-room, index-room, index-in, element-fits, element-sum)
+pub ruleset standing = (memory-word, owned-fits, owned-returns, framed-low, framed-fits, frame-own, frame-bound, field-at, type-words, few-words, same-sized, value-sized, value-words, counted-single, index-out, element-room, index-room, index-in, element-fits, element-sum)

@@ -12,7 +12,7 @@ use Rattle.table.specs.Entries.{varCount, typeQ, typeLow, varMode, firstVar, va
 use Rattle.types.specs.Match.{offset}
 use Rattle.sizes.specs.Sizes.{wordsOf}
 use Rattle.machine.specs.Memory.{Memory, within, wordsAt}
-use Rattle.machine.specs.Operands.{same}
+use Rattle.machine.specs.Operands.{outside, same}
 use Rattle.machine.specs.Layout.{location, stateSize, locations}
 use Rattle.machine.specs.Variables.{offsetOf, belongs}
 use Rattle.operands.specs.declared.Context.{Context}
@@ -40,6 +40,11 @@ pub record Named (T : Table) (x : Context) (v : ℕ) : Type 0 where
   pub there : v < varCount T
   pub ofModule : numbered T (x .owner) v ≡ true → (belongs T (x .owner) v ≡ true) × (offsetOf T (x .owner) v < 256)
   pub ofFrame : numbered T (x .owner) v ≡ false → (belongs T (x .block) v ≡ true) × (framed T x v < 256)
+
+-- how many elements lie before the one with index value i, of index values from low to high (8.5); 65,536 where i is outside
+pub record IndexIs (low high i r : ℕ) : Type 0 where
+  pub is : r ≡ pick (outside low high i) 65536 (offset i - offset low)
+  pub most : r ≤ 65536
 
 -- the location of the element with index value i of an array of type τ at location a (8.5)
 unfoldable pub elementAt : Table → ℕ → ℕ → ℕ → ℕ

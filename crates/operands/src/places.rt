@@ -27,7 +27,7 @@ ghost use Rattle.code.specs.Code.{decoded};
 ghost use Rattle.operands.specs.Answers.{single};
 ghost use Rattle.operands.specs.Bases.{contextAt, Based};
 ghost use Rattle.operands.specs.Packed.{PlaceIs, WordIs, valueAt};
-ghost use Rattle.operands.specs.Places.{wholeAt, elementAt, Rooms};
+ghost use Rattle.operands.specs.Places.{wholeAt, IndexIs, elementAt, Rooms};
 ghost use Rattle.operands.specs.Ready.{Naming, Fielded, Sized, Indexed, Valued, Counted};
 
 pub fn wide(x: u16) -> usize
@@ -116,20 +116,32 @@ pub fn is_single(c: &code::Slots, n: usize) -> bool
     code::words_of(c, code::type_of(c, n)) == 1
 }
 
+// How many elements lie before the one with index value i, of index values from low to high (8.5); 65,536 where i is outside.
+pub fn index_of(low: usize, high: usize, i: usize) -> usize
+    requires { ⌜ (low < 65536) × ((high < 65536) × (i < 65536)) ⌝ }
+    ensures { λ r. ⌜ IndexIs low high i r ⌝ }
+{
+    let l = types::offset_of(low);
+    let x = types::offset_of(i);
+    if x < l {
+        return 65536;
+    }
+    if types::offset_of(high) < x {
+        return 65536;
+    }
+    x - l
+}
+
 // The element with index value i of an array of type y at location a (8.5), as one number.
 pub fn element_place(c: &code::Slots, a: usize, y: usize, i: u16) -> u32
     requires { ⌜ Indexed (now c) a y i ⌝ }
     ensures { λ r. ⌜ PlaceIs (typeQ (decoded (now (c .entry))) y) (failWhere (outside (typeLow (decoded (now (c .entry))) y) (typeHigh (decoded (now (c .entry))) y) i) 18 (ok (place (elementAt (decoded (now (c .entry))) a y i) (typeQ (decoded (now (c .entry))) y)))) r ⌝ }
 {
-    let k = types::offset_of(wide(i));
-    let low = types::offset_of(code::type_low(c, y));
-    if low <= k {
-        if k <= types::offset_of(code::type_high(c, y)) {
-            return thin(a + (k - low) * words_of(c, code::type_q(c, y)));
-        }
+    let d = index_of(code::type_low(c, y), code::type_high(c, y), wide(i));
+    if d == 65536 {
         return INDEX_RANGE;
     }
-    INDEX_RANGE
+    thin(a + d * words_of(c, code::type_q(c, y)))
 }
 
 // The n words at two locations are the same.

@@ -1,10 +1,12 @@
 -- Finding the types of all nodes: the laws of each return. Assumes nothing.
-use Prim.Native.Nat.{ℕ, _+_, _-_, _≤_, _<_}
+use Prim.Native.Nat.{ℕ, _+_, _-_, _%_, _≤_, _<_}
 use mathlib.Core.Path.{_≡_, refl, _∙_}
 use mathlib.Core.List.{List}
 use lib.ListN.{length, getD, set}
+use lib.Dec.{ltb}
 use native.Mathlib.Omega.{arith}
-use borrow.Author.Tests.{ne-eqb, lt-ltb, le-ltb}
+use borrow.Author.Tests.{ne-eqb, lt-ltb, le-ltb, ltb-true, ltb-false}
+use Rattle.basics.specs.Cases.{cases}
 use Rattle.basics.specs.Course.{upto, course}
 use Rattle.basics.specs.Holds.{Holds}
 use Rattle.basics.proofs.Courses.{upto-below, upto-above}
@@ -90,6 +92,16 @@ module _ (T : Table) (l : List ℕ) where
     types-at r k f = rw (← h .holds .is n (rw e at k)) f
 
 -- spans
+pub offset-is : (v : ℕ) → v < 65536 → (v + 32768) % 65536 ≡ offset v
+unfolding offset
+offset-is v h =
+    cases (ltb v 32768)
+    (λ e. let l = ltb-true v 32768 e in rw e (omega arith))
+    (λ e. let l = ltb-false v 32768 e in rw e (omega arith))
+
+pub offset-small : (v : ℕ) → v < 65536 → offset v < 65536
+offset-small v h = let e = offset-is v h in omega arith
+
 module _ (low high a b : ℕ) (ha : Field (offset low) a) (hb : Field (offset high) b) where
   pub span-some : a ≤ b + 1 → (b + 1 - a ≡ span low high) × (b + 1 - a ≤ 65536)
   unfolding span

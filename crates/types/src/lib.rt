@@ -156,10 +156,7 @@ pub fn offset_of(v: usize) -> usize
     requires { ⌜ v < 65536 ⌝ }
     ensures { λ r. ⌜ Field (offset v) r ⌝ }
 {
-    if v < 32768 {
-        return v + 32768;
-    }
-    v - 32768
+    (v + 32768) % 65536
 }
 
 // How many index values there are from low to high.
