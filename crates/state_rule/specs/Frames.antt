@@ -2,15 +2,38 @@
 -- Rows of the passes over the variables of areas and frames. Assumes nothing.
 use Prim.Native.Nat.{ℕ, _+_, _-_, _/_, _%_}
 use mathlib.Core.Bool.{Bool}
+use mathlib.Core.List.{List}
 use lib.Dec.{eqb, leb}
 use Rattle.basics.specs.Choice.{pick, both}
 use Rattle.table.specs.Table.{Table}
 use Rattle.table.specs.Entries.{varMode, varType, firstVar}
 use Rattle.machine.specs.Memory.{Memory}
+use Rattle.machine.specs.Lent.{State}
 use Rattle.machine.specs.Layout.{location, moduleAt, callerFrame, callerWorks, calledBlock}
 use Rattle.machine.specs.Variables.{firstWords}
 use Rattle.machine.specs.Values.{holds, partOfBlock}
 use Rattle.machine.specs.Rule.{worked, lives}
+use Rattle.values.specs.Heads.{Heads}
+use Rattle.values.specs.Jumps.{Jumps}
+use Rattle.values.specs.Walks.{Ready}
+
+-- what a test of a state goes by beside the table: the words of the types
+pub record StateTest (T : Table) (ws s : List ℕ) : Type 0 where
+  pub ready : Ready T ws
+  pub state : State s
+
+-- what a search for a live variable goes by: their jumps too
+pub record LiveSearch (T : Table) (ws js s : List ℕ) : Type 0 where
+  pub ready : Ready T ws
+  pub jumps : Jumps T js
+  pub state : State s
+
+-- what the test of the state rule goes by: their heads and jumps too
+pub record RuleTest (T : Table) (ws hs js s : List ℕ) : Type 0 where
+  pub ready : Ready T ws
+  pub heads : Heads T hs
+  pub jumps : Jumps T js
+  pub state : State s
 
 module _ (T : Table) (m : Memory) where
   -- variable v has a value of its type at word a of the area of process p

@@ -12,12 +12,9 @@ ghost use Prim.Native.Nat.{_≤_, _<_};
 ghost use Rattle.code.specs.Code.{decoded};
 ghost use Rattle.machine.specs.Memory.{memoryOf};
 ghost use Rattle.machine.specs.Layout.{location};
-ghost use Rattle.machine.specs.Lent.{State};
 ghost use Rattle.machine.specs.Rule.{owns, lives, modulesHold, framesHold};
-ghost use Rattle.values.specs.Heads.{Heads};
-ghost use Rattle.values.specs.Jumps.{Jumps};
-ghost use Rattle.state_rule.specs.Frames.{variableHolds, livesInModule, ownedIn, frameVariable};
-ghost use Rattle.values.specs.Walks.{Ready};
+ghost use Rattle.values.specs.Heads.{ValueTest};
+ghost use Rattle.state_rule.specs.Frames.{LiveSearch, RuleTest, variableHolds, livesInModule, ownedIn, frameVariable};
 
 // Where word k from the beginning of the area of process p stands.
 fn location_at(p: usize, k: usize) -> usize
@@ -37,9 +34,7 @@ fn variable_holds(
     v: usize,
     at: usize,
 ) -> bool
-    requires { ⌜ Ready (decoded (now c)) (now sizes) ⌝ }
-    requires { ⌜ Heads (decoded (now c)) (now heads) ⌝ }
-    requires { ⌜ State (now state) ⌝ }
+    requires { ⌜ ValueTest (decoded (now c)) (now sizes) (now heads) (now state) ⌝ }
     requires { ⌜ (1 ≤ p) × ((p ≤ 64) × (at ≤ 14000000)) ⌝ }
     ensures { λ r. ⌜ r ≡ variableHolds (decoded (now (c .entry))) (memoryOf (now (state .entry))) p v at ⌝ }
 {
@@ -59,9 +54,7 @@ pub fn modules_hold(
     p: usize,
     b: usize,
 ) -> bool
-    requires { ⌜ Ready (decoded (now c)) (now sizes) ⌝ }
-    requires { ⌜ Heads (decoded (now c)) (now heads) ⌝ }
-    requires { ⌜ State (now state) ⌝ }
+    requires { ⌜ ValueTest (decoded (now c)) (now sizes) (now heads) (now state) ⌝ }
     requires { ⌜ (1 ≤ p) × (p ≤ 64) ⌝ }
     ensures { λ r. ⌜ r ≡ modulesHold (decoded (now (c .entry))) (memoryOf (now (state .entry))) p b ⌝ }
 {
@@ -93,9 +86,7 @@ fn lives_in_module(
     y: usize,
     a: usize,
 ) -> bool
-    requires { ⌜ Ready (decoded (now c)) (now sizes) ⌝ }
-    requires { ⌜ Jumps (decoded (now c)) (now jumps) ⌝ }
-    requires { ⌜ State (now state) ⌝ }
+    requires { ⌜ LiveSearch (decoded (now c)) (now sizes) (now jumps) (now state) ⌝ }
     requires { ⌜ (1 ≤ p) × ((p ≤ 64) × ((f < 65536) × (a < 65536))) ⌝ }
     ensures { λ r. ⌜ r ≡ livesInModule (decoded (now (c .entry))) (memoryOf (now (state .entry))) p d f w y a ⌝ }
 {
@@ -124,9 +115,7 @@ fn owned(
     y: usize,
     k: usize,
 ) -> bool
-    requires { ⌜ Ready (decoded (now c)) (now sizes) ⌝ }
-    requires { ⌜ Jumps (decoded (now c)) (now jumps) ⌝ }
-    requires { ⌜ State (now state) ⌝ }
+    requires { ⌜ LiveSearch (decoded (now c)) (now sizes) (now jumps) (now state) ⌝ }
     requires { ⌜ (1 ≤ p) × ((p ≤ 64) × (f < 65536)) ⌝ }
     ensures { λ r. ⌜ r ≡ ownedIn (decoded (now (c .entry))) (memoryOf (now (state .entry))) p f y k ⌝ }
 {
@@ -148,9 +137,7 @@ fn owns_word(
     y: usize,
     k: usize,
 ) -> bool
-    requires { ⌜ Ready (decoded (now c)) (now sizes) ⌝ }
-    requires { ⌜ Jumps (decoded (now c)) (now jumps) ⌝ }
-    requires { ⌜ State (now state) ⌝ }
+    requires { ⌜ LiveSearch (decoded (now c)) (now sizes) (now jumps) (now state) ⌝ }
     requires { ⌜ (1 ≤ p) × ((p ≤ 64) × (f < 65536)) ⌝ }
     ensures { λ r. ⌜ r ≡ owns (decoded (now (c .entry))) (memoryOf (now (state .entry))) p d f y k ⌝ }
 {
@@ -179,9 +166,7 @@ fn lives_at(
     y: usize,
     a: usize,
 ) -> bool
-    requires { ⌜ Ready (decoded (now c)) (now sizes) ⌝ }
-    requires { ⌜ Jumps (decoded (now c)) (now jumps) ⌝ }
-    requires { ⌜ State (now state) ⌝ }
+    requires { ⌜ LiveSearch (decoded (now c)) (now sizes) (now jumps) (now state) ⌝ }
     requires { ⌜ (1 ≤ p) × ((p ≤ 64) × ((f < 65536) × (a < 65536))) ⌝ }
     ensures { λ r. ⌜ r ≡ lives (decoded (now (c .entry))) (memoryOf (now (state .entry))) p d f w y a ⌝ }
 {
@@ -207,10 +192,7 @@ fn frame_variable_holds(
     v: usize,
     at: usize,
 ) -> bool
-    requires { ⌜ Ready (decoded (now c)) (now sizes) ⌝ }
-    requires { ⌜ Heads (decoded (now c)) (now heads) ⌝ }
-    requires { ⌜ Jumps (decoded (now c)) (now jumps) ⌝ }
-    requires { ⌜ State (now state) ⌝ }
+    requires { ⌜ RuleTest (decoded (now c)) (now sizes) (now heads) (now jumps) (now state) ⌝ }
     requires { ⌜ (1 ≤ p) × ((p ≤ 64) × ((f < 65536) × (at ≤ 13900000))) ⌝ }
     ensures { λ r. ⌜ r ≡ frameVariable (decoded (now (c .entry))) (memoryOf (now (state .entry))) p d f v at ⌝ }
 {
@@ -244,10 +226,7 @@ pub fn frames_hold(
     f: usize,
     q: usize,
 ) -> bool
-    requires { ⌜ Ready (decoded (now c)) (now sizes) ⌝ }
-    requires { ⌜ Heads (decoded (now c)) (now heads) ⌝ }
-    requires { ⌜ Jumps (decoded (now c)) (now jumps) ⌝ }
-    requires { ⌜ State (now state) ⌝ }
+    requires { ⌜ RuleTest (decoded (now c)) (now sizes) (now heads) (now jumps) (now state) ⌝ }
     requires { ⌜ (1 ≤ p) × ((p ≤ 64) × (f < 65536)) ⌝ }
     ensures { λ r. ⌜ r ≡ framesHold (decoded (now (c .entry))) (memoryOf (now (state .entry))) p d f q ⌝ }
 {

@@ -20,8 +20,7 @@ ghost use Rattle.machine.specs.Memory.{memoryOf};
 ghost use Rattle.machine.specs.Lent.{State};
 ghost use Rattle.machine.specs.Variables.{frameWords, isModule, isProcedure};
 ghost use Rattle.machine.specs.Rule.{liesIn, frameOk, startedOk};
-ghost use Rattle.values.specs.Heads.{Heads};
-ghost use Rattle.values.specs.Jumps.{Jumps};
+ghost use Rattle.state_rule.specs.Frames.{StateTest, RuleTest};
 ghost use Rattle.state_rule.specs.Chains.{Sum, startedOf, frameFits, calledOk, callOk, baseOk};
 ghost use Rattle.values.specs.Walks.{Ready};
 
@@ -152,8 +151,7 @@ fn frame_ok(
     top: usize,
     q: usize,
 ) -> bool
-    requires { ⌜ Ready (decoded (now c)) (now sizes) ⌝ }
-    requires { ⌜ State (now state) ⌝ }
+    requires { ⌜ StateTest (decoded (now c)) (now sizes) (now state) ⌝ }
     requires { ⌜ (f < 65536) × (q < 65536) ⌝ }
     ensures { λ r. ⌜ r ≡ frameOk (decoded (now (c .entry))) (memoryOf (now (state .entry))) f w i top q ⌝ }
 {
@@ -181,10 +179,7 @@ fn call_ok(
     i: usize,
     top: usize,
 ) -> bool
-    requires { ⌜ Ready (decoded (now c)) (now sizes) ⌝ }
-    requires { ⌜ Heads (decoded (now c)) (now heads) ⌝ }
-    requires { ⌜ Jumps (decoded (now c)) (now jumps) ⌝ }
-    requires { ⌜ State (now state) ⌝ }
+    requires { ⌜ RuleTest (decoded (now c)) (now sizes) (now heads) (now jumps) (now state) ⌝ }
     requires { ⌜ (1 ≤ p) × ((p ≤ 64) × ((f < 65536) × (w < 65536))) ⌝ }
     ensures { λ r. ⌜ r ≡ callOk (decoded (now (c .entry))) (memoryOf (now (state .entry))) p d f w i top ⌝ }
 {
@@ -212,8 +207,7 @@ fn base_ok(
     i: usize,
     top: usize,
 ) -> bool
-    requires { ⌜ Ready (decoded (now c)) (now sizes) ⌝ }
-    requires { ⌜ State (now state) ⌝ }
+    requires { ⌜ StateTest (decoded (now c)) (now sizes) (now state) ⌝ }
     requires { ⌜ (1 ≤ p) × (p ≤ 64) ⌝ }
     ensures { λ r. ⌜ r ≡ baseOk (decoded (now (c .entry))) (memoryOf (now (state .entry))) p f w i top ⌝ }
 {
@@ -248,10 +242,7 @@ pub fn chain_ok(
     state: &[u8],
     p: usize,
 ) -> bool
-    requires { ⌜ Ready (decoded (now c)) (now sizes) ⌝ }
-    requires { ⌜ Heads (decoded (now c)) (now heads) ⌝ }
-    requires { ⌜ Jumps (decoded (now c)) (now jumps) ⌝ }
-    requires { ⌜ State (now state) ⌝ }
+    requires { ⌜ RuleTest (decoded (now c)) (now sizes) (now heads) (now jumps) (now state) ⌝ }
     requires { ⌜ (1 ≤ p) × (p ≤ 64) ⌝ }
     ensures { λ r. ⌜ r ≡ startedOk (decoded (now (c .entry))) (memoryOf (now (state .entry))) p ⌝ }
 {

@@ -20,8 +20,7 @@ ghost use Rattle.machine.specs.Memory.{memoryOf};
 ghost use Rattle.machine.specs.Layout.{createdAt};
 ghost use Rattle.machine.specs.Lent.{State};
 ghost use Rattle.machine.specs.Rule.{moduleOk, processOk, failureOk, runOk, rule};
-ghost use Rattle.values.specs.Heads.{Heads};
-ghost use Rattle.values.specs.Jumps.{Jumps};
+ghost use Rattle.state_rule.specs.Frames.{StateTest, RuleTest};
 ghost use Rattle.state_rule.specs.Chains.{runningOk, processesHold};
 ghost use Rattle.values.specs.Walks.{Ready};
 
@@ -54,10 +53,7 @@ fn running_ok(
     state: &[u8],
     p: usize,
 ) -> bool
-    requires { ⌜ Ready (decoded (now c)) (now sizes) ⌝ }
-    requires { ⌜ Heads (decoded (now c)) (now heads) ⌝ }
-    requires { ⌜ Jumps (decoded (now c)) (now jumps) ⌝ }
-    requires { ⌜ State (now state) ⌝ }
+    requires { ⌜ RuleTest (decoded (now c)) (now sizes) (now heads) (now jumps) (now state) ⌝ }
     requires { ⌜ (1 ≤ p) × (p ≤ 64) ⌝ }
     ensures { λ r. ⌜ r ≡ runningOk (decoded (now (c .entry))) (memoryOf (now (state .entry))) p ⌝ }
 {
@@ -75,10 +71,7 @@ fn process_ok(
     state: &[u8],
     p: usize,
 ) -> bool
-    requires { ⌜ Ready (decoded (now c)) (now sizes) ⌝ }
-    requires { ⌜ Heads (decoded (now c)) (now heads) ⌝ }
-    requires { ⌜ Jumps (decoded (now c)) (now jumps) ⌝ }
-    requires { ⌜ State (now state) ⌝ }
+    requires { ⌜ RuleTest (decoded (now c)) (now sizes) (now heads) (now jumps) (now state) ⌝ }
     requires { ⌜ (1 ≤ p) × (p ≤ 64) ⌝ }
     ensures { λ r. ⌜ r ≡ processOk (decoded (now (c .entry))) (memoryOf (now (state .entry))) p ⌝ }
 {
@@ -130,10 +123,7 @@ fn processes_hold(
     jumps: &[u16],
     state: &[u8],
 ) -> bool
-    requires { ⌜ Ready (decoded (now c)) (now sizes) ⌝ }
-    requires { ⌜ Heads (decoded (now c)) (now heads) ⌝ }
-    requires { ⌜ Jumps (decoded (now c)) (now jumps) ⌝ }
-    requires { ⌜ State (now state) ⌝ }
+    requires { ⌜ RuleTest (decoded (now c)) (now sizes) (now heads) (now jumps) (now state) ⌝ }
     requires { ⌜ memoryOf (now state) createdAt ≤ 64 ⌝ }
     ensures { λ r. ⌜ r ≡ processesHold (decoded (now (c .entry))) (memoryOf (now (state .entry))) ⌝ }
 {
@@ -151,8 +141,7 @@ fn processes_hold(
 
 // The same, where nothing is found of the types yet. The table has few: the chains are short.
 fn few_hold(c: &code::Slots, sizes: &[u16], state: &[u8], n: usize) -> bool
-    requires { ⌜ Ready (decoded (now c)) (now sizes) ⌝ }
-    requires { ⌜ State (now state) ⌝ }
+    requires { ⌜ StateTest (decoded (now c)) (now sizes) (now state) ⌝ }
     requires { ⌜ (memoryOf (now state) createdAt ≤ 64) × ((3 ≤ n) × (n ≤ 16)) ⌝ }
     ensures { λ r. ⌜ r ≡ processesHold (decoded (now (c .entry))) (memoryOf (now (state .entry))) ⌝ }
 {
@@ -164,8 +153,7 @@ fn few_hold(c: &code::Slots, sizes: &[u16], state: &[u8], n: usize) -> bool
 
 // The same. It has many, and heads and jumps are found for those below n.
 fn many_hold(c: &code::Slots, sizes: &[u16], state: &[u8], n: usize) -> bool
-    requires { ⌜ Ready (decoded (now c)) (now sizes) ⌝ }
-    requires { ⌜ State (now state) ⌝ }
+    requires { ⌜ StateTest (decoded (now c)) (now sizes) (now state) ⌝ }
     requires { ⌜ (memoryOf (now state) createdAt ≤ 64) × ((3 ≤ n) × (n ≤ 258)) ⌝ }
     ensures { λ r. ⌜ r ≡ processesHold (decoded (now (c .entry))) (memoryOf (now (state .entry))) ⌝ }
 {
@@ -205,8 +193,7 @@ fn worth_finding(state: &[u8], n: usize) -> usize
 
 // The same, by either way.
 fn all_hold(c: &code::Slots, sizes: &[u16], state: &[u8]) -> bool
-    requires { ⌜ Ready (decoded (now c)) (now sizes) ⌝ }
-    requires { ⌜ State (now state) ⌝ }
+    requires { ⌜ StateTest (decoded (now c)) (now sizes) (now state) ⌝ }
     requires { ⌜ memoryOf (now state) createdAt ≤ 64 ⌝ }
     ensures { λ r. ⌜ r ≡ processesHold (decoded (now (c .entry))) (memoryOf (now (state .entry))) ⌝ }
 {

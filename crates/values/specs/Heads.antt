@@ -11,8 +11,9 @@ use Rattle.table.specs.Table.{Table}
 use Rattle.table.specs.Entries.{typeKind, typeP, typeQ, fieldType}
 use Rattle.sizes.specs.Sizes.{wordsOf}
 use Rattle.machine.specs.Memory.{Memory}
+use Rattle.machine.specs.Lent.{State}
 use Rattle.machine.specs.Values.{holds}
-use Rattle.values.specs.Walks.{referenceHolds}
+use Rattle.values.specs.Walks.{Ready, referenceHolds}
 
 -- a record or an array
 unfoldable pub hasParts : Table → ℕ → Bool
@@ -70,3 +71,9 @@ pub record FieldsSaid (T : Table) (τ η : ℕ) (r : Bool) : Type 0 where
 pub record Tested (T : Table) (η : ℕ) : Type 0 where
   pub simple : hasParts T η ≡ false
   pub some : 1 ≤ η
+
+-- what a test of values goes by: the words and heads of the types, and a state
+pub record ValueTest (T : Table) (ws hs s : List ℕ) : Type 0 where
+  pub ready : Ready T ws
+  pub heads : Heads T hs
+  pub state : State s

@@ -7,6 +7,7 @@ use lib.ListN.{length, getD}
 use Rattle.table.specs.Table.{Table}
 use Rattle.sizes.specs.Sizes.{wordsOf}
 use Rattle.machine.specs.Values.{part}
+use Rattle.values.specs.Walks.{Ready}
 
 -- the chain of only parts leads from type σ to ρ: a variable of the one is a variable of the other, and has the same parts, those above ρ apart
 pub record Jump (T : Table) (σ ρ : ℕ) : Type 0 where
@@ -36,3 +37,8 @@ pub record JumpsTo (T : Table) (n : ℕ) (l : List ℕ) : Type 0 where
 
 pub record Jumps (T : Table) (l : List ℕ) : Type 0 where
   pub is : (j : ℕ) → j < length l → Jump T j (getD l j 0 % 512)
+
+-- what a search for a part goes by: the words and jumps of the types
+pub record PartSearch (T : Table) (ws js : List ℕ) : Type 0 where
+  pub ready : Ready T ws
+  pub jumps : Jumps T js

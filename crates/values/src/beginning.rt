@@ -10,7 +10,7 @@ ghost use Rattle.code.specs.Code.{decoded};
 ghost use Rattle.sizes.specs.Sizes.{partWords};
 ghost use Rattle.machine.specs.Variables.{varWords};
 ghost use Rattle.machine.specs.Values.{part, partOfBlock};
-ghost use Rattle.values.specs.Jumps.{Jumps, Ends};
+ghost use Rattle.values.specs.Jumps.{Ends, PartSearch};
 ghost use Rattle.values.specs.Walks.{Ready, Words, fieldBegins, fieldsBegin, elementBegins, variableBegins};
 
 // k / w and k % w, also for no words (as the numbers of the definition have it).
@@ -55,8 +55,7 @@ fn part_words(c: &code::Slots, sizes: &[u16], x: usize, f: usize) -> usize
 
 // The last type not below y, down the chain of only parts of x, where word k is one of a variable of type x.
 fn chain_end(c: &code::Slots, sizes: &[u16], jumps: &[u16], x: usize, y: usize, k: usize) -> usize
-    requires { ⌜ Ready (decoded (now c)) (now sizes) ⌝ }
-    requires { ⌜ Jumps (decoded (now c)) (now jumps) ⌝ }
+    requires { ⌜ PartSearch (decoded (now c)) (now sizes) (now jumps) ⌝ }
     ensures { λ r. ⌜ Ends (decoded (now (c .entry))) y x k r ⌝ }
 {
     if k < words_of(c, sizes, x) {
@@ -67,8 +66,7 @@ fn chain_end(c: &code::Slots, sizes: &[u16], jumps: &[u16], x: usize, y: usize, 
 
 // A part of type y begins at word k of a variable of type x.
 fn part_begins(c: &code::Slots, sizes: &[u16], jumps: &[u16], x: usize, y: usize, k: usize) -> bool
-    requires { ⌜ Ready (decoded (now c)) (now sizes) ⌝ }
-    requires { ⌜ Jumps (decoded (now c)) (now jumps) ⌝ }
+    requires { ⌜ PartSearch (decoded (now c)) (now sizes) (now jumps) ⌝ }
     ensures { λ r. ⌜ r ≡ part (decoded (now (c .entry))) y x k ⌝ }
 {
     let z = chain_end(c, sizes, jumps, x, y, k);
@@ -93,8 +91,7 @@ fn part_of_fields(
     y: usize,
     k: usize,
 ) -> bool
-    requires { ⌜ Ready (decoded (now c)) (now sizes) ⌝ }
-    requires { ⌜ Jumps (decoded (now c)) (now jumps) ⌝ }
+    requires { ⌜ PartSearch (decoded (now c)) (now sizes) (now jumps) ⌝ }
     ensures { λ r. ⌜ r ≡ fieldsBegin (decoded (now (c .entry))) y x k ⌝ }
 {
     let first = code::type_p(c, x);
@@ -123,8 +120,7 @@ fn part_of_field(
     f: usize,
     at: usize,
 ) -> bool
-    requires { ⌜ Ready (decoded (now c)) (now sizes) ⌝ }
-    requires { ⌜ Jumps (decoded (now c)) (now jumps) ⌝ }
+    requires { ⌜ PartSearch (decoded (now c)) (now sizes) (now jumps) ⌝ }
     requires { ⌜ at ≤ 14000000 ⌝ }
     ensures { λ r. ⌜ r ≡ fieldBegins (decoded (now (c .entry))) y x k f at ⌝ }
 {
@@ -148,8 +144,7 @@ fn part_of_element(
     y: usize,
     k: usize,
 ) -> bool
-    requires { ⌜ Ready (decoded (now c)) (now sizes) ⌝ }
-    requires { ⌜ Jumps (decoded (now c)) (now jumps) ⌝ }
+    requires { ⌜ PartSearch (decoded (now c)) (now sizes) (now jumps) ⌝ }
     ensures { λ r. ⌜ r ≡ elementBegins (decoded (now (c .entry))) y x k ⌝ }
 {
     let q = code::type_q(c, x);
@@ -184,8 +179,7 @@ fn part_of_variable(
     v: usize,
     at: usize,
 ) -> bool
-    requires { ⌜ Ready (decoded (now c)) (now sizes) ⌝ }
-    requires { ⌜ Jumps (decoded (now c)) (now jumps) ⌝ }
+    requires { ⌜ PartSearch (decoded (now c)) (now sizes) (now jumps) ⌝ }
     requires { ⌜ at ≤ 14000000 ⌝ }
     ensures { λ r. ⌜ r ≡ variableBegins (decoded (now (c .entry))) y k v at ⌝ }
 {
@@ -210,8 +204,7 @@ pub fn part_of_block(
     y: usize,
     k: usize,
 ) -> bool
-    requires { ⌜ Ready (decoded (now c)) (now sizes) ⌝ }
-    requires { ⌜ Jumps (decoded (now c)) (now jumps) ⌝ }
+    requires { ⌜ PartSearch (decoded (now c)) (now sizes) (now jumps) ⌝ }
     ensures { λ r. ⌜ r ≡ partOfBlock (decoded (now (c .entry))) b y k ⌝ }
 {
     let first = code::first_var(c, b);

@@ -12,7 +12,7 @@ ghost use Rattle.sizes.specs.Sizes.{wordsOf};
 ghost use Rattle.machine.specs.Memory.{memoryOf};
 ghost use Rattle.machine.specs.Lent.{State};
 ghost use Rattle.machine.specs.Values.{holds};
-ghost use Rattle.values.specs.Heads.{Heads, Tested, wordsHold, wordUpTo, wordRefers};
+ghost use Rattle.values.specs.Heads.{Tested, ValueTest, wordsHold, wordUpTo, wordRefers};
 ghost use Rattle.values.specs.Walks.{Ready, Near, Words, referenceHolds, fieldsHold, elementsHold, RecordAt, ArrayAt};
 
 // The words of type x.
@@ -105,9 +105,7 @@ pub fn value_holds(
     x: usize,
     a: usize,
 ) -> bool
-    requires { ⌜ Ready (decoded (now c)) (now sizes) ⌝ }
-    requires { ⌜ Heads (decoded (now c)) (now heads) ⌝ }
-    requires { ⌜ State (now state) ⌝ }
+    requires { ⌜ ValueTest (decoded (now c)) (now sizes) (now heads) (now state) ⌝ }
     requires { ⌜ Near (decoded (now c)) x a ⌝ }
     ensures { λ r. ⌜ r ≡ holds (decoded (now (c .entry))) (memoryOf (now (state .entry))) x a ⌝ }
 {
@@ -133,9 +131,7 @@ fn fields_hold(
     x: usize,
     a: usize,
 ) -> bool
-    requires { ⌜ Ready (decoded (now c)) (now sizes) ⌝ }
-    requires { ⌜ Heads (decoded (now c)) (now heads) ⌝ }
-    requires { ⌜ State (now state) ⌝ }
+    requires { ⌜ ValueTest (decoded (now c)) (now sizes) (now heads) (now state) ⌝ }
     requires { ⌜ RecordAt (decoded (now c)) (memoryOf (now state)) x a ⌝ }
     ensures { λ r. ⌜ r ≡ fieldsHold (decoded (now (c .entry))) (memoryOf (now (state .entry))) x a ⌝ }
 {
@@ -166,9 +162,7 @@ fn elements_hold(
     x: usize,
     a: usize,
 ) -> bool
-    requires { ⌜ Ready (decoded (now c)) (now sizes) ⌝ }
-    requires { ⌜ Heads (decoded (now c)) (now heads) ⌝ }
-    requires { ⌜ State (now state) ⌝ }
+    requires { ⌜ ValueTest (decoded (now c)) (now sizes) (now heads) (now state) ⌝ }
     requires { ⌜ ArrayAt (decoded (now c)) (memoryOf (now state)) x a ⌝ }
     ensures { λ r. ⌜ r ≡ elementsHold (decoded (now (c .entry))) (memoryOf (now (state .entry))) x a ⌝ }
 {

@@ -15,5 +15,5 @@ few-hold-spec =
     (λ c. part-long _ _ (c .before .before .find-heads .ensures .long))
     (λ c. search needs)
     (λ c. search needs)
-    (λ c κs. (search needs, (search to-part, (search jumps-empty, (search needs, search needs)))))
+    (λ c κs. search (to-part, jumps-empty, needs))
     (λ c. search needs))

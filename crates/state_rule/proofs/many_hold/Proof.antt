@@ -17,5 +17,5 @@ many-hold-spec =
     (λ c. part-long _ _ (c .before .before .before .before .before .find-heads .ensures .long))
     (λ c. search needs)
     (λ c. part-long _ _ (c .before .before .before .find-jumps .ensures .long))
-    (λ c κs. (search needs, (search to-part, (search jumps-part, (search needs, search needs)))))
+    (λ c κs. search (to-part, jumps-part, needs))
     (λ c. search needs))

@@ -25,7 +25,7 @@ processes-hold-spec =
     (λ c κs. search needs)
     (λ c. (search needs, search passed-none))
     (λ c. search needs)
-    (λ c κs. (search needs, (search needs, (search needs, (search needs, search needs)))))
+    (λ c κs. search needs)
     (λ c. search needs)
     (λ c. omega arith)
     (λ c. (omega arith, search (passed-more, process-row)))

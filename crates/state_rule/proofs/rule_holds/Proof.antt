@@ -9,7 +9,7 @@ rule-holds-spec =
     (tie.spec
     (λ c κs. search needs)
     (λ c κs. search needs)
-    (λ c κs. (search needs, (search needs, few _ _ (c .before .before .before .before .created .ensures .is) (c .before .before .if2 .taken))))
+    (λ c κs. search (few, needs))
     (λ c. search ruling)
     (λ c. search ruling)
     (λ c. search ruling)

@@ -26,7 +26,7 @@ frames-hold-spec =
     (λ c κs. search needs)
     (λ c. (search needs, search framewalks))
     (λ c. search needs)
-    (λ c κs. (search needs, (search needs, (search needs, (search needs, (search needs, (search needs, (search needs, search (frames-small, needs)))))))))
+    (λ c κs. search (frames-small, needs))
     (λ c. search needs)
     (λ c κs. search needs)
     (λ c. omega arith)

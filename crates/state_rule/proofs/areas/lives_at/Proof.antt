@@ -7,9 +7,9 @@ pub lives-at-spec : {M : Type 1} → statement M
 lives-at-spec =
     tie.close
     (tie.spec
-    (λ c κs. (search needs, (search needs, (search needs, (search needs, (search needs, (search needs, search needs)))))))
+    (λ c κs. search needs)
     (λ c. search (lives-module, lives-frame, lives-none))
     (λ c. search needs)
-    (λ c κs. (search needs, (search needs, (search needs, (search needs, (search needs, search needs))))))
+    (λ c κs. search needs)
     (λ c. search (lives-module, lives-frame, lives-none))
     (λ c. search (lives-module, lives-frame, lives-none)))

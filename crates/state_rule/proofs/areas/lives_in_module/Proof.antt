@@ -8,7 +8,7 @@ lives-in-module-spec =
     tie.close
     (tie.spec
     (λ c. search needs)
-    (λ c κs. (search needs, (search needs, (search needs, search needs))))
+    (λ c κs. search needs)
     (λ c κs. search needs)
     (λ c κs. search needs)
     (λ c. search (in-none, in-some))

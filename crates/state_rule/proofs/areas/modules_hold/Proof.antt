@@ -26,7 +26,7 @@ modules-hold-spec =
     (λ c κs. search needs)
     (λ c. (search needs, search modulewalks))
     (λ c. search needs)
-    (λ c κs. (search needs, (search needs, (search needs, (search needs, (search needs, search (modules-small, needs)))))))
+    (λ c κs. search (modules-small, needs))
     (λ c. search needs)
     (λ c κs. search needs)
     (λ c. omega arith)

@@ -22,7 +22,7 @@ owns-word-spec =
     Inv-loop
     μ-loop
     (λ c. (search needs, refl))
-    (λ c κs. (search needs, (search needs, (search needs, (search needs, (search needs, search needs))))))
+    (λ c κs. search needs)
     (λ c. search owns-found)
     (λ c κs. search needs)
     (λ c. search needs)

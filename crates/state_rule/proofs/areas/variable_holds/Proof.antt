@@ -10,5 +10,5 @@ variable-holds-spec =
     (λ c κs. search needs)
     (λ c. search variable-free)
     (λ c κs. search needs)
-    (λ c κs. (search needs, (search needs, (search needs, search near-any))))
+    (λ c κs. search (near-any, needs))
     (λ c. search variable-is))

@@ -24,7 +24,7 @@ part-of-block-spec =
     (λ c κs. search needs)
     (λ c. (search needs, search variablesearches))
     (λ c. search needs)
-    (λ c κs. (search needs, (search needs, search (sought-small, needs))))
+    (λ c κs. search (sought-small, needs))
     (λ c. search variablesearches)
     (λ c. search needs)
     (λ c κs. search needs)
