@@ -3,8 +3,7 @@ use Prim.Native.Nat.{ℕ, zero, suc, _+_, _*_, _≤_, _<_}
 use mathlib.Core.Path.{_≡_, refl, sym, ap, _∙_}
 use mathlib.Core.Bool.{Bool, true, false}
 use mathlib.Core.List.{List}
-use lib.ListN.{length, getD, set, take, length-set}
-use lib.Seq.{getD-set-same, getD-set-other, getD-take, length-take-le}
+use lib.ListN.{length, getD, set, length-set}
 use lib.Dec.{eqb, leb}
 use native.Mathlib.Omega.{arith}
 use native.Mathlib.Numerals.{add-one}
@@ -22,6 +21,7 @@ use Rattle.machine.specs.Memory.{Memory}
 use Rattle.machine.specs.Values.{holds}
 use Rattle.values.specs.Walks.{Near, Words, simpleHolds, referenceHolds, partHolds, fieldHolds, fieldsHold, elementHolds, elementsHold, RecordAt, ArrayAt}
 use Rattle.values.specs.Heads.{hasParts, wordHolds, wordsHold, wordUpTo, wordRefers, headHolds, Head, HeadsTo, Heads, FieldsHave, PartSaid, FieldsSaid, Tested}
+use Rattle.values.proofs.Filling.{lookup-none, lookup-more}
 use Rattle.values.proofs.Values.{all-same, all-true, integer-holds, holds-record, holds-array, holds-process, holds-simple}
 
 -- ---- tests of numbers one after the other
@@ -270,39 +270,11 @@ pub ruleset recordheads = (r-only, r-words, head-self)
 pub ruleset arrayheads = (a-only, a-words, head-self)
 
 -- all types
-module _ (T : Table) (l : List ℕ) where
-  pub to-none : HeadsTo T 0 l
-  to-none = record { long = omega arith; is = λ j k. absurd (omega arith) }
-
-  to-next : (i v : ℕ) → HeadsTo T i l → i < length l → Head T i v → HeadsTo T (i + 1) (set l i v)
-  to-next i v h g e =
-      record {
-        long = simp length-set (omega arith);
-        is = λ j k.
-            cases (eqb j i)
-            (λ q. let p : j ≡ i = eqb-true j i q in rw (p, getD-set-same l i v 0 g) e)
-            (λ q. rw (getD-set-other l i j v 0 (eqb-false j i q)) (h .is j (omega (arith, eqb-false j i q))));
-      }
-
-  pub to-more : (i v w : ℕ) → HeadsTo T i l → i < length l → v ≡ w → Head T i w → HeadsTo T (i + 1) (set l i v)
-  to-more i v w h k e g = to-next i v h k (rw e g)
-
-  pub to-part : (n : ℕ) → HeadsTo T n l → Heads T (take n l)
-  to-part n h =
-      record {
-        is = λ j k.
-            let g : j < n = rw (length-take-le n l (h .long)) at k in
-            rw (getD-take n l j 0 g) (h .is j g);
-      }
-
-  pub to-all : (i n : ℕ) → HeadsTo T i l → i ≤ n → n ≤ i → HeadsTo T n l
-  to-all i n h a b = let e : i ≡ n = omega arith in rw e at h
-
 pub standard-heads : (T : Table) (l : List ℕ) (n : ℕ) → 3 ≤ n → n ≤ length l → HeadsTo T 3 (set (set (set l 0 0) 1 1) 2 2)
 standard-heads T l n g h =
-    to-next T (set (set l 0 0) 1 1) 2 2
-    (to-next T (set l 0 0) 1 1 (to-next T l 0 0 (to-none T l) (omega arith) (head-self T 0)) (simp length-set (omega arith)) (head-self T 1))
-    (simp length-set (omega arith)) (head-self T 2)
+    let a = lookup-more (Head T) l 0 0 0 (lookup-none (Head T) l) (omega arith) refl (head-self T 0) in
+    let b = lookup-more (Head T) (set l 0 0) 1 1 1 a (simp length-set (omega arith)) refl (head-self T 1) in
+    lookup-more (Head T) (set (set l 0 0) 1 1) 2 2 2 b (simp length-set (omega arith)) refl (head-self T 2)
 
 pub head-small : (T : Table) (τ h n : ℕ) → Head T τ h → τ < n → n ≤ 65536 → h < 65536
 head-small T τ h n e a b = let u = e .low in omega arith

@@ -3,14 +3,12 @@ use Prim.Native.Nat.{ℕ, _+_, _-_, _*_, _%_, _≤_, _<_}
 use mathlib.Core.Path.{_≡_, refl, sym, _∙_}
 use mathlib.Core.Bool.{Bool, true, false}
 use mathlib.Core.List.{List}
-use lib.ListN.{length, getD, set, take, length-set}
-use lib.Seq.{getD-set-same, getD-set-other, getD-take, length-take-le}
+use lib.ListN.{length, getD, take}
 use lib.Dec.{eqb}
 use native.Mathlib.Omega.{arith}
 use native.Mathlib.Nat.{sub-zero, mod-eq-of-lt, div-eq-of-lt}
-use borrow.Author.Tests.{eqb-true, eqb-false, ne-eqb, lt-ltb}
+use borrow.Author.Tests.{ne-eqb, lt-ltb}
 use Rattle.basics.specs.Choice.{both, either}
-use Rattle.basics.specs.Cases.{cases}
 use Rattle.basics.proofs.Bools.{both-false-l}
 use Rattle.table.specs.Table.{Table}
 use Rattle.table.specs.Entries.{typeKind, typeP, typeQ, fieldType}
@@ -19,7 +17,8 @@ use Rattle.sizes.specs.Sizes.{wordsOf}
 use Rattle.sizes.proofs.Counting.{offset-none}
 use Rattle.machine.specs.Values.{someBelow, part}
 use Rattle.values.specs.Walks.{Words, fieldBegins, fieldIBegins, fieldsBegin, elementBegins}
-use Rattle.values.specs.Jumps.{Jump, Leads, Ends, Kept, JumpsTo, Jumps}
+use Rattle.values.specs.Jumps.{Jump, Leads, Ends, Kept, Jumps}
+use Rattle.values.proofs.Filling.{lookup-none, lookup-part}
 use Rattle.values.proofs.Heading.{first-field, only-words, array-size}
 use Rattle.values.proofs.Parts.{p-record, p-array, part-within}
 
@@ -84,7 +83,7 @@ module _ (T : Table) (σ q : ℕ) (e : typeKind T σ ≡ 2) (l : q < σ) (hq : q
 
 module _ (T : Table) (σ : ℕ) where
   pub jump-at : (l : List ℕ) (w : ℕ) → Jumps T l → σ < length l → w ≡ getD l σ 0 → Jump T σ (w % 512)
-  jump-at l w h k e = rw e (h .is σ k)
+  jump-at l w h k e = rw e (h .is σ k .jump)
 
   module _ (kind : ℕ) (hk : kind ≡ typeKind T σ) where
     pub o-field : (n p f : ℕ) → kind ≡ 1 → n ≡ typeQ T σ → n ≡ 1 → p ≡ typeP T σ → f ≡ fieldType T p → f < σ → Jump T σ f
@@ -125,35 +124,9 @@ pub ruleset jumping = (jump-at, jump-self, o-field, o-element)
 
 pub ruleset leading = (lead, lead-self, lead-lead, end-lead, end-self)
 
--- all types
-module _ (T : Table) (l : List ℕ) where
-  pub jumps-none : JumpsTo T 0 l
-  jumps-none = record { long = omega arith; is = λ j k. absurd (omega arith) }
-
-  pub jumps-more : (i v w : ℕ) → JumpsTo T i l → i < length l → v ≡ w → Kept T i w → JumpsTo T (i + 1) (set l i v)
-  jumps-more i v w h g e x =
-      record {
-        long = simp length-set (omega arith);
-        is = λ j k.
-            cases (eqb j i)
-            (λ q. let p : j ≡ i = eqb-true j i q in rw (p, getD-set-same l i v 0 g, e) (x .jump))
-            (λ q. rw (getD-set-other l i j v 0 (eqb-false j i q)) (h .is j (omega (arith, eqb-false j i q))));
-      }
-
-  pub jumps-part : (n : ℕ) → JumpsTo T n l → Jumps T (take n l)
-  jumps-part n h =
-      record {
-        is = λ j k.
-            let g : j < n = rw (length-take-le n l (h .long)) at k in
-            rw (getD-take n l j 0 g) (h .is j g);
-      }
-
-  pub jumps-all : (i n : ℕ) → JumpsTo T i l → i ≤ n → n ≤ i → JumpsTo T n l
-  jumps-all i n h a b = let e : i ≡ n = omega arith in rw e at h
-
-  -- no jumps
-  pub jumps-empty : Jumps T (take 0 l)
-  jumps-empty = jumps-part 0 jumps-none
+-- no jumps
+pub jumps-empty : (T : Table) (l : List ℕ) → Jumps T (take 0 l)
+jumps-empty T l = lookup-part (Kept T) l 0 (lookup-none (Kept T) l)
 
 pub kept-small : (T : Table) (σ v : ℕ) → Kept T σ v → v < 65536
 kept-small T σ v h = h .small

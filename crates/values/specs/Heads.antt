@@ -4,7 +4,7 @@ use Prim.Native.Nat.{ℕ, _+_, _≤_, _<_}
 use mathlib.Core.Path.{_≡_}
 use mathlib.Core.Bool.{Bool, true, false}
 use mathlib.Core.List.{List}
-use lib.ListN.{length, getD}
+use lib.ListN.{length}
 use lib.Dec.{eqb, leb}
 use Rattle.basics.specs.Choice.{pick, allBelow}
 use Rattle.table.specs.Table.{Table}
@@ -13,6 +13,7 @@ use Rattle.sizes.specs.Sizes.{wordsOf}
 use Rattle.machine.specs.Memory.{Memory}
 use Rattle.machine.specs.Lent.{State}
 use Rattle.machine.specs.Values.{holds}
+use Rattle.values.specs.Lookup.{Lookup}
 use Rattle.values.specs.Walks.{Ready, referenceHolds}
 
 -- a record or an array
@@ -44,12 +45,11 @@ pub record Head (T : Table) (τ η : ℕ) : Type 0 where
   pub is : (m : Memory) (a : ℕ) → holds T m τ a ≡ headHolds T m τ η a
 
 -- the heads of the types below n; those of all that the list has room for
-pub record HeadsTo (T : Table) (n : ℕ) (l : List ℕ) : Type 0 where
-  pub long : n ≤ length l
-  pub is : (j : ℕ) → j < n → Head T j (getD l j 0)
+abbrev pub HeadsTo : Table → ℕ → List ℕ → Type 0
+HeadsTo T = Lookup (Head T)
 
-pub record Heads (T : Table) (l : List ℕ) : Type 0 where
-  pub is : (j : ℕ) → j < length l → Head T j (getD l j 0)
+abbrev pub Heads : Table → List ℕ → Type 0
+Heads T l = HeadsTo T (length l) l
 
 -- a part of τ, of type σ, has a lower type with the head η
 pub record PartHas (T : Table) (τ η σ : ℕ) : Type 0 where

@@ -3,10 +3,11 @@
 use Prim.Native.Nat.{ℕ, _%_, _≤_, _<_}
 use mathlib.Core.Path.{_≡_}
 use mathlib.Core.List.{List}
-use lib.ListN.{length, getD}
+use lib.ListN.{length}
 use Rattle.table.specs.Table.{Table}
 use Rattle.sizes.specs.Sizes.{wordsOf}
 use Rattle.machine.specs.Values.{part}
+use Rattle.values.specs.Lookup.{Lookup}
 use Rattle.values.specs.Walks.{Ready}
 
 -- the chain of only parts leads from type σ to ρ: a variable of the one is a variable of the other, and has the same parts, those above ρ apart
@@ -31,12 +32,11 @@ pub record Kept (T : Table) (σ v : ℕ) : Type 0 where
   pub small : v < 65536
   pub jump : Jump T σ (v % 512)
 
-pub record JumpsTo (T : Table) (n : ℕ) (l : List ℕ) : Type 0 where
-  pub long : n ≤ length l
-  pub is : (j : ℕ) → j < n → Jump T j (getD l j 0 % 512)
+abbrev pub JumpsTo : Table → ℕ → List ℕ → Type 0
+JumpsTo T = Lookup (Kept T)
 
-pub record Jumps (T : Table) (l : List ℕ) : Type 0 where
-  pub is : (j : ℕ) → j < length l → Jump T j (getD l j 0 % 512)
+abbrev pub Jumps : Table → List ℕ → Type 0
+Jumps T l = JumpsTo T (length l) l
 
 -- what a search for a part goes by: the words and jumps of the types
 pub record PartSearch (T : Table) (ws js : List ℕ) : Type 0 where

@@ -1,3 +1,4 @@
+pub mod Lookup
 pub mod Walks
 pub mod Heads
 pub mod Jumps

@@ -1,5 +1,5 @@
 use Rattle.sizes.proofs.Counting.{part-long}
-use Rattle.values.proofs.Heading.{to-part}
+use Rattle.values.proofs.Filling.{lookup-part}
 use Rattle.values.proofs.Jumping.{jumps-empty}
 use borrow.Author.Needs.{needs}
 use Rattle.state_rule.proofs.few_hold.Statement.{statement}
@@ -15,5 +15,5 @@ few-hold-spec =
     (λ c. part-long _ _ (c .before .before .find-heads .ensures .long))
     (λ c. search needs)
     (λ c. search needs)
-    (λ c κs. search (to-part, jumps-empty, needs))
+    (λ c κs. search (lookup-part, jumps-empty, needs))
     (λ c. search needs))

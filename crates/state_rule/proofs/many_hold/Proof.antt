@@ -1,6 +1,5 @@
 use Rattle.sizes.proofs.Counting.{part-long}
-use Rattle.values.proofs.Heading.{to-part}
-use Rattle.values.proofs.Jumping.{jumps-part}
+use Rattle.values.proofs.Filling.{lookup-part}
 use borrow.Author.Needs.{needs}
 use Rattle.state_rule.proofs.many_hold.Statement.{statement}
 use Rattle.state_rule.proofs.many_hold.Tie as tie
@@ -17,5 +16,5 @@ many-hold-spec =
     (λ c. part-long _ _ (c .before .before .before .before .before .find-heads .ensures .long))
     (λ c. search needs)
     (λ c. part-long _ _ (c .before .before .before .find-jumps .ensures .long))
-    (λ c κs. search (to-part, jumps-part, needs))
+    (λ c κs. search (lookup-part, needs))
     (λ c. search needs))

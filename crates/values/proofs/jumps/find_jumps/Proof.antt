@@ -6,7 +6,8 @@ use borrow.Author.Needs.{needs}
 use Rattle.sizes.proofs.Counting.{part-long}
 use Rattle.code.specs.Code.{decoded}
 use Rattle.values.specs.Jumps.{JumpsTo}
-use Rattle.values.proofs.Jumping.{jumps-none, jumps-part, jumps-more, jumps-all, kept-small}
+use Rattle.values.proofs.Filling.{lookup-none, lookup-part, lookup-more, lookup-all}
+use Rattle.values.proofs.Jumping.{kept-small}
 use Rattle.values.proofs.jumps.find_jumps.Statement.{statement}
 use Rattle.values.proofs.jumps.find_jumps.Tie as tie
 
@@ -22,15 +23,15 @@ find-jumps-spec =
     (tie.spec
     Inv-loop
     μ-loop
-    (λ c. (search needs, search needs, search jumps-none))
+    (λ c. (search needs, search needs, search lookup-none))
     (λ c. search needs)
     (λ c. part-long _ _ (omega arith))
-    (λ c κs. (search jumps-part, omega arith))
+    (λ c κs. (search lookup-part, omega arith))
     (λ c κs. search kept-small)
     (λ c. search needs)
     (λ c. search needs)
     (λ c. search needs)
     (λ c. omega arith)
-    (λ c. (omega arith, simp length-set (omega arith), jumps-more _ _ _ _ _ (c .before .before .before .before .loop .inv .2) (omega arith) (c .narrow .ensures) (c .before .found-jump .ensures)))
+    (λ c. (omega arith, simp length-set (omega arith), lookup-more _ _ _ _ _ (c .before .before .before .before .loop .inv .2) (omega arith) (c .narrow .ensures) (c .before .found-jump .ensures)))
     (λ c. search needs)
-    (λ c. search jumps-all))
+    (λ c. search lookup-all))
