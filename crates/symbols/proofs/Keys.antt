@@ -1,6 +1,6 @@
 -- A name is a word symbol where its bytes as one number are those of a word symbol. Assumes nothing.
 use Prim.Native.Nat.{ℕ, zero, suc, _+_, _-_, _*_, _%_, _^_, _<_, _≤_}
-use mathlib.Core.Path.{_≡_, refl, sym, ap, _∙_}
+use mathlib.Core.Path.{_≡_, refl, sym, _∙_}
 use mathlib.Core.Bool.{Bool, true, false}
 use mathlib.Core.List.{List, [], _∷_, map}
 use native.Mathlib.Numerals.{add-one}
@@ -10,14 +10,15 @@ use lib.ListN.{length, getD, take, drop, length-map, length-take, length-drop}
 use lib.Seq.{drop-cons, length-take-le}
 use lib.Dec.{eqb, leb}
 use borrow.Author.Needs.{needs}
-use borrow.Author.Tests.{eq-eqb, ne-eqb, eqb-true, eqb-false, leb-true, leb-false, le-leb}
-use Rattle.basics.specs.Choice.{pick, both, either, between}
+use borrow.Author.Tests.{eq-eqb, ne-eqb, eqb-true, eqb-false, leb-true, le-leb}
+use Rattle.basics.specs.Choice.{both, either, between}
 use Rattle.basics.specs.Cases.{cases}
 use Rattle.symbols.specs.Steps.{oneOf, packed}
 use Rattle.basics.proofs.Bools.{both-l, both-r, both-i, between-true, no-true}
 use Rattle.symbols.specs.Characters.{letter, digit, inName, small}
 use Rattle.symbols.specs.Runs.{run}
 use Rattle.symbols.specs.Vocabulary.{nameLength, wordSymbols, same, among, isWord}
+use Rattle.symbols.proofs.Among.{each, among-each}
 use Rattle.symbols.proofs.Lengths.{run-length}
 
 -- the word symbols as numbers, as the code lists them
@@ -93,10 +94,6 @@ fine : List ℕ → Bool
 fine [] = true
 fine (x ∷ s) = both (fineByte x) (fine s)
 
-allFine : List (List ℕ) → Bool
-allFine [] = true
-allFine (s ∷ ss) = both (fine s) (allFine ss)
-
 fine-byte : (x : ℕ) → fineByte x ≡ true → (1 ≤ x) × (x < 128)
 unfolding fineByte
 fine-byte x e = (leb-true 1 x (both-l _ _ e), let h = leb-true x 127 (both-r _ _ e) in omega arith)
@@ -124,8 +121,8 @@ pack-same (x ∷ s) (y ∷ t) f g =
     (λ z. rw (q, i, z, ne-eqb (packed s * 128 + x % 128) (packed t * 128 + y % 128) (λ o. eqb-false (packed s) (packed t) z (omega arith)))))
     (λ q. rw (q, ne-eqb (packed s * 128 + x % 128) (packed t * 128 + y % 128) (λ o. eqb-false x y q (omega arith))))
 
-among-packed : (s : List ℕ) (ss : List (List ℕ)) → fine s ≡ true → allFine ss ≡ true → among s ss ≡ oneOf (packed s) (map packed ss)
-unfolding among oneOf allFine
+among-packed : (s : List ℕ) (ss : List (List ℕ)) → fine s ≡ true → each fine ss ≡ true → among s ss ≡ oneOf (packed s) (map packed ss)
+unfolding among oneOf each
 among-packed s [] f g = refl
 among-packed s (t ∷ ss) f g = rw (pack-same s t f (both-l _ _ g), among-packed s ss f (both-r _ _ g))
 
@@ -171,38 +168,25 @@ pub name-length : (l : List ℕ) → nameLength l ≤ length l
 name-length l = let a = name-run l in let b = run-length inName l in omega arith
 
 -- no word symbol has more than nine letters
-allShort : List (List ℕ) → Bool
-allShort [] = true
-allShort (s ∷ ss) = both (leb (length s) 9) (allShort ss)
-
-same-length : (s t : List ℕ) → same s t ≡ true → length s ≡ length t
-unfolding same
-same-length [] [] e = refl
-same-length [] (y ∷ t) e = no-true e
-same-length (x ∷ s) [] e = no-true e
-same-length (x ∷ s) (y ∷ t) e = ap suc (same-length s t (both-r _ _ e))
-
-among-long : (s : List ℕ) (ss : List (List ℕ)) → 9 < length s → allShort ss ≡ true → among s ss ≡ false
-unfolding among either allShort
-among-long s [] h e = refl
-among-long s (t ∷ ss) h e =
-    cases (same s t)
-    (λ q. let a = same-length s t q in let b = leb-true (length t) 9 (both-l _ _ e) in absurd (omega arith))
-    (λ q. rw (q, among-long s ss h (both-r _ _ e)))
+among-long : (s : List ℕ) (ss : List (List ℕ)) → 9 < length s → each (λ t. leb (length t) 9) ss ≡ true → among s ss ≡ false
+among-long s ss h e =
+    cases (among s ss)
+    (λ q. let b = leb-true (length s) 9 (among-each (λ t. leb (length t) 9) ss s e q) in absurd (omega arith))
+    (λ q. q)
 
 module _ (text : List ℕ) (from to : ℕ) (g : from ≤ length text) (e : to ≡ from + nameLength (drop from text)) where
   name-within : nameLength (drop from text) ≤ length (drop from text)
   name-within = name-length (drop from text)
 
   pub word-long : 9 < to - from → false ≡ isWord (take (to - from) (drop from text))
-  unfolding isWord wordSymbols allShort both
+  unfolding isWord wordSymbols each both
   word-long h =
       let b : to - from ≤ length (drop from text) = omega (arith, name-within) in
       let l : length (map small (take (to - from) (drop from text))) ≡ to - from = length-map (take (to - from) (drop from text)) small ∙ length-take-le (to - from) (drop from text) b in
       sym (among-long (map small (take (to - from) (drop from text))) wordSymbols (omega arith) refl)
 
   pub word-key : (k : ℕ) (r : Bool) → k ≡ packed (map small (take (to - from) (drop from text))) → r ≡ oneOf k (map packed wordSymbols) → r ≡ isWord (take (to - from) (drop from text))
-  unfolding isWord wordSymbols allFine fine fineByte both
+  unfolding isWord wordSymbols each fine fineByte both
   word-key k r p q =
       let b : to - from ≤ run inName (drop from text) = omega (arith, name-run (drop from text)) in
       q ∙ rw (p, among-packed (map small (take (to - from) (drop from text))) wordSymbols (name-fine (to - from) (drop from text) b) refl)

@@ -2,6 +2,7 @@ pub mod Classes
 pub mod Going
 pub mod Lengths
 pub mod Specials
+pub mod Among
 pub mod Keys
 pub mod Seven
 pub mod Scanning

@@ -1,21 +1,21 @@
 -- A symbol's line is one more than the new lines before it: no symbol holds one. Assumes nothing.
-use Prim.Native.Nat.{ℕ, zero, suc, _+_, _≤_}
-use mathlib.Core.Path.{_≡_, refl, sym, ap, _∙_, subst}
+use Prim.Native.Nat.{ℕ, suc, _+_}
+use mathlib.Core.Path.{_≡_, refl, sym, _∙_, subst}
 use mathlib.Core.Bool.{Bool, true, false}
 use mathlib.Core.List.{List, [], _∷_, _++_, append-assoc}
 use native.Mathlib.Omega.{arith}
 use lib.ListN.{length, length-append}
 use lib.Dec.{eqb}
-use borrow.Author.Tests.{eqb-true, eqb-false, eq-eqb, ne-eqb}
-use Rattle.basics.specs.Choice.{pick, both, either, between}
+use borrow.Author.Tests.{eqb-true, ne-eqb}
+use Rattle.basics.specs.Choice.{both, either, between}
 use Rattle.basics.specs.Cases.{cases}
 use Rattle.basics.proofs.Bools.{both-l, both-r, no-true}
 use Rattle.symbols.specs.Characters.{letter, digit, octalDigit, inName, standing, graphic}
 use Rattle.symbols.specs.Runs.{newLines}
-use Rattle.symbols.specs.Vocabulary.{specialSymbols, among, same}
+use Rattle.symbols.specs.Vocabulary.{specialSymbols}
 use Rattle.symbols.specs.Symbols.{Symbol, found, symbolsOf}
-use Rattle.symbols.specs.Grammar.{all, Name, name, Numeral, decimal, octal, Character, plain, coded, Characters, none, more, IsSymbol, special, word, plainName, numeral, character, string, Longest, Comment, Splits, done, comment, symbol, Lined}
-use Rattle.symbols.proofs.Longest.{same-is}
+use Rattle.symbols.specs.Grammar.{all, Name, name, Numeral, decimal, octal, Character, plain, coded, Characters, none, more, IsSymbol, special, word, plainName, numeral, character, string, Splits, done, comment, symbol, Lined}
+use Rattle.symbols.proofs.Among.{each, among-each}
 use Rattle.symbols.proofs.Splitting.{lines-front, list-is}
 
 count : List ℕ → ℕ
@@ -88,24 +88,12 @@ quoted-count n s c =
     let e = count-none in
     count-cons 39 (s ++ 39 ∷ []) (λ z. omega arith) ∙ omega arith
 
-noLines : List (List ℕ) → Bool
-noLines [] = true
-noLines (s ∷ ss) = both (eqb (count s) 0) (noLines ss)
-
-special-lines : noLines specialSymbols ≡ true
-unfolding specialSymbols noLines count newLines both
+special-lines : each (λ s. eqb (count s) 0) specialSymbols ≡ true
+unfolding specialSymbols each count newLines both
 special-lines = refl
 
-special-count : (ss : List (List ℕ)) (s : List ℕ) → noLines ss ≡ true → among s ss ≡ true → count s ≡ 0
-unfolding among either noLines
-special-count [] s a e = no-true e
-special-count (u ∷ ss) s a e =
-    cases (same s u)
-    (λ q. rw (same-is s u q) (eqb-true (count u) 0 (both-l (eqb (count u) 0) (noLines ss) a)))
-    (λ q. special-count ss s (both-r (eqb (count u) 0) (noLines ss) a) (rw q at e))
-
 symbol-count : (k : ℕ) (s : List ℕ) → IsSymbol k s → count s ≡ 0
-symbol-count k s (special r e) = special-count specialSymbols s special-lines e
+symbol-count k s (special r e) = eqb-true (count s) 0 (among-each (λ s. eqb (count s) 0) specialSymbols s special-lines e)
 symbol-count k s (word r n e) = name-count s n
 symbol-count k s (plainName r n e) = name-count s n
 symbol-count k s (numeral r n) = numeral-count s n

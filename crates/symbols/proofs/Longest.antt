@@ -3,7 +3,6 @@ use Prim.Native.Nat.{ℕ, zero, suc, _+_, _-_, _<_, _≤_, max}
 use mathlib.Core.Path.{_≡_, refl, sym, ap, _∙_, subst}
 use mathlib.Core.Bool.{Bool, true, false}
 use mathlib.Core.List.{List, [], _∷_, _++_, append-assoc, append-nil}
-use native.Mathlib.Nat.{not-suc-le-zero}
 use native.Mathlib.Omega.{arith}
 use lib.ListN.{length, getD, take, drop, length-append, length-drop, take-append-drop}
 use lib.Seq.{drop-at, take-at, getD-at, length-take-le, take-add, take-suc}
@@ -11,12 +10,13 @@ use lib.Dec.{eqb, leb}
 use borrow.Author.Tests.{eq-eqb, ne-eqb, eqb-true, eqb-false, leb-true, leb-false}
 use Rattle.basics.specs.Choice.{pick, both, either, between}
 use Rattle.basics.specs.Cases.{cases}
-use Rattle.basics.proofs.Bools.{both-l, both-r, both-i, both-false-l, both-false-r, between-true, no-true}
-use Rattle.symbols.specs.Characters.{letter, digit, octalDigit, inName, standing, graphic}
+use Rattle.basics.proofs.Bools.{both-l, both-r, both-i, between-true, no-true}
+use Rattle.symbols.specs.Characters.{letter, digit, octalDigit, inName, standing}
 use Rattle.symbols.specs.Runs.{run}
 use Rattle.symbols.specs.Constants.{signed, numeralLength, characterLength, charactersLength, constantLength}
 use Rattle.symbols.specs.Vocabulary.{nameLength, specialSymbols, begins, longest, specialLength, same, among, isWord}
 use Rattle.symbols.specs.Symbols.{orElse, symbolLength, nameKind, constantKind, symbolKind}
+use Rattle.symbols.proofs.Among.{same-is, each, among-each}
 use Rattle.symbols.proofs.Lengths.{getD-past, characters-next, characters-stop, numeral-length as numeral-within, character-length, characters-length}
 use Rattle.symbols.proofs.Telling.{or-first, or-second, symbol-name, name-some, constant-symbol, constant-size}
 use Rattle.symbols.proofs.Scanning.{symbol-nil}
@@ -150,13 +150,6 @@ numeral-most s t k u w e n =
 
 -- ---- special symbols
 
-pub same-is : (s u : List ℕ) → same s u ≡ true → s ≡ u
-unfolding same
-same-is [] [] e = refl
-same-is [] (y ∷ u) e = no-true e
-same-is (x ∷ s) [] e = no-true e
-same-is (x ∷ s) (y ∷ u) e = let a = eqb-true x y (both-l _ _ e) in let b = same-is s u (both-r _ _ e) in cc
-
 same-self : (s : List ℕ) → same s s ≡ true
 unfolding same
 same-self [] = refl
@@ -223,24 +216,12 @@ apart : List ℕ → Bool
 apart [] = false
 apart (x ∷ s) = pick (letter x) false (pick (digit x) false (pick (eqb x 35) false (pick (eqb x 39) false true)))
 
-allApart : List (List ℕ) → Bool
-allApart [] = true
-allApart (s ∷ ss) = both (apart s) (allApart ss)
-
-among-apart : (ss : List (List ℕ)) (s : List ℕ) → allApart ss ≡ true → among s ss ≡ true → apart s ≡ true
-unfolding among either allApart
-among-apart [] s a e = no-true e
-among-apart (u ∷ ss) s a e =
-    cases (same s u)
-    (λ q. rw (same-is s u q) (both-l (apart u) (allApart ss) a))
-    (λ q. among-apart ss s (both-r (apart u) (allApart ss) a) (rw q at e))
-
-signs-apart : allApart specialSymbols ≡ true
-unfolding specialSymbols allApart apart letter digit between both either
+signs-apart : each apart specialSymbols ≡ true
+unfolding specialSymbols each apart letter digit between both either
 signs-apart = refl
 
 special-apart : (s : List ℕ) → among s specialSymbols ≡ true → apart s ≡ true
-special-apart s e = among-apart specialSymbols s signs-apart e
+special-apart s e = among-each apart specialSymbols s signs-apart e
 
 pub special-only : (x : ℕ) (l : List ℕ) → letter x ≡ false → digit x ≡ false → eqb x 35 ≡ false → eqb x 39 ≡ false → symbolLength (x ∷ l) ≡ specialLength (x ∷ l)
 unfolding symbolLength

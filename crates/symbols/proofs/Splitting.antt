@@ -1,5 +1,5 @@
 -- A text has one list of symbols: the one that is found. Assumes nothing.
-use Prim.Native.Nat.{ℕ, zero, suc, _+_, _-_, _<_, _≤_}
+use Prim.Native.Nat.{ℕ, zero, suc, _+_, _<_, _≤_}
 use mathlib.Core.Path.{_≡_, refl, sym, ap, _∙_, subst}
 use mathlib.Core.Bool.{Bool, true, false}
 use mathlib.Core.List.{List, [], _∷_, _++_, append-assoc}
@@ -10,17 +10,18 @@ use lib.Dec.{eqb, leb}
 use borrow.Author.Tests.{eq-eqb, ne-eqb, eqb-true, eqb-false, leb-true, leb-false}
 use Rattle.basics.specs.Choice.{pick, both, either, between}
 use Rattle.basics.specs.Cases.{cases}
-use Rattle.basics.proofs.Bools.{both-l, both-r, between-true, no-true}
-use Rattle.symbols.specs.Characters.{letter, digit, octalDigit, inName, inComment, graphic}
+use Rattle.basics.proofs.Bools.{both-l, between-true, no-true}
+use Rattle.symbols.specs.Characters.{letter, digit, inName, inComment}
 use Rattle.symbols.specs.Runs.{run, newLines}
-use Rattle.symbols.specs.Constants.{characterLength, charactersLength, constantLength}
-use Rattle.symbols.specs.Vocabulary.{nameLength, specialSymbols, specialLength, among, same, isWord}
+use Rattle.symbols.specs.Constants.{characterLength, charactersLength}
+use Rattle.symbols.specs.Vocabulary.{nameLength, specialSymbols, isWord}
 use Rattle.symbols.specs.Symbols.{symbolLength, nameKind, constantKind, symbolKind, commentLength, Symbol, Reading, fault, found, more as moreOf, symbolsFrom, symbolsOf}
-use Rattle.symbols.specs.Grammar.{all, Name, name, Numeral, decimal, octal, Character, Characters, none, more, IsSymbol, special, word, plainName, numeral, character, string, Longest, Comment, space, newLine, quoted, Splits, done, comment, symbol, Rising}
+use Rattle.symbols.specs.Grammar.{all, Name, name, Numeral, decimal, octal, Characters, none, more, IsSymbol, special, word, plainName, numeral, character, string, Longest, Comment, space, newLine, quoted, Splits, done, comment, symbol, Rising}
+use Rattle.symbols.proofs.Among.{each, among-each}
 use Rattle.symbols.proofs.Lengths.{getD-past}
-use Rattle.symbols.proofs.Scanning.{symbol-length, comment-length, comment-nil, comment-next, symbol-next, symbol-of, symbol-nil}
+use Rattle.symbols.proofs.Scanning.{symbol-length, comment-length, comment-next, symbol-next, symbol-of}
 use Rattle.symbols.proofs.Telling.{symbol-name}
-use Rattle.symbols.proofs.Longest.{run-on, all-front, same-is, digit-letter, character-is, characters-is, characters-some, none-empty, no-longer, is-symbol}
+use Rattle.symbols.proofs.Longest.{run-on, all-front, digit-letter, character-is, characters-is, characters-some, none-empty, no-longer, is-symbol}
 
 -- ---- comments
 
@@ -104,21 +105,9 @@ signFirst : List ℕ → Bool
 signFirst [] = false
 signFirst (x ∷ s) = apartSign x
 
-allSigns : List (List ℕ) → Bool
-allSigns [] = true
-allSigns (s ∷ ss) = both (signFirst s) (allSigns ss)
-
-signs-are : allSigns specialSymbols ≡ true
-unfolding specialSymbols allSigns signFirst apartSign solid letter digit between both either
+signs-are : each signFirst specialSymbols ≡ true
+unfolding specialSymbols each signFirst apartSign solid letter digit between both either
 signs-are = refl
-
-sign-of : (ss : List (List ℕ)) (s : List ℕ) → allSigns ss ≡ true → among s ss ≡ true → signFirst s ≡ true
-unfolding among either allSigns
-sign-of [] s a e = no-true e
-sign-of (u ∷ ss) s a e =
-    cases (same s u)
-    (λ q. rw (same-is s u q) (both-l (signFirst u) (allSigns ss) a))
-    (λ q. sign-of ss s (both-r (signFirst u) (allSigns ss) a) (rw q at e))
 
 -- what a sign says of what begins with it
 sign-kind : (x : ℕ) (l : List ℕ) → apartSign x ≡ true → (symbolKind (x ∷ l) ≡ 1) × (solid x ≡ true)
@@ -215,7 +204,7 @@ constant-begun k s rest e =
     record { some = λ z. omega arith; no-comment = quote-solid ((s ++ 39 ∷ []) ++ rest); kind-is = λ _. quote-kind ((s ++ 39 ∷ []) ++ rest) ∙ ap constantKind a ∙ e }
 
 begun : (k : ℕ) (s rest : List ℕ) → IsSymbol k s → Begun k s rest
-begun k s rest (special r e) = special-begun s rest (sign-of specialSymbols s signs-are e)
+begun k s rest (special r e) = special-begun s rest (among-each signFirst specialSymbols s signs-are e)
 begun k s rest (word r n e) = name-begun 2 s rest n (rw e)
 begun k s rest (plainName r n e) = name-begun 3 s rest n (rw e)
 begun k s rest (numeral r n) = numeral-begun s rest n
