@@ -8,7 +8,7 @@ use native.Mathlib.Nat.{add-zero}
 use mir.Val.{Fits}
 use mir.Syntax.{w64}
 use borrow.Author.Tests.{eq-eqb, ne-eqb, le-leb, lt-leb, lt-ltb, le-ltb, eqb-true, eqb-false, leb-true}
-use Rattle.basics.specs.Choice.{pick, both, either, between}
+use Rattle.basics.specs.Choice.{both, either, between}
 use Rattle.basics.specs.Cases.{cases}
 use Rattle.basics.specs.Loops.{Passed}
 use Rattle.basics.proofs.Bools.{both-l, both-r, both-i, both-false-l, both-false-r}

@@ -19,7 +19,7 @@ use Rattle.machine.specs.Values.{holds, partOfBlock}
 use Rattle.machine.specs.Rule.{owns, worked, lives, moduleHolds, modulesHold, frameHolds, framesHold}
 use Rattle.values.specs.Walks.{Ready, Near, Words, Walked}
 use Rattle.values.specs.Heads.{Head}
-use Rattle.state_rule.specs.Frames.{variableHolds, moduleRow, livesInModule, ownedIn, frameVariable, frameRow}
+use Rattle.state_rule.specs.Frames.{variableRow, variableHolds, livesInModule, ownedIn, frameVariable}
 use Rattle.values.proofs.Values.{all-same}
 use Rattle.values.proofs.Heading.{v-free}
 use Rattle.values.proofs.Parts.{first-none, first-more, offset-first}
@@ -37,78 +37,47 @@ variable-free T m p v a x h e d z = rw (← e) (v-free T m x h (location p a) d 
 
 -- ---- passes over the variables of a block
 
-module _ (T : Table) (b : ℕ) (test : ℕ → Bool) where
-  pub walked-none : Walked (firstWords T b) test 0 0
-  walked-none = record { is = sym (first-none T b); small = omega arith; passed = passed-none test }
+module _ (T : Table) (b : ℕ) (test : ℕ → ℕ → Bool) where
+  pub walked-none : Walked (firstWords T b) (variableRow T b test) 0 0
+  walked-none = record { is = sym (first-none T b); small = omega arith; passed = passed-none (variableRow T b test) }
 
-  pub walked-small : (i k n : ℕ) → Walked (firstWords T b) test i k → i < n → n < 65536 → k ≤ 13900000
-  walked-small i k n h l g = let u = h .small in omega arith
+  module _ (i k n : ℕ) (h : Walked (firstWords T b) (variableRow T b test) i k) (l : i < n) (g : n < 65536) where
+    pub walked-small : k ≤ 13900000
+    walked-small = let u = h .small in omega arith
 
-  module _ (i k first : ℕ) (h : Walked (firstWords T b) test i k) (hp : first ≡ firstVar T b) where
-    pub walked-more : (r : Bool) (w : ℕ) → r ≡ test i → r ≡ true → Words (varWords T (first + i)) w → Walked (firstWords T b) test (i + 1) (k + w)
-    walked-more r w e g x =
+    pub walked-near : k ≤ 14000000
+    walked-near = let u = h .small in omega arith
+
+  module _ (i k first : ℕ) (h : Walked (firstWords T b) (variableRow T b test) i k) (hp : first ≡ firstVar T b) (r : Bool) (e : r ≡ test (first + i) k) where
+    row-is : r ≡ variableRow T b test i
+    unfolding variableRow
+    row-is = rw (← hp, ← h .is) e
+
+    pub walked-more : (w : ℕ) → r ≡ true → Words (varWords T (first + i)) w → Walked (firstWords T b) (variableRow T b test) (i + 1) (k + w)
+    walked-more w g x =
         let u = h .is in
         let v = h .small in
         let y = x .is in
         let s = x .small in
         let z : firstWords T b (i + 1) ≡ firstWords T b i + w = first-more T b i ∙ rw (← hp, ← x .is) in
-        record { is = omega arith; small = omega arith; passed = passed-more test i r e (h .passed) g }
+        record { is = omega arith; small = omega arith; passed = passed-more (variableRow T b test) i r row-is (h .passed) g }
 
--- the variables of a module
-module _ (T : Table) (m : Memory) (p b : ℕ) where
-  modules-is : allBelow (vars T b) (moduleRow T m p b) ≡ modulesHold T m p b
-  unfolding modulesHold moduleHolds moduleRow variableHolds
-  modules-is = all-same (vars T b) _ _ (λ i. rw (offset-first T b i))
+    pub walked-fail : (n : ℕ) (x : Bool) → allBelow (vars T b) (variableRow T b test) ≡ x → n ≡ vars T b → i < n → r ≡ false → false ≡ x
+    walked-fail n x y q l g = rw (← y) (passed-fail (variableRow T b test) i r row-is (vars T b) (rw q at l) g)
 
-  pub modules-none : Walked (firstWords T b) (moduleRow T m p b) 0 0
-  modules-none = walked-none T b (moduleRow T m p b)
+  pub walked-all : (i k n : ℕ) (x : Bool) → allBelow (vars T b) (variableRow T b test) ≡ x → Walked (firstWords T b) (variableRow T b test) i k → n ≡ vars T b → i ≤ n → n ≤ i → true ≡ x
+  walked-all i k n x y h q l g = rw (← y) (passed-all (variableRow T b test) i (vars T b) (h .passed) (rw q at l) (rw q at g))
 
-  pub modules-small : (i k n : ℕ) → Walked (firstWords T b) (moduleRow T m p b) i k → i < n → n < 65536 → k ≤ 14000000
-  modules-small i k n h l g = let u = walked-small T b (moduleRow T m p b) i k n h l g in omega arith
+-- the variables of a module, and of a frame
+pub modules-is : (T : Table) (m : Memory) (p b : ℕ) → allBelow (vars T b) (variableRow T b (variableHolds T m p)) ≡ modulesHold T m p b
+unfolding modulesHold moduleHolds variableRow variableHolds
+modules-is T m p b = all-same (vars T b) _ _ (λ i. rw (offset-first T b i))
 
-  module _ (i k first : ℕ) (h : Walked (firstWords T b) (moduleRow T m p b) i k) (hp : first ≡ firstVar T b) (r : Bool) (e : r ≡ variableHolds T m p (first + i) k) where
-    row-is : r ≡ moduleRow T m p b i
-    unfolding moduleRow
-    row-is = rw (← hp, ← h .is) e
+pub frames-is : (T : Table) (m : Memory) (p d f q : ℕ) → allBelow (vars T q) (variableRow T q (frameVariable T m p d f)) ≡ framesHold T m p d f q
+unfolding framesHold frameHolds variableRow frameVariable variableHolds
+frames-is T m p d f q = all-same (vars T q) _ _ (λ i. rw (offset-first T q i))
 
-    pub modules-more : (w : ℕ) → r ≡ true → Words (varWords T (first + i)) w → Walked (firstWords T b) (moduleRow T m p b) (i + 1) (k + w)
-    modules-more w g x = walked-more T b (moduleRow T m p b) i k first h hp r w row-is g x
-
-    pub modules-fail : (n : ℕ) → n ≡ vars T b → i < n → r ≡ false → false ≡ modulesHold T m p b
-    modules-fail n q l g = rw (← modules-is) (passed-fail (moduleRow T m p b) i r row-is (vars T b) (rw q at l) g)
-
-  pub modules-all : (i k n : ℕ) → Walked (firstWords T b) (moduleRow T m p b) i k → n ≡ vars T b → i ≤ n → n ≤ i → true ≡ modulesHold T m p b
-  modules-all i k n h q l g = rw (← modules-is) (passed-all (moduleRow T m p b) i (vars T b) (h .passed) (rw q at l) (rw q at g))
-
-pub ruleset modulewalks = (modules-none, modules-more, modules-fail, modules-all)
-
--- the variables of a frame
-module _ (T : Table) (m : Memory) (p d f q : ℕ) where
-  frames-is : allBelow (vars T q) (frameRow T m p d f q) ≡ framesHold T m p d f q
-  unfolding framesHold frameHolds frameRow frameVariable variableHolds
-  frames-is = all-same (vars T q) _ _ (λ i. rw (offset-first T q i))
-
-  pub frames-none : Walked (firstWords T q) (frameRow T m p d f q) 0 0
-  frames-none = walked-none T q (frameRow T m p d f q)
-
-  pub frames-small : (i k n : ℕ) → Walked (firstWords T q) (frameRow T m p d f q) i k → i < n → n < 65536 → k ≤ 13900000
-  frames-small i k n h l g = walked-small T q (frameRow T m p d f q) i k n h l g
-
-  module _ (i k first : ℕ) (h : Walked (firstWords T q) (frameRow T m p d f q) i k) (hp : first ≡ firstVar T q) (r : Bool) (e : r ≡ frameVariable T m p d f (first + i) k) where
-    frame-row : r ≡ frameRow T m p d f q i
-    unfolding frameRow
-    frame-row = rw (← hp, ← h .is) e
-
-    pub frames-more : (w : ℕ) → r ≡ true → Words (varWords T (first + i)) w → Walked (firstWords T q) (frameRow T m p d f q) (i + 1) (k + w)
-    frames-more w g x = walked-more T q (frameRow T m p d f q) i k first h hp r w frame-row g x
-
-    pub frames-fail : (n : ℕ) → n ≡ vars T q → i < n → r ≡ false → false ≡ framesHold T m p d f q
-    frames-fail n y l g = rw (← frames-is) (passed-fail (frameRow T m p d f q) i r frame-row (vars T q) (rw y at l) g)
-
-  pub frames-all : (i k n : ℕ) → Walked (firstWords T q) (frameRow T m p d f q) i k → n ≡ vars T q → i ≤ n → n ≤ i → true ≡ framesHold T m p d f q
-  frames-all i k n h y l g = rw (← frames-is) (passed-all (frameRow T m p d f q) i (vars T q) (h .passed) (rw y at l) (rw y at g))
-
-pub ruleset framewalks = (frames-none, frames-more, frames-fail, frames-all)
+pub ruleset walking = (walked-none, walked-fail, walked-all, modules-is, frames-is)
 
 -- ---- live variables
 

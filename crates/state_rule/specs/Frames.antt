@@ -35,13 +35,14 @@ pub record RuleTest (T : Table) (ws hs js s : List ℕ) : Type 0 where
   pub jumps : Jumps T js
   pub state : State s
 
+-- variable i of block b passes a test, at the word of the variables where it begins
+unfoldable pub variableRow : Table → ℕ → (ℕ → ℕ → Bool) → ℕ → Bool
+variableRow T b test i = test (firstVar T b + i) (firstWords T b i)
+
 module _ (T : Table) (m : Memory) where
   -- variable v has a value of its type at word a of the area of process p
   unfoldable pub variableHolds : ℕ → ℕ → ℕ → Bool
   variableHolds p v a = holds T m (varType T v) (location p a)
-
-  unfoldable pub moduleRow : ℕ → ℕ → ℕ → Bool
-  moduleRow p b i = variableHolds p (firstVar T b + i) (firstWords T b i)
 
   -- the two ways in which a variable of type τ is live
   unfoldable pub livesInModule : ℕ → ℕ → ℕ → ℕ → ℕ → ℕ → Bool
@@ -56,6 +57,3 @@ module _ (T : Table) (m : Memory) where
       pick (eqb (varMode T v) 2)
       (lives T m p d (callerFrame m p f) (callerWorks m p f) (varType T v) (m (location p (f + 4 + a))))
       (variableHolds p v (f + 4 + a))
-
-  unfoldable pub frameRow : ℕ → ℕ → ℕ → ℕ → ℕ → Bool
-  frameRow p d f q i = frameVariable p d f (firstVar T q + i) (firstWords T q i)

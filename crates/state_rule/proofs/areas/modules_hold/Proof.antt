@@ -5,13 +5,13 @@ use Rattle.code.specs.Code.{decoded}
 use Rattle.machine.specs.Memory.{memoryOf}
 use Rattle.machine.specs.Variables.{firstWords}
 use Rattle.values.specs.Walks.{Walked}
-use Rattle.state_rule.specs.Frames.{moduleRow}
-use Rattle.state_rule.proofs.Frames.{modulewalks, modules-more, modules-small}
+use Rattle.state_rule.specs.Frames.{variableRow, variableHolds}
+use Rattle.state_rule.proofs.Frames.{walking, walked-more, walked-near}
 use Rattle.state_rule.proofs.areas.modules_hold.Statement.{statement}
 use Rattle.state_rule.proofs.areas.modules_hold.Tie as tie
 
 abbrev Inv-loop : tie.InvT-loop
-Inv-loop c sizes heads state p b first count at₀ i₀ at i = (i ≤ count) × Walked (firstWords (decoded c) b) (moduleRow (decoded c) (memoryOf state) p b) i at
+Inv-loop c sizes heads state p b first count at₀ i₀ at i = (i ≤ count) × Walked (firstWords (decoded c) b) (variableRow (decoded c) b (variableHolds (decoded c) (memoryOf state) p)) i at
 
 abbrev μ-loop : tie.MeasureT-loop
 μ-loop c sizes heads state p b first count at₀ i₀ at i = count - i
@@ -24,14 +24,14 @@ modules-hold-spec =
     μ-loop
     (λ c κs. search needs)
     (λ c κs. search needs)
-    (λ c. (search needs, search modulewalks))
+    (λ c. (search needs, search walking))
     (λ c. search needs)
-    (λ c κs. search (modules-small, needs))
+    (λ c κs. search (walked-near, needs))
     (λ c. search needs)
     (λ c κs. search needs)
     (λ c. omega arith)
     (λ c. search needs)
     (λ c. omega arith)
-    (λ c. (omega arith, modules-more _ _ _ _ _ _ _ (c .before .before .before .before .loop .inv .1) (c .before .before .before .before .before .before .first-var .ensures .is) _ (c .before .before .variable-holds .ensures) _ (search needs) (c .var-words .ensures)))
-    (λ c. search modulewalks)
-    (λ c. search modulewalks))
+    (λ c. (omega arith, walked-more _ _ _ _ _ _ (c .before .before .before .before .loop .inv .1) (c .before .before .before .before .before .before .first-var .ensures .is) _ (c .before .before .variable-holds .ensures) _ (search needs) (c .var-words .ensures)))
+    (λ c. search walking)
+    (λ c. search walking))
