@@ -28,7 +28,7 @@ use Rattle.machine.specs.Entries.{Unary, unaryAt, Binary, binaryAt, equal, notE
 use Rattle.machine.specs.Variables.{fits}
 use Rattle.machine.specs.Operands.{simple, truth, given, same, deviceWord, unaryValue, ordered, integral, logical, binaryValue}
 use Rattle.operands.specs.Answers.{firstWord, Unstuck, goes, fails}
-use Rattle.operands.specs.Operators.{unaryWord, relates, arithmetic, logic, binaryWord}
+use Rattle.operands.specs.Operators.{unaryWord, logic, binaryWord}
 use Rattle.operands.proofs.Typed.{OfType, a-place, a-value, a-failure, unary-cases, binary-cases}
 
 pub no-unstuck : {A : Type 0} (o : Outcome Operand) → o ≡ stuck → Unstuck o → A
@@ -201,7 +201,7 @@ first-unary pg o τ w h =
 module _ (T : Table) (τ σ u v : ℕ) where
   pub first-binary : (o : ℕ) → Unstuck (binaryValue T (binaryAt o) (numbered τ) (u ∷ []) (numbered σ) (v ∷ []))
       → firstWord (binaryValue T (binaryAt o) (numbered τ) (u ∷ []) (numbered σ) (v ∷ [])) ≡ binaryWord o τ u v
-  unfolding binaryValue binaryAt binaryWord relates arithmetic logic wordOf numberOf
+  unfolding binaryValue binaryAt binaryWord logic wordOf numberOf
   first-binary o h =
       binary-cases
       (λ k. Unstuck (binaryValue T (binaryAt k) (numbered τ) (u ∷ []) (numbered σ) (v ∷ []))
