@@ -5,6 +5,7 @@ use code::kinds;
 use guards::enter;
 use guards::pass;
 use operands::Context;
+use operands::packed::FAILURES;
 ghost use Prim.Native.Nat.{_≤_};
 ghost use Rattle.table.specs.Entries.{stmtKind, stmtA};
 ghost use Rattle.code.specs.Code.{decoded};
@@ -87,7 +88,7 @@ pub fn open(
     let r = choose(c, k, stack, state, page, x, first);
     let v = r.value;
     let i = r.at;
-    if 65536 <= v {
+    if FAILURES <= v {
         return effects::fail_by(state, v);
     }
     if v == 0 {

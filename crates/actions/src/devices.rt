@@ -2,6 +2,7 @@
 use super::Stack;
 use super::eval;
 use operands::Context;
+use operands::packed::FAILURES;
 use operands::packed::cut;
 use transfers::devices::write_word;
 ghost use mathlib.Core.Path.{_≡_};
@@ -27,7 +28,7 @@ fn write_value(
 {
     let b = code::stmt_b(c, x.statement);
     let v = eval(c, k, stack, state, page, x, b);
-    if 65536 <= v {
+    if FAILURES <= v {
         return effects::fail_by(state, v);
     }
     write_word(state, page, x, address, cut(v))
@@ -48,7 +49,7 @@ pub fn write(
 {
     let a = code::stmt_a(c, x.statement);
     let v = eval(c, k, stack, state, page, x, a);
-    if 65536 <= v {
+    if FAILURES <= v {
         return effects::fail_by(state, v);
     }
     write_value(c, k, stack, state, page, x, cut(v))

@@ -3,6 +3,7 @@ use super::Stack;
 use super::select;
 use calls::processes::serve;
 use operands::Context;
+use operands::packed::FAILURES;
 use operands::packed::widen;
 use transfers::Reference;
 use transfers::references::refer_at;
@@ -44,7 +45,7 @@ pub fn process_call(
 {
     let a = code::stmt_a(c, x.statement);
     let l = select(c, k, stack, state, page, x, a);
-    if 65536 <= l {
+    if FAILURES <= l {
         return effects::fail_by(state, l);
     }
     call_at(c, state, page, x, widen(l))

@@ -1,5 +1,6 @@
 // What every statement ends with: the process goes on, waits, or the run fails (01, Step answers).
 use operands::Context;
+use operands::packed::FAILURES;
 use words::values::Failure;
 ghost use mathlib.Core.Path.{_≡_};
 ghost use mathlib.Core.Bool.{true};
@@ -26,12 +27,12 @@ pub fn fail(state: &mut [u8], f: Failure) -> u8
     n
 }
 
-// The number of the failure in an answer above 65,535 (operands, packed).
+// The number of the failure in an answer that is one (operands, packed).
 fn failure_in(r: u32) -> u8
     requires { ⌜ (65536 ≤ r) × (isFailure (r - 65536) ≡ true) ⌝ }
     ensures { λ n. ⌜ n ≡ r - 65536 ⌝ }
 {
-    (r - 65536) as u8
+    (r - FAILURES) as u8
 }
 
 // The run fails, by such an answer.

@@ -116,7 +116,10 @@ pub fn is_single(c: &code::Slots, n: usize) -> bool
     code::words_of(c, code::type_of(c, n)) == 1
 }
 
-// How many elements lie before the one with index value i, of index values from low to high (8.5); 65,536 where i is outside.
+// Outside the array: every element has fewer before it.
+pub const OUTSIDE: usize = 65536;
+
+// How many elements lie before the one with index value i, of index values from low to high (8.5), or OUTSIDE.
 pub fn index_of(low: usize, high: usize, i: usize) -> usize
     requires { ⌜ (low < 65536) × ((high < 65536) × (i < 65536)) ⌝ }
     ensures { λ r. ⌜ IndexIs low high i r ⌝ }
@@ -124,10 +127,10 @@ pub fn index_of(low: usize, high: usize, i: usize) -> usize
     let l = types::offset_of(low);
     let x = types::offset_of(i);
     if x < l {
-        return 65536;
+        return OUTSIDE;
     }
     if types::offset_of(high) < x {
-        return 65536;
+        return OUTSIDE;
     }
     x - l
 }
@@ -138,7 +141,7 @@ pub fn element_place(c: &code::Slots, a: usize, y: usize, i: u16) -> u32
     ensures { λ r. ⌜ PlaceIs (typeQ (decoded (now (c .entry))) y) (failWhere (outside (typeLow (decoded (now (c .entry))) y) (typeHigh (decoded (now (c .entry))) y) i) 18 (ok (place (elementAt (decoded (now (c .entry))) a y i) (typeQ (decoded (now (c .entry))) y)))) r ⌝ }
 {
     let d = index_of(code::type_low(c, y), code::type_high(c, y), wide(i));
-    if d == 65536 {
+    if d == OUTSIDE {
         return INDEX_RANGE;
     }
     thin(a + d * words_of(c, code::type_q(c, y)))

@@ -1,4 +1,5 @@
 // The words of values that are compared: those of a variable, or of a string constant (02, b).
+use super::packed::FAILURES;
 use super::packed::text_node;
 use super::packed::widen;
 use super::places::node_words;
@@ -18,7 +19,7 @@ pub fn source_word(c: &code::Slots, state: &[u8], r: u32, i: usize) -> usize
     requires { ⌜ Sourced (now state) r (i + 1) ⌝ }
     ensures { λ w. ⌜ w ≡ sourceWord (decoded (now (c .entry))) (memoryOf (now (state .entry))) r i ⌝ }
 {
-    if r < 65536 {
+    if r < FAILURES {
         return wide(word_at(state, widen(r) + i));
     }
     let n = text_node(r);
@@ -46,9 +47,9 @@ pub fn same_values(c: &code::Slots, state: &[u8], p: usize, a: u32, b: u32) -> b
     requires { ⌜ Compared (now c) (now state) p a b ⌝ }
     ensures { λ r. ⌜ r ≡ same (sourceWords (decoded (now (c .entry))) (memoryOf (now (state .entry))) a (nodeWords (decoded (now (c .entry))) p)) (sourceWords (decoded (now (c .entry))) (memoryOf (now (state .entry))) b (nodeWords (decoded (now (c .entry))) p)) ⌝ }
 {
-    if a < 65536 {
+    if a < FAILURES {
         let n = node_words(c, p);
-        if b < 65536 {
+        if b < FAILURES {
             return same_words(state, widen(a), widen(b), n);
         }
         return same_sources(c, state, a, b, n);
