@@ -28,7 +28,7 @@ use Rattle.effects.specs.Effects.{Standing}
 use Rattle.calls.specs.Framing.{Counted}
 use Rattle.calls.specs.Entering.{limitOf, Limits}
 
--- ---- the laws of `call_words` and `limit_of`
+-- ---- the laws of `procedure_words` and `limit_of`
 
 module _ (t : List ℕ) (h : Prepared t) (b : ℕ) (l : b < blockCount (decoded t)) (r : ℕ) (hr : Field (slotIn t b 31) r) where
   room-is : r ≡ roomOf (decoded t) b

@@ -21,7 +21,7 @@ fn var_words(c: &code::Slots, v: usize) -> usize
 }
 
 // The words of procedure q's variables, which stand beside the table.
-pub fn call_words(c: &code::Slots, q: usize) -> usize
+pub fn procedure_words(c: &code::Slots, q: usize) -> usize
     requires { ⌜ Prepared (now c) ⌝ }
     requires { ⌜ (q < blockCount (decoded (now c))) × (blockKind (decoded (now c)) q ≡ 2) ⌝ }
     ensures { λ r. ⌜ Counted (decoded (now (c .entry))) q r ⌝ }

@@ -1,7 +1,7 @@
 // Procedure calls of a process's own module (11.3, 12).
 use super::Gathered;
 use super::arguments::arguments;
-use super::frame::call_words;
+use super::frame::procedure_words;
 use code::kinds;
 use operands::Context;
 use words::values::Failure;
@@ -52,7 +52,7 @@ fn enter_local(
     requires { ⌜ Entering (now c) (now state) (now page) x q (limitOf (decoded (now c)) x) (memoryOf (now state)) (x .works) (now buffer) n ⌝ }
     ensures { λ r. ⌜ CarriedOut (now (c .entry)) (now (state .entry)) (now (page .entry)) x r (now (state .exit)) (now (page .entry)) ⌝ }
 {
-    let size = call_words(c, q);
+    let size = procedure_words(c, q);
     if is_over(state, x.process, size, limit_of(c, x)) {
         return effects::fail(state, Failure::AreaFull);
     }

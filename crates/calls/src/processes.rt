@@ -1,8 +1,8 @@
 // Calls of other processes, and starts (11.3, 11.5, 13).
 use super::Gathered;
 use super::arguments::arguments;
-use super::frame::call_words;
 use super::frame::frame_words;
+use super::frame::procedure_words;
 use super::procedures::is_over;
 use operands::Context;
 use transfers::Reference;
@@ -48,7 +48,7 @@ fn enter_process(
     requires { ⌜ (1 ≤ r) × (r ≤ 64) ⌝ }
     ensures { λ a. ⌜ CarriedOut (now (c .entry)) (now (state .entry)) (now (page .entry)) x a (now (state .exit)) (now (page .entry)) ⌝ }
 {
-    let size = call_words(c, q);
+    let size = procedure_words(c, q);
     if is_over(state, x.process, size, machine::AREA) {
         return effects::fail(state, Failure::AreaFull);
     }
