@@ -2,11 +2,10 @@
 use code::kinds;
 use operands::Context;
 ghost use mathlib.Core.Path.{_≡_};
-ghost use Prim.Native.Nat.{_≤_};
+ghost use Prim.Native.Nat.{_≤_, _<_};
 ghost use Rattle.table.specs.Entries.{stmtKind};
 ghost use Rattle.code.specs.Code.{decoded};
 ghost use Rattle.effects.specs.Effects.{CarriedOut, Standing};
-ghost use Rattle.statements.specs.Other.{Other};
 
 // Calls, create and start: kinds 2 to 5.
 fn perform_call(c: &code::Slots, state: &mut [u8], page: &[u8], x: Context, k: usize) -> u8
@@ -29,7 +28,7 @@ fn perform_call(c: &code::Slots, state: &mut [u8], page: &[u8], x: Context, k: u
 // What is carried out alike with a plan and without, besides arms and ends: skip, calls, create and start, the end of a block.
 pub fn perform_other(c: &code::Slots, state: &mut [u8], page: &[u8], x: Context, k: usize) -> u8
     requires { ⌜ Standing (now c) (now state) (now page) x ⌝ }
-    requires { ⌜ (stmtKind (decoded (now c)) (x .statement) ≡ k) × Other k ⌝ }
+    requires { ⌜ (stmtKind (decoded (now c)) (x .statement) ≡ k) × ((k ≡ 1 → ⊥) × (5 < k → 12 < k)) ⌝ }
     ensures { λ r. ⌜ CarriedOut (now (c .entry)) (now (state .entry)) (now (page .entry)) x r (now (state .exit)) (now (page .entry)) ⌝ }
 {
     if k == kinds::SKIP {

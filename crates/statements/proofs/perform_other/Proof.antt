@@ -10,7 +10,7 @@ perform-other-spec =
     (λ c κs. search needs)
     (λ c. search needs)
     (λ c. search needs)
-    (λ c κs. (search needs, (search needs, (search others, search needs))))
+    (λ c κs. search needs)
     (λ c. search needs)
     (λ c. search needs)
     (λ c κs. (search needs, search others))
