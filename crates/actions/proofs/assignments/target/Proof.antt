@@ -1,0 +1,20 @@
+use Rattle.actions.proofs.Telling.{spots}
+use borrow.Author.Needs.{needs}
+use Rattle.actions.proofs.assignments.target.Statement.{statement}
+use Rattle.actions.proofs.assignments.target.Tie as tie
+
+pub target-spec : {M : Type 1} → statement M
+target-spec =
+    tie.close
+    (tie.spec
+    (λ c κs. search spots)
+    (λ c κs. search spots)
+    (λ c κs. search needs)
+    (λ c κs. search needs)
+    (λ c κs. (search spots, search spots))
+    (λ c κs. search spots)
+    (λ c. search spots)
+    (λ c κs. search needs)
+    (λ c κs. search needs)
+    (λ c κs. (search needs, (search spots, (search spots, search spots))))
+    (λ c. search spots))
