@@ -199,7 +199,7 @@ static bool has_strings(const struct input *in)
 static void count_plan(const struct input *in)
 {
     size_t at = section_at(in, 5), nodes = at < in->table_len ? in->table[at] : 0;
-    bool is_planned = seen.has_stepped && !has_strings(in) && in->turns >= nodes;
+    bool is_planned = seen.has_stepped && in->turns >= nodes;
     seen.planned += is_planned;
     seen.planned_long += is_planned && nodes > 191;
 }

@@ -199,7 +199,7 @@ static bool threads(void)
     return is_same || bad("the runs of the threads differ");
 }
 
-/* Long calls, which go by a plan where no string constant is an operand, leave on a small stack what single steps leave. */
+/* Long calls, which go by a plan, leave on a small stack what single steps leave. */
 enum { LONG = 384, TABLES = 300 / SHARE };
 
 struct long_run {
