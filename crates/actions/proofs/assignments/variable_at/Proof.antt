@@ -1,10 +1,10 @@
 use Rattle.actions.proofs.Telling.{spots}
 use borrow.Author.Needs.{needs}
-use Rattle.actions.proofs.assignments.target.Statement.{statement}
-use Rattle.actions.proofs.assignments.target.Tie as tie
+use Rattle.actions.proofs.assignments.variable_at.Statement.{statement}
+use Rattle.actions.proofs.assignments.variable_at.Tie as tie
 
-pub target-spec : {M : Type 1} → statement M
-target-spec =
+pub variable-at-spec : {M : Type 1} → statement M
+variable-at-spec =
     tie.close
     (tie.spec
     (λ c κs. search spots)
