@@ -13,7 +13,7 @@ ghost use Rattle.machine.specs.Memory.{memoryOf};
 ghost use Rattle.operands.specs.Answers.{Evaluable, OneWord};
 ghost use Rattle.operands.specs.Packed.{Evaluated};
 ghost use Rattle.operands.specs.Ready.{contextIn};
-ghost use Rattle.effects.specs.Effects.{CarriedOut};
+ghost use Rattle.effects.specs.Effects.{StatementLeaves};
 ghost use Rattle.guards.specs.Guards.{Choosable};
 ghost use Rattle.engine.specs.Planning.{Rooted};
 ghost use Rattle.actions.specs.Acting.{Acting};
@@ -81,7 +81,7 @@ pub fn open(
 ) -> u8
     requires { ⌜ Acting (now c) (now k) (now state) (now page) x ⌝ }
     requires { ⌜ (6 ≤ stmtKind (decoded (now c)) (x .statement)) × (stmtKind (decoded (now c)) (x .statement) ≤ 9) ⌝ }
-    ensures { λ r. ⌜ CarriedOut (now (c .entry)) (now (state .entry)) (now (page .entry)) x r (now (state .exit)) (now (page .entry)) ⌝ }
+    ensures { λ r. ⌜ StatementLeaves (now (c .entry)) (now (state .entry)) (now (page .entry)) x r (now (state .exit)) (now (page .entry)) ⌝ }
 {
     let waits = kinds::WHEN <= code::stmt_kind(c, x.statement);
     let first = x.statement + 1;

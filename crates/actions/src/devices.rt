@@ -8,7 +8,7 @@ use transfers::devices::write_word;
 ghost use mathlib.Core.Path.{_≡_};
 ghost use Rattle.table.specs.Entries.{stmtKind};
 ghost use Rattle.code.specs.Code.{decoded};
-ghost use Rattle.effects.specs.Effects.{CarriedOut};
+ghost use Rattle.effects.specs.Effects.{StatementLeaves};
 ghost use Rattle.transfers.specs.Devices.{Writing};
 ghost use Rattle.actions.specs.Acting.{Acting};
 
@@ -24,7 +24,7 @@ fn write_value(
 ) -> u8
     requires { ⌜ Acting (now c) (now k) (now state) (now page) x ⌝ }
     requires { ⌜ Writing (now c) (now state) (now page) x address ⌝ }
-    ensures { λ r. ⌜ CarriedOut (now (c .entry)) (now (state .entry)) (now (page .entry)) x r (now (state .exit)) (now (page .exit)) ⌝ }
+    ensures { λ r. ⌜ StatementLeaves (now (c .entry)) (now (state .entry)) (now (page .entry)) x r (now (state .exit)) (now (page .exit)) ⌝ }
 {
     let b = code::stmt_b(c, x.statement);
     let v = eval(c, k, stack, state, page, x, b);
@@ -45,7 +45,7 @@ pub fn write(
 ) -> u8
     requires { ⌜ Acting (now c) (now k) (now state) (now page) x ⌝ }
     requires { ⌜ stmtKind (decoded (now c)) (x .statement) ≡ 12 ⌝ }
-    ensures { λ r. ⌜ CarriedOut (now (c .entry)) (now (state .entry)) (now (page .entry)) x r (now (state .exit)) (now (page .exit)) ⌝ }
+    ensures { λ r. ⌜ StatementLeaves (now (c .entry)) (now (state .entry)) (now (page .entry)) x r (now (state .exit)) (now (page .exit)) ⌝ }
 {
     let a = code::stmt_a(c, x.statement);
     let v = eval(c, k, stack, state, page, x, a);

@@ -12,7 +12,7 @@ ghost use Prim.Native.Nat.{_<_};
 ghost use Rattle.table.specs.Entries.{stmtKind, stmtA};
 ghost use Rattle.code.specs.Code.{decoded};
 ghost use Rattle.operands.specs.Packed.{Located};
-ghost use Rattle.effects.specs.Effects.{CarriedOut, Standing};
+ghost use Rattle.effects.specs.Effects.{StatementLeaves, Standing};
 ghost use Rattle.actions.specs.Acting.{Acting};
 
 // The call of the process that the variable at location i refers to.
@@ -21,7 +21,7 @@ fn call_at(c: &code::Slots, state: &mut [u8], page: &[u8], x: Context, i: usize)
     requires { ⌜ stmtKind (decoded (now c)) (x .statement) ≡ 3 ⌝ }
     requires { ⌜ Located (now c) (now state) (now page) x (stmtA (decoded (now c)) (x .statement)) i ⌝ }
     requires { ⌜ i < 65536 ⌝ }
-    ensures { λ a. ⌜ CarriedOut (now (c .entry)) (now (state .entry)) (now (page .entry)) x a (now (state .exit)) (now (page .entry)) ⌝ }
+    ensures { λ a. ⌜ StatementLeaves (now (c .entry)) (now (state .entry)) (now (page .entry)) x a (now (state .exit)) (now (page .entry)) ⌝ }
 {
     let l = refer_at(state, i);
     match l {
@@ -41,7 +41,7 @@ pub fn process_call(
 ) -> u8
     requires { ⌜ Acting (now c) (now k) (now state) (now page) x ⌝ }
     requires { ⌜ stmtKind (decoded (now c)) (x .statement) ≡ 3 ⌝ }
-    ensures { λ a. ⌜ CarriedOut (now (c .entry)) (now (state .entry)) (now (page .entry)) x a (now (state .exit)) (now (page .entry)) ⌝ }
+    ensures { λ a. ⌜ StatementLeaves (now (c .entry)) (now (state .entry)) (now (page .entry)) x a (now (state .exit)) (now (page .entry)) ⌝ }
 {
     let a = code::stmt_a(c, x.statement);
     let l = select(c, k, stack, state, page, x, a);

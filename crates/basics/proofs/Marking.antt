@@ -10,22 +10,22 @@ use native.Mathlib.Numerals.{add-one}
 use native.Mathlib.Omega.{arith}
 use Rattle.basics.specs.Cases.{cases}
 use Rattle.basics.specs.Marks.{occurs, gather}
-use Rattle.basics.specs.Loops.{marked, Seen}
+use Rattle.basics.specs.Loops.{withMark, MarksOf}
 
 module _ (x : ℕ) (seen : List ℕ) where
-  pub mark-far : length seen ≤ x → seen ≡ marked x seen
-  unfolding marked
+  pub mark-far : length seen ≤ x → seen ≡ withMark x seen
+  unfolding withMark
   mark-far h = rw (le-ltb x (length seen) h)
 
-  pub mark-full : x < length seen → 2 ≤ getD seen x 0 → seen ≡ marked x seen
-  unfolding marked
+  pub mark-full : x < length seen → 2 ≤ getD seen x 0 → seen ≡ withMark x seen
+  unfolding withMark
   mark-full h l = rw (lt-ltb x (length seen) h, le-ltb (getD seen x 0) 2 l)
 
-  pub mark-one : x < length seen → getD seen x 0 < 2 → set seen x (getD seen x 0 + 1) ≡ marked x seen
-  unfolding marked
+  pub mark-one : x < length seen → getD seen x 0 < 2 → set seen x (getD seen x 0 + 1) ≡ withMark x seen
+  unfolding withMark
   mark-one h l = rw (lt-ltb x (length seen) h, lt-ltb (getD seen x 0) 2 l)
 
-pub length-marked : (x : ℕ) (seen : List ℕ) → length (marked x seen) ≡ length seen
+pub length-marked : (x : ℕ) (seen : List ℕ) → length (withMark x seen) ≡ length seen
 length-marked x seen =
     cases (ltb x (length seen))
     (λ p. cases (ltb (getD seen x 0) 2)
@@ -34,24 +34,24 @@ length-marked x seen =
     (λ p. ap length (sym (mark-far x seen (ltb-false x (length seen) p))))
 
 -- nothing is marked, nothing has occurred
-pub seen-none : (n : ℕ) → Seen [] (replicate n 0)
+pub seen-none : (n : ℕ) → MarksOf [] (replicate n 0)
 unfolding occurs
 seen-none n = record { marks = λ j h. getD-replicate {A = ℕ} n j 0 0 (rw (length-replicate {A = ℕ} n 0) at h) }
 
-pub seen-zeros : (seen : List ℕ) → ((j : ℕ) → j < length seen → getD seen j 0 ≡ 0) → Seen [] seen
+pub seen-zeros : (seen : List ℕ) → ((j : ℕ) → j < length seen → getD seen j 0 ≡ 0) → MarksOf [] seen
 unfolding occurs
 seen-zeros seen h = record { marks = h }
 
 -- one number more
-module _ (x : ℕ) (l seen : List ℕ) (s : Seen l seen) where
-  at-x : x < length seen → getD (marked x seen) x 0 ≡ min (occurs x l + 1) 2
+module _ (x : ℕ) (l seen : List ℕ) (s : MarksOf l seen) where
+  at-x : x < length seen → getD (withMark x seen) x 0 ≡ min (occurs x l + 1) 2
   at-x h =
       let e = s .marks x h in
       cases (ltb (getD seen x 0) 2)
       (λ q. rw (← mark-one x seen h (ltb-true (getD seen x 0) 2 q), getD-set-same seen x (getD seen x 0 + 1) 0 h) (omega (arith, ltb-true (getD seen x 0) 2 q)))
       (λ q. rw (← mark-full x seen h (ltb-false (getD seen x 0) 2 q)) (omega (arith, ltb-false (getD seen x 0) 2 q)))
 
-  at-other : (j : ℕ) → (j ≡ x → ⊥) → getD (marked x seen) j 0 ≡ getD seen j 0
+  at-other : (j : ℕ) → (j ≡ x → ⊥) → getD (withMark x seen) j 0 ≡ getD seen j 0
   at-other j n =
       cases (ltb x (length seen))
       (λ p. cases (ltb (getD seen x 0) 2)
@@ -59,7 +59,7 @@ module _ (x : ℕ) (l seen : List ℕ) (s : Seen l seen) where
       (λ q. rw (← mark-full x seen (ltb-true x (length seen) p) (ltb-false (getD seen x 0) 2 q))))
       (λ p. rw (← mark-far x seen (ltb-false x (length seen) p)))
 
-  pub seen-more : Seen (x ∷ l) (marked x seen)
+  pub seen-more : MarksOf (x ∷ l) (withMark x seen)
   unfolding occurs
   seen-more =
       record {

@@ -20,9 +20,9 @@ pub record Chain (step : ℕ → ℕ → ℕ) (test : ℕ → ℕ → Bool) (i j
   pub passed : allBelow i (λ k. test k (free step k)) ≡ true
 
 -- the marks when x is noted: one more at x, up to 2
-unfoldable pub marked : ℕ → List ℕ → List ℕ
-marked x seen = pick (ltb x (length seen)) (pick (ltb (getD seen x 0) 2) (set seen x (getD seen x 0 + 1)) seen) seen
+unfoldable pub withMark : ℕ → List ℕ → List ℕ
+withMark x seen = pick (ltb x (length seen)) (pick (ltb (getD seen x 0) 2) (set seen x (getD seen x 0 + 1)) seen) seen
 
 -- the marks of the numbers of a list
-pub record Seen (l : List ℕ) (seen : List ℕ) : Type 0 where
+pub record MarksOf (l : List ℕ) (seen : List ℕ) : Type 0 where
   pub marks : (j : ℕ) → j < length seen → getD seen j 0 ≡ min (occurs j l) 2

@@ -26,8 +26,8 @@ use Rattle.machine.specs.Statements.{effect, moved, doBlockEnd, perform}
 use Rattle.code.specs.Code.{decoded}
 use Rattle.operands.specs.declared.Context.{Context}
 use Rattle.operands.specs.Ready.{contextIn}
-use Rattle.frames.specs.Frames.{ended, Called}
-use Rattle.effects.specs.Effects.{carried, Stepped, Standing}
+use Rattle.frames.specs.Frames.{ended, InCall}
+use Rattle.effects.specs.Effects.{statementStep, Stepped, Standing}
 use Rattle.effects.proofs.Carrying.{performs-block-end}
 use Rattle.transfers.proofs.Steps.{stands-lent, stands-done}
 use Rattle.calls.proofs.Passing.{kept}
@@ -90,7 +90,7 @@ module _ (t m p : List ℕ) (x : Context) (h : Standing t m p x) (k : stmtKind (
   end-is = performs-block-end (decoded t) (memoryOf m) (memoryOf p) (contextIn x) (h .unstuck) k
 
   pub ends-process : (w : ℕ) (s1 : List ℕ) → w ≡ memoryOf m (depthAt (x .process)) → w ≡ 0
-      → Becomes s1 (ended (memoryOf m) (x .process)) → Stepped 2 s1 p (carried (decoded t) (memoryOf m) (memoryOf p) (contextIn x))
+      → Becomes s1 (ended (memoryOf m) (x .process)) → Stepped 2 s1 p (statementStep (decoded t) (memoryOf m) (memoryOf p) (contextIn x))
   ends-process w s1 hw e c =
       stands-done t m p x h 2 s1 (ended (memoryOf m) (x .process))
       (end-is ∙ ends-at (decoded t) (memoryOf m) (memoryOf p) x (sym hw ∙ e)) c
@@ -127,7 +127,7 @@ module _ (t m p : List ℕ) (x : Context) (h : Standing t m p x) (k : stmtKind (
     pub return-room : x .frame + 1 ≤ 255
     return-room = let g = framed in omega arith
 
-    pub return-called : Called (memoryOf m) (x .process)
+    pub return-called : InCall (memoryOf m) (x .process)
     return-called =
         let g = framed in
         let e = stand-frame t m p x h in
@@ -154,7 +154,7 @@ module _ (t m p : List ℕ) (x : Context) (h : Standing t m p x) (k : stmtKind (
 
       pub return-process : (i : ℕ) (s1 : List ℕ) → i ≡ stmtKind (decoded t) c → i ≡ 3
           → ((T : Table) (page : Memory) → Becomes s1 (popped T (memoryOf m) page (contextOf (memoryOf m) (x .process)) (update (memoryOf m) (holderAt (memoryOf m (worksAt (x .process)))) 0) c))
-          → Stepped 0 s1 p (carried (decoded t) (memoryOf m) (memoryOf p) (contextIn x))
+          → Stepped 0 s1 p (statementStep (decoded t) (memoryOf m) (memoryOf p) (contextIn x))
       return-process i s1 hi e g =
           let d = of-kind ∙ by-process (decoded t) (memoryOf m) (memoryOf p) (contextIn x) c _ _ _ _ _ _ (sym hi ∙ e) in
           stands-done t m p x h 0 s1 _ (return-is ∙ moved-ok _ _ _ _ _ _ d)
@@ -162,7 +162,7 @@ module _ (t m p : List ℕ) (x : Context) (h : Standing t m p x) (k : stmtKind (
 
       pub return-local : (i : ℕ) (s1 : List ℕ) → i ≡ stmtKind (decoded t) c → (i ≡ 3 → ⊥)
           → ((T : Table) (page : Memory) → Becomes s1 (popped T (memoryOf m) page (contextOf (memoryOf m) (x .process)) (memoryOf m) c))
-          → Stepped 0 s1 p (carried (decoded t) (memoryOf m) (memoryOf p) (contextIn x))
+          → Stepped 0 s1 p (statementStep (decoded t) (memoryOf m) (memoryOf p) (contextIn x))
       return-local i s1 hi e g =
           let u = kept _ _ of-kind return-unstuck in
           let j = a-call (decoded t) (memoryOf m) (memoryOf p) (contextIn x) c _ _ _ _ _ _ u (λ q. e (hi ∙ q)) in

@@ -29,15 +29,15 @@ use Rattle.code.specs.Code.{decoded}
 use Rattle.prepare.specs.Prepared.{Prepared}
 use Rattle.operands.specs.declared.Context.{Context}
 use Rattle.operands.specs.Ready.{contextIn, Ready}
-use Rattle.frames.specs.Frames.{Fits}
+use Rattle.frames.specs.Frames.{FrameFits}
 use Rattle.frames.proofs.Asking.{call-room, call-over, call-fits, call-done}
-use Rattle.effects.specs.Effects.{carried, Stepped, Standing}
+use Rattle.effects.specs.Effects.{statementStep, Stepped, Standing}
 use Rattle.effects.proofs.Carrying.{performs-local}
 use Rattle.transfers.proofs.Steps.{stands-lent, stands-there, stands-fail, stands-done}
 use Rattle.calls.specs.declared.Gathered.{Gathered}
 use Rattle.calls.specs.declared.Gathered.the-variants as gathered
 use Rattle.calls.specs.Gathering.{Added, Adds, Calling}
-use Rattle.calls.specs.Framing.{Framing, Counted}
+use Rattle.calls.specs.Framing.{Framing, FrameCount}
 use Rattle.calls.specs.Entering.{limitOf, invoked, Invoking, Entering}
 use Rattle.calls.proofs.Passing.{need-through, need-is, kept}
 use Rattle.calls.proofs.Limits.{stand-works, stand-owner, stand-module, limits-local}
@@ -129,7 +129,7 @@ module _ (t m p : List ℕ) (x : Context) (q k : ℕ) (st : Memory) (r : ℕ) (l
     call-unstuck : the-call ≡ stuck → ⊥
     call-unstuck e = h .standing .unstuck (calls ∙ moved-stuck _ _ _ _ _ (call-here ∙ e))
 
-  module _ (size limit : ℕ) (hs : Counted (decoded t) q size) (hl : limit ≡ k) (b : Bool)
+  module _ (size limit : ℕ) (hs : FrameCount (decoded t) q size) (hl : limit ≡ k) (b : Bool)
       (hb : b ≡ ltb limit (memoryOf m (topAt (x .process)) + 4 + size)) where
     module _ (e : b ≡ true) where
       above : k < memoryOf m (topAt (x .process)) + 4 + frameWords (decoded t) q
@@ -147,7 +147,7 @@ module _ (t m p : List ℕ) (x : Context) (q k : ℕ) (st : Memory) (r : ℕ) (l
           calls f ∙ moved-fail _ _ _ _ _ _ (call-here ∙ d))
 
       pub entering-over : (a : ℕ) (s1 : List ℕ) → a ≡ 22 → Becomes s1 (update (memoryOf m) failureAt 22)
-          → Stepped a s1 p (carried (decoded t) (memoryOf m) (memoryOf p) (contextIn x))
+          → Stepped a s1 p (statementStep (decoded t) (memoryOf m) (memoryOf p) (contextIn x))
       entering-over a s1 e c = stands-fail t m p x (h .standing) 22 a s1 fails e c
 
     module _ (e : b ≡ false) where
@@ -163,7 +163,7 @@ module _ (t m p : List ℕ) (x : Context) (q k : ℕ) (st : Memory) (r : ℕ) (l
       not-full : h .full ≡ false
       not-full = cases (h .full) (λ f. let g = under in let i = entering-size in let j = h .limits .above f in absurd (omega arith)) (λ f. f)
 
-      pub entering-fits : Fits (memoryOf m) (x .process) size
+      pub entering-fits : FrameFits (memoryOf m) (x .process) size
       entering-fits =
           rw entering-size
           (call-fits (decoded t) (memoryOf m) (memoryOf p) st (x .process) q r (h .words) (call-unstuck not-full) fits-under
@@ -183,18 +183,18 @@ module _ (t m p : List ℕ) (x : Context) (q k : ℕ) (st : Memory) (r : ℕ) (l
 
       pub entering-done : (s1 : List ℕ)
           → Becomes s1 (frameMarked (decoded t) (memoryOf m) (memoryOf p) (contextOf (memoryOf m) (x .process)) (pushed (decoded t) (memoryOf m) (memoryOf p) (contextOf (memoryOf m) (x .process)) st q r (take n l)) q (take n l))
-          → Stepped 0 s1 p (carried (decoded t) (memoryOf m) (memoryOf p) (contextIn x))
+          → Stepped 0 s1 p (statementStep (decoded t) (memoryOf m) (memoryOf p) (contextIn x))
       entering-done s1 c =
           let d = call-done (decoded t) (memoryOf m) (memoryOf p) st (x .process) q r (h .words) (call-unstuck not-full) fits-under in
           stands-done t m p x (h .standing) 0 s1 _ (calls not-full ∙ moved-ok _ _ _ _ _ _ (call-here ∙ d)) (rw (h .first few) at c)
 
 -- a local call works on the same process
 module _ (t m p : List ℕ) (x : Context) (q k : ℕ) (l : List ℕ) (n : ℕ)
-    (h : Entering t m p x q k (memoryOf m) (x .works) l n) (size limit : ℕ) (hs : Counted (decoded t) q size) (hl : limit ≡ k) (b : Bool)
+    (h : Entering t m p x q k (memoryOf m) (x .works) l n) (size limit : ℕ) (hs : FrameCount (decoded t) q size) (hl : limit ≡ k) (b : Bool)
     (hb : b ≡ ltb limit (memoryOf m (topAt (x .process)) + 4 + size)) (e : b ≡ false) where
   pub entering-local : (s1 : List ℕ)
       → ((page : Memory) → Becomes s1 (frameMarked (decoded t) (memoryOf m) page (contextOf (memoryOf m) (x .process)) (pushed (decoded t) (memoryOf m) page (contextOf (memoryOf m) (x .process)) (memoryOf m) q (memoryOf m (worksAt (x .process))) (take n l)) q (take n l)))
-      → Stepped 0 s1 p (carried (decoded t) (memoryOf m) (memoryOf p) (contextIn x))
+      → Stepped 0 s1 p (statementStep (decoded t) (memoryOf m) (memoryOf p) (contextIn x))
   entering-local s1 c =
       entering-done t m p x q k (memoryOf m) (x .works) l n h size limit hs hl b hb e s1
       (rw (stand-works t m p x (h .standing)) (c (memoryOf p)))
@@ -249,7 +249,7 @@ module _ (t m p : List ℕ) (x : Context) (q c d k : ℕ) (st : Memory) (r : ℕ
   module _ (l₀ l : List ℕ) (g : Gathered) (a : Adds g l₀ 0 l (arguments (decoded t) (memoryOf m) (memoryOf p) (contextIn x) q c d)) where
     pub invoking-fails : (f : Failure) (w : ℕ) (s1 : List ℕ) → g ≡ gathered.Fail f → w ≡ failureNumber f
         → Becomes s1 (update (memoryOf m) failureAt (failureNumber f))
-        → Stepped w s1 p (carried (decoded t) (memoryOf m) (memoryOf p) (contextIn x))
+        → Stepped w s1 p (statementStep (decoded t) (memoryOf m) (memoryOf p) (contextIn x))
     invoking-fails f w s1 e v i =
         stands-fail t m p x (h .standing) (failureNumber f) w s1 (h .performs ∙ invoked-fail _ _ _ _ _ _ _ _ _ _ (rw e at a)) v i
 

@@ -20,7 +20,7 @@ use Rattle.code.specs.Code.{slotIn, decoded}
 use Rattle.prepare.proofs.Preparing.{var-one, var-type-words}
 use Rattle.operands.specs.Ready.{Sized}
 use Rattle.operands.proofs.Standing.{same-sized}
-use Rattle.calls.specs.Framing.{Framing, Counted}
+use Rattle.calls.specs.Framing.{Framing, FrameCount}
 
 module _ (T : Table) (b : ℕ) where
   no-words : vars T b ≡ 0 → frameWords T b ≡ 0
@@ -32,7 +32,7 @@ module _ (T : Table) (b : ℕ) where
   last-words i e = rw e (sum-more (λ k. varWords T (firstVar T b + k)) i)
 
 module _ (t : List ℕ) (b : ℕ) (h : Framing t b) (n : ℕ) (hn : Field (vars (decoded t) b) n) where
-  pub counted-none : n ≡ 0 → Counted (decoded t) b 0
+  pub counted-none : n ≡ 0 → FrameCount (decoded t) b 0
   counted-none e = let g = no-words (decoded t) b (sym (hn .is) ∙ e) in record { is = rw g; small = omega arith }
 
   module _ (k : n ≡ 0 → ⊥) (p : ℕ) (hp : Field (firstVar (decoded t) b) p) where
@@ -58,7 +58,7 @@ module _ (t : List ℕ) (b : ℕ) (h : Framing t b) (n : ℕ) (hn : Field (vars 
         (lt-ltb (p + (n - 1)) (firstVar (decoded t) b + vars (decoded t) b) (omega arith)))
 
     pub counted-last : (w r : ℕ) → w ≡ slotIn t (p + (n - 1)) 10 → r ≡ varWords (decoded t) (p + (n - 1)) → r ≤ 200
-        → Counted (decoded t) b (w + r)
+        → FrameCount (decoded t) b (w + r)
     unfolding offsetOf
     counted-last w r e g l =
         let q = some in

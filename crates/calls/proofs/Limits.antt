@@ -25,7 +25,7 @@ use Rattle.prepare.specs.Prepared.{roomWith, roomOf, Prepared}
 use Rattle.operands.specs.declared.Context.{Context}
 use Rattle.operands.specs.Ready.{contextIn}
 use Rattle.effects.specs.Effects.{Standing}
-use Rattle.calls.specs.Framing.{Counted}
+use Rattle.calls.specs.Framing.{FrameCount}
 use Rattle.calls.specs.Entering.{limitOf, Limits}
 
 -- ---- the laws of `procedure_words` and `limit_of`
@@ -34,7 +34,7 @@ module _ (t : List ℕ) (h : Prepared t) (b : ℕ) (l : b < blockCount (decoded 
   room-is : r ≡ roomOf (decoded t) b
   room-is = hr .is ∙ h .rooms b l
 
-  pub room-call : blockKind (decoded t) b ≡ 2 → Counted (decoded t) b r
+  pub room-call : blockKind (decoded t) b ≡ 2 → FrameCount (decoded t) b r
   unfolding roomOf roomWith
   room-call k =
       let e : r ≡ min (frameWords (decoded t) b) 257 = rw (eq-eqb (blockKind (decoded t) b) 2 k) at room-is in

@@ -26,7 +26,7 @@ use Rattle.words.specs.declared.values.Value.the-variants as value
 use Rattle.machine.specs.Memory.{Memory, memoryOf, wordsAt}
 use Rattle.machine.specs.Lent.{State}
 use Rattle.machine.specs.Texts.{fit, textAt}
-use Rattle.machine.specs.Outcomes.{Outcome, ok, fail, stuck, andThen, need, Operand, place, value, text, placed, typed, onPlace, onTyped, wordOf}
+use Rattle.machine.specs.Outcomes.{Outcome, ok, fail, stuck, andThen, need, Operand, place, value, text, placed, typedWords, onPlace, onTyped, wordOf}
 use Rattle.machine.specs.Context as machine
 use Rattle.machine.specs.Operands.{operand}
 use Rattle.machine.specs.Calls.{valueArgument, varArgument, argument}
@@ -80,7 +80,7 @@ unfolding valueOf onTyped andThen
 value-failed k o e d = rw d
 
 value-given : (k : ℕ) (o : Outcome Operand) (τ : ℕ) (ws : List ℕ) → o ≡ ok (value τ ws) → valueOf k o ≡ ok (fit k ws)
-unfolding valueOf onTyped andThen typed
+unfolding valueOf onTyped andThen typedWords
 value-given k o τ ws e = rw e
 
 place-failed : (o : Outcome Operand) (k : ℕ) → o ≡ fail k → placeOf o ≡ fail k
@@ -100,7 +100,7 @@ one-word us w l e = let d : wordOf us ≡ w = cc in rw d at (single us l)
 -- a value of one word
 value-word : (T : Table) (τ : ℕ) (o : Outcome Operand) (w : ℕ) → (valueOf 1 o ≡ stuck → ⊥) → OfType T τ o → wordsOf T τ ≡ 1
     → words.word w ≡ firstWord o → valueOf 1 o ≡ ok (w ∷ [])
-unfolding valueOf onTyped andThen typed firstWord
+unfolding valueOf onTyped andThen typedWords firstWord
 value-word T τ (ok (place a σ)) w g (a-place h) l e = absurd (g refl)
 value-word T τ (ok (value σ ws)) w g (a-value h) l e = ap ok (fit-same 1 ws (h ∙ l) ∙ one-word ws w (h ∙ l) e)
 value-word T τ (fail k) w g a-failure l e = no-word w k e
@@ -110,7 +110,7 @@ value-word T τ stuck w g a-stuck l e = absurd (g refl)
 
 value-is : (T : Table) (τ σ : ℕ) (m page : Memory) (x : machine.Context) (o : Outcome Operand) → OfType T σ o
     → (valueArgument T m page x τ o ≡ stuck → ⊥) → valueArgument T m page x τ o ≡ valueOf (wordsOf T τ) o
-unfolding valueArgument valueOf onTyped andThen typed
+unfolding valueArgument valueOf onTyped andThen typedWords
 value-is T τ σ m page x (ok (place a ρ)) (a-place h) g = absurd (g refl)
 value-is T τ σ m page x (ok (value ρ ws)) (a-value h) g = value-passed T τ ρ ws h g
 value-is T τ σ m page x (fail k) a-failure g = refl
@@ -118,7 +118,7 @@ value-is T τ σ m page x stuck a-stuck g = absurd (g refl)
 
 text-is : (T : Table) (τ : ℕ) (m page : Memory) (x : machine.Context) (ws : List ℕ)
     → (valueArgument T m page x τ (ok (text ws)) ≡ stuck → ⊥) → valueArgument T m page x τ (ok (text ws)) ≡ ok (fit (wordsOf T τ) ws)
-unfolding valueArgument onTyped andThen typed
+unfolding valueArgument onTyped andThen typedWords
 text-is T τ m page x ws g = text-passed T τ ws g
 
 var-is : (T : Table) (τ : ℕ) (m page : Memory) (x : machine.Context) (o : Outcome Operand)

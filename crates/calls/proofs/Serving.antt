@@ -25,18 +25,18 @@ use Rattle.machine.specs.Context as machine
 use Rattle.machine.specs.Context.{contextOf}
 use Rattle.machine.specs.Operands.{operand}
 use Rattle.machine.specs.Calls.{arguments, pushed, frameMarked}
-use Rattle.machine.specs.Statements.{Effect, effect, wait, free, doProcessCall, perform}
+use Rattle.machine.specs.Statements.{Effect, effect, wait, canServe, doProcessCall, perform}
 use Rattle.code.specs.Code.{decoded}
 use Rattle.operands.specs.declared.Context.{Context}
 use Rattle.operands.specs.Ready.{contextIn}
-use Rattle.effects.specs.Effects.{carried, Stepped, Standing}
+use Rattle.effects.specs.Effects.{statementStep, Stepped, Standing}
 use Rattle.effects.proofs.Carrying.{performs-process}
 use Rattle.transfers.specs.declared.Reference.{Reference}
 use Rattle.transfers.specs.declared.Reference.the-variants as reference
 use Rattle.transfers.specs.References.{referenceOf, referred, Referring}
 use Rattle.transfers.proofs.Referring.{follows, call-follows, follows-referring, follows-fails, follows-to, follows-refers}
 use Rattle.transfers.proofs.Steps.{stands-lent, stands-there, stands-fail, stands-done}
-use Rattle.calls.specs.Framing.{Counted}
+use Rattle.calls.specs.Framing.{FrameCount}
 use Rattle.calls.specs.Entering.{invoked, Invoking, Entering}
 use Rattle.calls.specs.Serving.{served, Serving}
 use Rattle.calls.proofs.Passing.{kept}
@@ -46,32 +46,32 @@ use Rattle.calls.proofs.Entering.{entering-done, invoking-none}
 -- ---- the laws of `is_free`
 
 module _ (m : List ℕ) (r w : ℕ) (hw : w ≡ memoryOf m (statusAt r)) where
-  pub free-not : w ≡ 1 → false ≡ free (memoryOf m) r
-  unfolding free both
+  pub free-not : w ≡ 1 → false ≡ canServe (memoryOf m) r
+  unfolding canServe both
   free-not e = rw (← hw, e)
 
-  pub free-holder : (v : ℕ) → (w ≡ 1 → ⊥) → v ≡ memoryOf m (holderAt r) → eqb v 0 ≡ free (memoryOf m) r
-  unfolding free both
+  pub free-holder : (v : ℕ) → (w ≡ 1 → ⊥) → v ≡ memoryOf m (holderAt r) → eqb v 0 ≡ canServe (memoryOf m) r
+  unfolding canServe both
   free-holder v n hv = rw (← hw, ne-eqb w 1 n, ← hv)
 
 -- ---- the laws of `enter_process`
 
 module _ (t m p : List ℕ) (x : Context) (q r : ℕ) (l : List ℕ) (n : ℕ)
-    (h : Entering t m p x q 256 (update (memoryOf m) (holderAt r) (x .process)) r l n) (size : ℕ) (hs : Counted (decoded t) q size) (b : Bool)
+    (h : Entering t m p x q 256 (update (memoryOf m) (holderAt r) (x .process)) r l n) (size : ℕ) (hs : FrameCount (decoded t) q size) (b : Bool)
     (hb : b ≡ ltb 256 (memoryOf m (topAt (x .process)) + 4 + size)) (e : b ≡ false) where
   pub entering-process : (s1 : List ℕ)
       → ((page : Memory) → Becomes s1 (frameMarked (decoded t) (memoryOf m) page (contextOf (memoryOf m) (x .process)) (pushed (decoded t) (memoryOf m) page (contextOf (memoryOf m) (x .process)) (update (memoryOf m) (holderAt r) (x .process)) q r (take n l)) q (take n l)))
-      → Stepped 0 s1 p (carried (decoded t) (memoryOf m) (memoryOf p) (contextIn x))
+      → Stepped 0 s1 p (statementStep (decoded t) (memoryOf m) (memoryOf p) (contextIn x))
   entering-process s1 c =
       entering-done t m p x q 256 (update (memoryOf m) (holderAt r) (x .process)) r l n h size 256 hs refl b hb e s1 (c (memoryOf p))
 
 -- ---- the laws of `serve` and `call_on`
 
-served-not : (T : Table) (m page : Memory) (x : machine.Context) (q c d r : ℕ) → free m r ≡ false → served T m page x q c d r ≡ ok (effect 1 m page)
+served-not : (T : Table) (m page : Memory) (x : machine.Context) (q c d r : ℕ) → canServe m r ≡ false → served T m page x q c d r ≡ ok (effect 1 m page)
 unfolding served wait
 served-not T m page x q c d r e = rw e
 
-served-free : (T : Table) (m page : Memory) (x : Context) (q c d r : ℕ) → free m r ≡ true
+served-free : (T : Table) (m page : Memory) (x : Context) (q c d r : ℕ) → canServe m r ≡ true
     → served T m page (contextIn x) q c d r ≡ invoked T m page (contextIn x) false (update m (holderAt r) (x .process)) q r (arguments T m page (contextIn x) q c d)
 unfolding served contextIn
 served-free T m page x q c d r e = rw e
@@ -86,16 +86,16 @@ module _ (t m p : List ℕ) (x : Context) (r : ℕ) (h : Serving t m p x r) wher
   pub serving-high : r ≤ 64
   serving-high = h .high
 
-  module _ (b : Bool) (hb : b ≡ free (memoryOf m) r) where
-    pub serving-waits : b ≡ false → Stepped 1 m p (carried (decoded t) (memoryOf m) (memoryOf p) (contextIn x))
+  module _ (b : Bool) (hb : b ≡ canServe (memoryOf m) r) where
+    pub serving-waits : b ≡ false → Stepped 1 m p (statementStep (decoded t) (memoryOf m) (memoryOf p) (contextIn x))
     serving-waits e =
         stands-done t m p x (h .standing) 1 m (memoryOf m) (h .performs ∙ served-not _ _ _ _ _ _ _ _ (sym hb ∙ e))
         (record { long = h .standing .ready .state; is = refl })
 
-    pub serving-free : b ≡ true → free (memoryOf m) r ≡ true
+    pub serving-free : b ≡ true → canServe (memoryOf m) r ≡ true
     serving-free e = sym hb ∙ e
 
-  pub serving-invoking : (q c d : ℕ) → free (memoryOf m) r ≡ true → q ≡ stmtB (decoded t) (x .statement)
+  pub serving-invoking : (q c d : ℕ) → canServe (memoryOf m) r ≡ true → q ≡ stmtB (decoded t) (x .statement)
       → c ≡ stmtC (decoded t) (x .statement) → d ≡ stmtD (decoded t) (x .statement) → q < 65536
       → Invoking t m p x q c d 256 (update (memoryOf m) (holderAt r) (x .process)) r
   serving-invoking q c d e hq hc hd l =
@@ -114,7 +114,7 @@ module _ (t m p : List ℕ) (x : Context) (r : ℕ) (h : Serving t m p x r) wher
         performs = h .performs ∙ served-free _ _ _ x _ _ _ r e;
       }
 
-  pub serving-none : (q d : ℕ) (l : List ℕ) → free (memoryOf m) r ≡ true → q ≡ stmtB (decoded t) (x .statement)
+  pub serving-none : (q d : ℕ) (l : List ℕ) → canServe (memoryOf m) r ≡ true → q ≡ stmtB (decoded t) (x .statement)
       → d ≡ stmtD (decoded t) (x .statement) → q < 65536 → d ≡ 0
       → Entering t m p x q 256 (update (memoryOf m) (holderAt r) (x .process)) r l 0
   serving-none q d l e hq hd g k =
@@ -130,7 +130,7 @@ module _ (T : Table) (m page : Memory) (x : machine.Context) (q c d : ℕ) where
   serves v r = served T m page x q c d r
 
   call-is : (a : ℕ) → doProcessCall T m page x a q c d ≡ follows T m page x a tests serves
-  unfolding doProcessCall served free invoked failWhere
+  unfolding doProcessCall served canServe invoked failWhere
   call-is a = call-follows T m page x a tests serves
 
 module _ (t m p : List ℕ) (x : Context) (h : Standing t m p x)
@@ -160,7 +160,7 @@ module _ (t m p : List ℕ) (x : Context) (h : Standing t m p x)
   module _ (l : Reference) (hl : referred l ≡ referenceOf (decoded t) (memoryOf m) (operand (decoded t) (memoryOf m) (memoryOf p) (contextIn x) a)) where
     pub process-fails : (e : Failure) (w : ℕ) (s1 : List ℕ) → l ≡ reference.Fail e → w ≡ failureNumber e
         → Becomes s1 (update (memoryOf m) failureAt (failureNumber e))
-        → Stepped w s1 p (carried (decoded t) (memoryOf m) (memoryOf p) (contextIn x))
+        → Stepped w s1 p (statementStep (decoded t) (memoryOf m) (memoryOf p) (contextIn x))
     process-fails e w s1 g v c =
         stands-fail t m p x h (failureNumber e) w s1
         (process-is

@@ -39,7 +39,7 @@ use Rattle.code.specs.Code.{slotIn, decoded}
 use Rattle.operands.specs.declared.Context.{Context}
 use Rattle.operands.specs.Ready.{contextIn, Ready}
 use Rattle.operands.proofs.Lending.{lends-type, variable-valued}
-use Rattle.effects.specs.Effects.{carried, Stepped, Standing}
+use Rattle.effects.specs.Effects.{statementStep, Stepped, Standing}
 use Rattle.effects.proofs.Carrying.{performs-start}
 use Rattle.transfers.specs.declared.Reference.{Reference}
 use Rattle.transfers.specs.declared.Reference.the-variants as reference
@@ -49,8 +49,8 @@ use Rattle.transfers.proofs.Steps.{goes-on, stands-below, stands-lent, stands-t
 use Rattle.calls.specs.declared.Gathered.{Gathered}
 use Rattle.calls.specs.declared.Gathered.the-variants as gathered
 use Rattle.calls.specs.Gathering.{Added, Adds, Calling}
-use Rattle.calls.specs.Framing.{Framing, Counted}
-use Rattle.calls.specs.Serving.{begun, startOf, Starting, Beginning}
+use Rattle.calls.specs.Framing.{Framing, FrameCount}
+use Rattle.calls.specs.Serving.{startEffect, startOf, Starting, Beginning}
 use Rattle.calls.proofs.Passing.{need-through, need-is, kept}
 use Rattle.calls.proofs.Entering.{stand-framing}
 
@@ -80,12 +80,12 @@ module _ (t m p : List ℕ) (x : Context) (r b : ℕ) (l : List ℕ) (n : ℕ) (
   pub beginning-words : (size : ℕ) → size ≤ 457 → (n ≤ 256) × ((n ≤ length l) × (size < 65536))
   beginning-words size e = (h .few, (h .room, omega arith))
 
-  pub beginning-size : (size : ℕ) → Counted (decoded t) b size → size ≡ moduleWords (decoded t) b
+  pub beginning-size : (size : ℕ) → FrameCount (decoded t) b size → size ≡ moduleWords (decoded t) b
   beginning-size size c = let e = c .is in let q = h .exact in let u = h .most in omega arith
 
   pub beginning-done : (s1 : List ℕ) (c : ℕ) → c ≡ x .statement + 1
       → Becomes s1 (update (mark (started (decoded t) (memoryOf m) r b (take n l)) (location r 0) (length (take n l))) (statementAt (x .process)) c)
-      → Stepped 0 s1 p (carried (decoded t) (memoryOf m) (memoryOf p) (contextIn x))
+      → Stepped 0 s1 p (statementStep (decoded t) (memoryOf m) (memoryOf p) (contextIn x))
   beginning-done s1 c e i = stands-done t m p x (h .standing) 0 s1 _ (h .performs) (rw e at i)
 
 -- ---- the laws of `start_once` and `start_created`
@@ -95,21 +95,21 @@ unfolding startOf failWhere
 start-twice T m page x v c d r n = rw (ne-eqb (m (statusAt r)) 1 n)
 
 start-new : (T : Table) (m page : Memory) (x : machine.Context) (v c d r : ℕ) → m (statusAt r) ≡ 1
-    → startOf T m page x v c d r ≡ begun T m page x v r (arguments T m page x v c d)
+    → startOf T m page x v c d r ≡ startEffect T m page x v r (arguments T m page x v c d)
 unfolding startOf failWhere
 start-new T m page x v c d r e = rw e
 
-begun-stuck : (T : Table) (m page : Memory) (x : machine.Context) (v r : ℕ) (o : Outcome (List ℕ)) → o ≡ stuck → begun T m page x v r o ≡ stuck
-unfolding begun andThen
+begun-stuck : (T : Table) (m page : Memory) (x : machine.Context) (v r : ℕ) (o : Outcome (List ℕ)) → o ≡ stuck → startEffect T m page x v r o ≡ stuck
+unfolding startEffect andThen
 begun-stuck T m page x v r o e = rw e
 
-begun-fail : (T : Table) (m page : Memory) (x : machine.Context) (v r : ℕ) (o : Outcome (List ℕ)) (k : ℕ) → o ≡ fail k → begun T m page x v r o ≡ fail k
-unfolding begun andThen
+begun-fail : (T : Table) (m page : Memory) (x : machine.Context) (v r : ℕ) (o : Outcome (List ℕ)) (k : ℕ) → o ≡ fail k → startEffect T m page x v r o ≡ fail k
+unfolding startEffect andThen
 begun-fail T m page x v r o k e = rw e
 
 begun-ok : (T : Table) (m page : Memory) (x : machine.Context) (v r : ℕ) (o : Outcome (List ℕ)) (ws : List ℕ) → o ≡ ok ws
-    → begun T m page x v r o ≡ need (leb (length ws) 256) (goOn T m page x (mark (started T m r v ws) (location r 0) (length ws)))
-unfolding begun andThen
+    → startEffect T m page x v r o ≡ need (leb (length ws) 256) (goOn T m page x (mark (started T m r v ws) (location r 0) (length ws)))
+unfolding startEffect andThen
 begun-ok T m page x v r o ws e = rw e
 
 module _ (t m p : List ℕ) (x : Context) (r : ℕ) (h : Starting t m p x r) where
@@ -127,7 +127,7 @@ module _ (t m p : List ℕ) (x : Context) (r : ℕ) (h : Starting t m p x r) whe
 
   module _ (w : ℕ) (hw : w ≡ memoryOf m (statusAt r)) where
     pub starting-twice : (a : ℕ) (s1 : List ℕ) → (w ≡ 1 → ⊥) → a ≡ 20 → Becomes s1 (update (memoryOf m) failureAt 20)
-        → Stepped a s1 p (carried (decoded t) (memoryOf m) (memoryOf p) (contextIn x))
+        → Stepped a s1 p (statementStep (decoded t) (memoryOf m) (memoryOf p) (contextIn x))
     starting-twice a s1 n e c =
         stands-fail t m p x (h .standing) 20 a s1 (h .performs ∙ start-twice _ _ _ _ _ _ _ r (λ q. n (hw ∙ q))) e c
 
@@ -155,7 +155,7 @@ module _ (t m p : List ℕ) (x : Context) (r : ℕ) (h : Starting t m p x r) whe
         rw hb (process-module (decoded t) (h .standing .ready .ranged) τ g start-kind)
 
     begin-is : perform (decoded t) (memoryOf m) (memoryOf p) (contextIn x) (stmtAt (decoded t) (x .statement))
-        ≡ begun (decoded t) (memoryOf m) (memoryOf p) (contextIn x) b r (arguments (decoded t) (memoryOf m) (memoryOf p) (contextIn x) b c d)
+        ≡ startEffect (decoded t) (memoryOf m) (memoryOf p) (contextIn x) b r (arguments (decoded t) (memoryOf m) (memoryOf p) (contextIn x) b c d)
     begin-is = rw (hb, hτ, ha, hc, hd) (h .performs ∙ start-new _ _ _ _ _ _ _ r e)
 
     pub start-calling : Calling (decoded t) (memoryOf m) (memoryOf p) (contextIn x) b c d
@@ -168,7 +168,7 @@ module _ (t m p : List ℕ) (x : Context) (r : ℕ) (h : Starting t m p x r) whe
     module _ (l₀ l : List ℕ) (g : Gathered) (i : Adds g l₀ 0 l (arguments (decoded t) (memoryOf m) (memoryOf p) (contextIn x) b c d)) where
       pub start-fails : (k : Failure) (w : ℕ) (s1 : List ℕ) → g ≡ gathered.Fail k → w ≡ failureNumber k
           → Becomes s1 (update (memoryOf m) failureAt (failureNumber k))
-          → Stepped w s1 p (carried (decoded t) (memoryOf m) (memoryOf p) (contextIn x))
+          → Stepped w s1 p (statementStep (decoded t) (memoryOf m) (memoryOf p) (contextIn x))
       start-fails k w s1 q v j =
           stands-fail t m p x (h .standing) (failureNumber k) w s1 (begin-is ∙ begun-fail _ _ _ _ _ _ _ _ (rw q at i)) v j
 
@@ -204,7 +204,7 @@ module _ (T : Table) (m page : Memory) (x : machine.Context) (c d : ℕ) where
   starts v r = startOf T m page x v c d r
 
   pub the-start : (a : ℕ) → doStart T m page x a c d ≡ follows T m page x a (λ v. true) starts
-  unfolding doStart startOf begun
+  unfolding doStart startOf startEffect
   the-start a = start-follows T m page x a starts
 
 module _ (t m p : List ℕ) (x : Context) (h : Standing t m p x)
@@ -231,7 +231,7 @@ module _ (t m p : List ℕ) (x : Context) (h : Standing t m p x)
   module _ (l : Reference) (hl : referred l ≡ referenceOf (decoded t) (memoryOf m) (operand (decoded t) (memoryOf m) (memoryOf p) (contextIn x) a)) where
     pub start-refuses : (e : Failure) (w : ℕ) (s1 : List ℕ) → l ≡ reference.Fail e → w ≡ failureNumber e
         → Becomes s1 (update (memoryOf m) failureAt (failureNumber e))
-        → Stepped w s1 p (carried (decoded t) (memoryOf m) (memoryOf p) (contextIn x))
+        → Stepped w s1 p (statementStep (decoded t) (memoryOf m) (memoryOf p) (contextIn x))
     start-refuses e w s1 g v c =
         stands-fail t m p x h (failureNumber e) w s1
         (start-is

@@ -20,6 +20,6 @@ pub record Framing (t : List ℕ) (b : ℕ) : Type 0 where
   pub there : b < blockCount (decoded t)
 
 -- r counts the words of block b's variables as far as an area goes: above 256 is above 256
-pub record Counted (T : Table) (b r : ℕ) : Type 0 where
+pub record FrameCount (T : Table) (b r : ℕ) : Type 0 where
   pub is : min r 257 ≡ min (frameWords T b) 257
   pub small : r ≤ 457

@@ -20,7 +20,7 @@ use Rattle.machine.specs.Variables.{frameWords}
 use Rattle.machine.specs.Context as machine
 use Rattle.machine.specs.Calls.{arguments}
 use Rattle.machine.specs.Processes.{started}
-use Rattle.machine.specs.Statements.{Effect, effect, goOn, wait, free, perform}
+use Rattle.machine.specs.Statements.{Effect, effect, goOn, wait, canServe, perform}
 use Rattle.code.specs.Code.{decoded}
 use Rattle.operands.specs.declared.Context.{Context}
 use Rattle.operands.specs.Ready.{contextIn}
@@ -30,17 +30,17 @@ use Rattle.calls.specs.Entering.{invoked}
 -- process r is called: it serves, whatever the caller's module reserves, or the caller waits
 unfoldable pub served : Table → Memory → Memory → machine.Context → ℕ → ℕ → ℕ → ℕ → Outcome Effect
 served T m page x q c d r =
-    pick (free m r)
+    pick (canServe m r)
     (invoked T m page x false (update m (holderAt r) (x .process)) q r (arguments T m page x q c d))
     (wait T m page x m)
 
 -- the parameters of process r, of module μ, which are marked (02, g), and its start
-unfoldable pub begun : Table → Memory → Memory → machine.Context → ℕ → ℕ → Outcome (List ℕ) → Outcome Effect
-begun T m page x μ r o = andThen o λ ws. need (leb (length ws) 256) (goOn T m page x (mark (started T m r μ ws) (location r 0) (length ws)))
+unfoldable pub startEffect : Table → Memory → Memory → machine.Context → ℕ → ℕ → Outcome (List ℕ) → Outcome Effect
+startEffect T m page x μ r o = andThen o λ ws. need (leb (length ws) 256) (goOn T m page x (mark (started T m r μ ws) (location r 0) (length ws)))
 
 -- process r is started: 20 where it was started before (01)
 unfoldable pub startOf : Table → Memory → Memory → machine.Context → ℕ → ℕ → ℕ → ℕ → Outcome Effect
-startOf T m page x μ c d r = failWhere (not (eqb (m (statusAt r)) 1)) 20 (begun T m page x μ r (arguments T m page x μ c d))
+startOf T m page x μ c d r = failWhere (not (eqb (m (statusAt r)) 1)) 20 (startEffect T m page x μ r (arguments T m page x μ c d))
 
 -- the statement of the process calls process r
 pub record Serving (t m p : List ℕ) (x : Context) (r : ℕ) : Type 0 where

@@ -7,7 +7,7 @@ ghost use Rattle.machine.specs.Variables.{varWords};
 ghost use Rattle.code.specs.Code.{decoded};
 ghost use Rattle.prepare.specs.Prepared.{Prepared};
 ghost use Rattle.operands.specs.Ready.{Sized};
-ghost use Rattle.calls.specs.Framing.{Framing, Counted};
+ghost use Rattle.calls.specs.Framing.{Framing, FrameCount};
 
 // A variable takes the words of its type, a var parameter one.
 fn var_words(c: &code::Slots, v: usize) -> usize
@@ -24,7 +24,7 @@ fn var_words(c: &code::Slots, v: usize) -> usize
 pub fn procedure_words(c: &code::Slots, q: usize) -> usize
     requires { ⌜ Prepared (now c) ⌝ }
     requires { ⌜ (q < blockCount (decoded (now c))) × (blockKind (decoded (now c)) q ≡ 2) ⌝ }
-    ensures { λ r. ⌜ Counted (decoded (now (c .entry))) q r ⌝ }
+    ensures { λ r. ⌜ FrameCount (decoded (now (c .entry))) q r ⌝ }
 {
     code::room_of(c, q)
 }
@@ -32,7 +32,7 @@ pub fn procedure_words(c: &code::Slots, q: usize) -> usize
 // The words of block b's variables: where its last one begins, and the words of that one.
 pub fn frame_words(c: &code::Slots, b: usize) -> usize
     requires { ⌜ Framing (now c) b ⌝ }
-    ensures { λ r. ⌜ Counted (decoded (now (c .entry))) b r ⌝ }
+    ensures { λ r. ⌜ FrameCount (decoded (now (c .entry))) b r ⌝ }
 {
     let count = code::block_vars(c, b);
     if count == 0 {

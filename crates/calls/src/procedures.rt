@@ -14,7 +14,7 @@ ghost use Rattle.machine.specs.Layout.{topAt, depthAt};
 ghost use Rattle.machine.specs.Lent.{State};
 ghost use Rattle.code.specs.Code.{decoded};
 ghost use Rattle.prepare.specs.Prepared.{Prepared};
-ghost use Rattle.effects.specs.Effects.{CarriedOut, Standing};
+ghost use Rattle.effects.specs.Effects.{StatementLeaves, Standing};
 ghost use Rattle.calls.specs.Entering.{limitOf, Invoking, Entering};
 
 // The word of its area up to which a process may call: while it works on its own variables its module tells it (13; 02, i).
@@ -50,7 +50,7 @@ fn enter_local(
     n: usize,
 ) -> u8
     requires { ⌜ Entering (now c) (now state) (now page) x q (limitOf (decoded (now c)) x) (memoryOf (now state)) (x .works) (now buffer) n ⌝ }
-    ensures { λ r. ⌜ CarriedOut (now (c .entry)) (now (state .entry)) (now (page .entry)) x r (now (state .exit)) (now (page .entry)) ⌝ }
+    ensures { λ r. ⌜ StatementLeaves (now (c .entry)) (now (state .entry)) (now (page .entry)) x r (now (state .exit)) (now (page .entry)) ⌝ }
 {
     let size = procedure_words(c, q);
     if is_over(state, x.process, size, limit_of(c, x)) {
@@ -72,7 +72,7 @@ fn call_local(
 ) -> u8
     requires { ⌜ Invoking (now c) (now state) (now page) x q from d (limitOf (decoded (now c)) x) (memoryOf (now state)) (x .works) ⌝ }
     requires { ⌜ (from < 65536) × (d < 65536) ⌝ }
-    ensures { λ r. ⌜ CarriedOut (now (c .entry)) (now (state .entry)) (now (page .entry)) x r (now (state .exit)) (now (page .entry)) ⌝ }
+    ensures { λ r. ⌜ StatementLeaves (now (c .entry)) (now (state .entry)) (now (page .entry)) x r (now (state .exit)) (now (page .entry)) ⌝ }
 {
     let mut buffer = [0u16; 256];
     let g = arguments(c, state, page, x, &mut buffer[..], q, from, d);
@@ -86,7 +86,7 @@ fn call_local(
 pub fn local_call(c: &code::Slots, state: &mut [u8], page: &[u8], x: Context) -> u8
     requires { ⌜ Standing (now c) (now state) (now page) x ⌝ }
     requires { ⌜ stmtKind (decoded (now c)) (x .statement) ≡ 2 ⌝ }
-    ensures { λ r. ⌜ CarriedOut (now (c .entry)) (now (state .entry)) (now (page .entry)) x r (now (state .exit)) (now (page .entry)) ⌝ }
+    ensures { λ r. ⌜ StatementLeaves (now (c .entry)) (now (state .entry)) (now (page .entry)) x r (now (state .exit)) (now (page .entry)) ⌝ }
 {
     let q = code::stmt_a(c, x.statement);
     let from = code::stmt_c(c, x.statement);
@@ -103,7 +103,7 @@ fn return_from(c: &code::Slots, state: &mut [u8], page: &[u8], x: Context) -> u8
     requires { ⌜ Standing (now c) (now state) (now page) x ⌝ }
     requires { ⌜ stmtKind (decoded (now c)) (x .statement) ≡ 13 ⌝ }
     requires { ⌜ (memoryOf (now state) (depthAt (x .process)) ≡ 0 → ⊥) ⌝ }
-    ensures { λ r. ⌜ CarriedOut (now (c .entry)) (now (state .entry)) (now (page .entry)) x r (now (state .exit)) (now (page .entry)) ⌝ }
+    ensures { λ r. ⌜ StatementLeaves (now (c .entry)) (now (state .entry)) (now (page .entry)) x r (now (state .exit)) (now (page .entry)) ⌝ }
 {
     let call = machine::area_word(state, x.process, x.frame + 1);
     if code::stmt_kind(c, call as usize) == kinds::PROCESS_CALL {
@@ -118,7 +118,7 @@ fn return_from(c: &code::Slots, state: &mut [u8], page: &[u8], x: Context) -> u8
 pub fn block_end(c: &code::Slots, state: &mut [u8], page: &[u8], x: Context) -> u8
     requires { ⌜ Standing (now c) (now state) (now page) x ⌝ }
     requires { ⌜ stmtKind (decoded (now c)) (x .statement) ≡ 13 ⌝ }
-    ensures { λ r. ⌜ CarriedOut (now (c .entry)) (now (state .entry)) (now (page .entry)) x r (now (state .exit)) (now (page .entry)) ⌝ }
+    ensures { λ r. ⌜ StatementLeaves (now (c .entry)) (now (state .entry)) (now (page .entry)) x r (now (state .exit)) (now (page .entry)) ⌝ }
 {
     let depth = machine::record_word(state, x.process, machine::DEPTH);
     if depth == 0 {

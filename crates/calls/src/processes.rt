@@ -16,16 +16,16 @@ ghost use Rattle.machine.specs.Memory.{memoryOf, update};
 ghost use Rattle.machine.specs.Layout.{statusAt, holderAt};
 ghost use Rattle.machine.specs.Lent.{State};
 ghost use Rattle.code.specs.Code.{decoded};
-ghost use Rattle.effects.specs.Effects.{CarriedOut, Standing};
+ghost use Rattle.effects.specs.Effects.{StatementLeaves, Standing};
 ghost use Rattle.calls.specs.Entering.{Invoking, Entering};
-ghost use Rattle.machine.specs.Statements.{free};
+ghost use Rattle.machine.specs.Statements.{canServe};
 ghost use Rattle.calls.specs.Serving.{Serving, Starting, Beginning};
 
 // Process r can serve a call when it is started and nobody holds its variables.
 fn is_free(state: &[u8], r: usize) -> bool
     requires { ⌜ State (now state) ⌝ }
     requires { ⌜ (1 ≤ r) × (r ≤ 64) ⌝ }
-    ensures { λ b. ⌜ b ≡ free (memoryOf (now (state .entry))) r ⌝ }
+    ensures { λ b. ⌜ b ≡ canServe (memoryOf (now (state .entry))) r ⌝ }
 {
     if machine::record_word(state, r, machine::STATUS) == machine::UNSTARTED {
         return false;
@@ -46,7 +46,7 @@ fn enter_process(
 ) -> u8
     requires { ⌜ Entering (now c) (now state) (now page) x q 256 (update (memoryOf (now state)) (holderAt r) (x .process)) r (now buffer) n ⌝ }
     requires { ⌜ (1 ≤ r) × (r ≤ 64) ⌝ }
-    ensures { λ a. ⌜ CarriedOut (now (c .entry)) (now (state .entry)) (now (page .entry)) x a (now (state .exit)) (now (page .entry)) ⌝ }
+    ensures { λ a. ⌜ StatementLeaves (now (c .entry)) (now (state .entry)) (now (page .entry)) x a (now (state .exit)) (now (page .entry)) ⌝ }
 {
     let size = procedure_words(c, q);
     if is_over(state, x.process, size, machine::AREA) {
@@ -69,7 +69,7 @@ fn call_process(
 ) -> u8
     requires { ⌜ Invoking (now c) (now state) (now page) x q from d 256 (update (memoryOf (now state)) (holderAt r) (x .process)) r ⌝ }
     requires { ⌜ (from < 65536) × ((d < 65536) × ((1 ≤ r) × (r ≤ 64))) ⌝ }
-    ensures { λ a. ⌜ CarriedOut (now (c .entry)) (now (state .entry)) (now (page .entry)) x a (now (state .exit)) (now (page .entry)) ⌝ }
+    ensures { λ a. ⌜ StatementLeaves (now (c .entry)) (now (state .entry)) (now (page .entry)) x a (now (state .exit)) (now (page .entry)) ⌝ }
 {
     let mut buffer = [0u16; 256];
     let g = arguments(c, state, page, x, &mut buffer[..], q, from, d);
@@ -82,8 +82,8 @@ fn call_process(
 // A call of process r, which can serve it.
 fn call_on(c: &code::Slots, state: &mut [u8], page: &[u8], x: Context, r: usize) -> u8
     requires { ⌜ Serving (now c) (now state) (now page) x r ⌝ }
-    requires { ⌜ free (memoryOf (now state)) r ≡ true ⌝ }
-    ensures { λ a. ⌜ CarriedOut (now (c .entry)) (now (state .entry)) (now (page .entry)) x a (now (state .exit)) (now (page .entry)) ⌝ }
+    requires { ⌜ canServe (memoryOf (now state)) r ≡ true ⌝ }
+    ensures { λ a. ⌜ StatementLeaves (now (c .entry)) (now (state .entry)) (now (page .entry)) x a (now (state .exit)) (now (page .entry)) ⌝ }
 {
     let q = code::stmt_b(c, x.statement);
     let from = code::stmt_c(c, x.statement);
@@ -98,7 +98,7 @@ fn call_on(c: &code::Slots, state: &mut [u8], page: &[u8], x: Context, r: usize)
 // The caller waits where process r cannot serve.
 pub fn serve(c: &code::Slots, state: &mut [u8], page: &[u8], x: Context, r: usize) -> u8
     requires { ⌜ Serving (now c) (now state) (now page) x r ⌝ }
-    ensures { λ a. ⌜ CarriedOut (now (c .entry)) (now (state .entry)) (now (page .entry)) x a (now (state .exit)) (now (page .entry)) ⌝ }
+    ensures { λ a. ⌜ StatementLeaves (now (c .entry)) (now (state .entry)) (now (page .entry)) x a (now (state .exit)) (now (page .entry)) ⌝ }
 {
     if is_free(state, r) {
         return call_on(c, state, page, x, r);
@@ -110,7 +110,7 @@ pub fn serve(c: &code::Slots, state: &mut [u8], page: &[u8], x: Context, r: usiz
 pub fn process_call(c: &code::Slots, state: &mut [u8], page: &[u8], x: Context) -> u8
     requires { ⌜ Standing (now c) (now state) (now page) x ⌝ }
     requires { ⌜ stmtKind (decoded (now c)) (x .statement) ≡ 3 ⌝ }
-    ensures { λ a. ⌜ CarriedOut (now (c .entry)) (now (state .entry)) (now (page .entry)) x a (now (state .exit)) (now (page .entry)) ⌝ }
+    ensures { λ a. ⌜ StatementLeaves (now (c .entry)) (now (state .entry)) (now (page .entry)) x a (now (state .exit)) (now (page .entry)) ⌝ }
 {
     let a = code::stmt_a(c, x.statement);
     let l = reference(c, state, page, x, a);
@@ -132,7 +132,7 @@ fn begin(
     n: usize,
 ) -> u8
     requires { ⌜ Beginning (now c) (now state) (now page) x r b (now buffer) n ⌝ }
-    ensures { λ a. ⌜ CarriedOut (now (c .entry)) (now (state .entry)) (now (page .entry)) x a (now (state .exit)) (now (page .entry)) ⌝ }
+    ensures { λ a. ⌜ StatementLeaves (now (c .entry)) (now (state .entry)) (now (page .entry)) x a (now (state .exit)) (now (page .entry)) ⌝ }
 {
     let size = frame_words(c, b);
     let next = (x.statement + 1) as u16;
@@ -144,7 +144,7 @@ fn begin(
 fn start_created(c: &code::Slots, state: &mut [u8], page: &[u8], x: Context, r: usize) -> u8
     requires { ⌜ Starting (now c) (now state) (now page) x r ⌝ }
     requires { ⌜ memoryOf (now state) (statusAt r) ≡ 1 ⌝ }
-    ensures { λ a. ⌜ CarriedOut (now (c .entry)) (now (state .entry)) (now (page .entry)) x a (now (state .exit)) (now (page .entry)) ⌝ }
+    ensures { λ a. ⌜ StatementLeaves (now (c .entry)) (now (state .entry)) (now (page .entry)) x a (now (state .exit)) (now (page .entry)) ⌝ }
 {
     let a = code::stmt_a(c, x.statement);
     let y = code::type_of(c, a);
@@ -162,7 +162,7 @@ fn start_created(c: &code::Slots, state: &mut [u8], page: &[u8], x: Context, r: 
 // A process is started once (01).
 fn start_once(c: &code::Slots, state: &mut [u8], page: &[u8], x: Context, r: usize) -> u8
     requires { ⌜ Starting (now c) (now state) (now page) x r ⌝ }
-    ensures { λ a. ⌜ CarriedOut (now (c .entry)) (now (state .entry)) (now (page .entry)) x a (now (state .exit)) (now (page .entry)) ⌝ }
+    ensures { λ a. ⌜ StatementLeaves (now (c .entry)) (now (state .entry)) (now (page .entry)) x a (now (state .exit)) (now (page .entry)) ⌝ }
 {
     let status = machine::record_word(state, r, machine::STATUS);
     if status == machine::UNSTARTED {
@@ -175,7 +175,7 @@ fn start_once(c: &code::Slots, state: &mut [u8], page: &[u8], x: Context, r: usi
 pub fn start(c: &code::Slots, state: &mut [u8], page: &[u8], x: Context) -> u8
     requires { ⌜ Standing (now c) (now state) (now page) x ⌝ }
     requires { ⌜ stmtKind (decoded (now c)) (x .statement) ≡ 5 ⌝ }
-    ensures { λ a. ⌜ CarriedOut (now (c .entry)) (now (state .entry)) (now (page .entry)) x a (now (state .exit)) (now (page .entry)) ⌝ }
+    ensures { λ a. ⌜ StatementLeaves (now (c .entry)) (now (state .entry)) (now (page .entry)) x a (now (state .exit)) (now (page .entry)) ⌝ }
 {
     let a = code::stmt_a(c, x.statement);
     let l = reference(c, state, page, x, a);

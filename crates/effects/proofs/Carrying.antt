@@ -22,7 +22,7 @@ use Rattle.machine.specs.Context.{Context}
 use Rattle.machine.specs.Statements.{effect, goOn, doAssign, doLocalCall, doProcessCall, doCreate, doStart, doOpener, doEnd, doWrite, doBlockEnd, perform}
 use Rattle.machine.specs.Step.{settled}
 use Rattle.machine.proofs.Tests.{range-high}
-use Rattle.effects.specs.Effects.{carried, Stepped}
+use Rattle.effects.specs.Effects.{statementStep, Stepped}
 
 there : (b : Bool) (T : Table) (m page : Memory) (x : Context) (y : Statement)
     → (perform T m page x (pick b y noStatement) ≡ stuck → ⊥) → b ≡ true
@@ -107,8 +107,8 @@ module _ (T : Table) (m page : Memory) (x : Context) (g : perform T m page x (st
 module _ (T : Table) (s d s1 d1 : List ℕ) (x : Context) where
   pub stepped : (a : ℕ) (m page : Memory)
       → perform T (memoryOf s) (memoryOf d) x (stmtAt T (x .statement)) ≡ ok (effect a m page)
-      → Becomes s1 m → Changed pageWords d1 page → Stepped a s1 d1 (carried T (memoryOf s) (memoryOf d) x)
-  unfolding carried settled
+      → Becomes s1 m → Changed pageWords d1 page → Stepped a s1 d1 (statementStep T (memoryOf s) (memoryOf d) x)
+  unfolding statementStep settled
   stepped a m page e i j =
       record {
         long = i .long;
@@ -118,8 +118,8 @@ module _ (T : Table) (s d s1 d1 : List ℕ) (x : Context) where
 
   pub stepped-fail : (n r : ℕ) → perform T (memoryOf s) (memoryOf d) x (stmtAt T (x .statement)) ≡ fail n
       → r ≡ n → Becomes s1 (update (memoryOf s) failureAt n) → length d ≡ pageSize
-      → Stepped r s1 d (carried T (memoryOf s) (memoryOf d) x)
-  unfolding carried settled
+      → Stepped r s1 d (statementStep T (memoryOf s) (memoryOf d) x)
+  unfolding statementStep settled
   stepped-fail n r e k i j =
       record {
         long = i .long;

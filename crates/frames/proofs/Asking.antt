@@ -13,7 +13,7 @@ use Rattle.machine.specs.Outcomes.{Outcome, ok, fail, stuck, need, failWhere}
 use Rattle.machine.specs.Variables.{frameWords}
 use Rattle.machine.specs.Context.{contextOf}
 use Rattle.machine.specs.Calls.{topAfter, pushed, frameMarked, call}
-use Rattle.frames.specs.Frames.{Fits}
+use Rattle.frames.specs.Frames.{FrameFits}
 
 need-true : {A : Type 0} (b : Bool) (o : Outcome A) → (need b o ≡ stuck → ⊥) → b ≡ true
 unfolding need
@@ -42,7 +42,7 @@ module _ (T : Table) (m page s : Memory) (p q r : ℕ) (ws : List ℕ) (g : call
     call-depth : m (depthAt p) < 64
     call-depth = ltb-true (m (depthAt p)) 64 (need-true (ltb (m (depthAt p)) 64) _ deep)
 
-    pub call-fits : 1 ≤ p → p ≤ 64 → Fits m p (frameWords T q)
+    pub call-fits : 1 ≤ p → p ≤ 64 → FrameFits m p (frameWords T q)
     call-fits l k = record { low = l; high = k; area = h; depth = call-depth }
 
     pub call-done : call T m page (contextOf m p) s q r ws

@@ -17,7 +17,7 @@ use Rattle.machine.specs.Texts.{textAt}
 use Rattle.machine.specs.Processes.{created, started}
 use Rattle.marks.proofs.Marking.{then-marks}
 use Rattle.machine.proofs.TextLaws.{text-long, evened-low}
-use Rattle.frames.specs.Frames.{framedMarks, entered, calledIn, made, Fits}
+use Rattle.frames.specs.Frames.{framedMarks, entered, calledIn, withProcess, FrameFits}
 
 -- ---- locations that are made
 
@@ -52,7 +52,7 @@ unfolding framedMarks
 marks-frame s s1 s2 at n size c1 c2 = then-makes s1 s2 (mark (memoryOf s) at (4 + n)) (at + 4 + n) (size - n) c1 c2
 
 -- it lies in its area
-pub frame-room : (m : Memory) (p size top at : ℕ) → Fits m p size → top ≡ m (topAt p) → at ≡ location p top → at + 4 + size ≤ locations
+pub frame-room : (m : Memory) (p size top at : ℕ) → FrameFits m p size → top ≡ m (topAt p) → at ≡ location p top → at + 4 + size ≤ locations
 unfolding location
 frame-room m p size top at f i j = omega (arith, f .low, f .high, f .area)
 
@@ -66,14 +66,14 @@ calls-in s s1 s2 b p q r c size n top at h i j c1 c2 =
 -- ---- processes
 
 pub makes-for : (s s1 s2 s3 : List ℕ) (n μ i : ℕ) → Becomes s1 (created (memoryOf s) n μ) → Becomes s2 (update (memoryOf s1) i n)
-    → Becomes s3 (fresh (memoryOf s2) (location n 0) 256) → Becomes s3 (made (memoryOf s) n μ i)
-unfolding made
+    → Becomes s3 (fresh (memoryOf s2) (location n 0) 256) → Becomes s3 (withProcess (memoryOf s) n μ i)
+unfolding withProcess
 makes-for s s1 s2 s3 n μ i c1 c2 c3 = record { long = c3 .long; is = rw (c3 .is, c2 .is, c1 .is) }
 
-pub creates-at : (s s1 s2 s3 : List ℕ) (p c n μ i : ℕ) → Becomes s1 (made (memoryOf s) n μ i) → Becomes s2 (mark (memoryOf s1) i 1)
+pub creates-at : (s s1 s2 s3 : List ℕ) (p c n μ i : ℕ) → Becomes s1 (withProcess (memoryOf s) n μ i) → Becomes s2 (mark (memoryOf s1) i 1)
     → Becomes s3 (update (memoryOf s2) (statementAt p) c)
     → Becomes s3 (update (mark (fresh (update (created (memoryOf s) n μ) i n) (location n 0) 256) i 1) (statementAt p) c)
-unfolding made
+unfolding withProcess
 creates-at s s1 s2 s3 p c n μ i c1 c2 c3 = record { long = c3 .long; is = rw (c3 .is, c2 .is, c1 .is) }
 
 pub starts-on : (T : Table) (s s1 s2 s3 b : List ℕ) (p c r μ n at : ℕ) → n ≤ length b → at ≡ location r 0

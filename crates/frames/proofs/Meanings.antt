@@ -16,7 +16,7 @@ use Rattle.machine.specs.Context.{contextOf}
 use Rattle.machine.specs.Calls.{frame, topAfter, pushed, frameMarked, popped}
 use Rattle.machine.specs.Processes.{started}
 use Rattle.machine.proofs.Memories.{update-other, location-plus}
-use Rattle.frames.specs.Frames.{padded, linked, framed, framedMarks, entered, calledIn, left, given, begun, Fits, Called}
+use Rattle.frames.specs.Frames.{padded, linked, framed, framedMarks, entered, calledIn, left, withParameters, withStart, FrameFits, InCall}
 
 -- holders are words of their own
 pub record-kept : (m : Memory) (r v p k : ℕ) → k < 20 → (k ≡ 6 → ⊥) → update m (holderAt r) v (recordAt p k) ≡ m (recordAt p k)
@@ -69,7 +69,7 @@ module _ (T : Table) (m page : Memory) (p : ℕ) where
   unfolding left popped contextOf
   local-pop c = refl
 
-  pub process-pop : (w v c : ℕ) → Called m p
+  pub process-pop : (w v c : ℕ) → InCall m p
       → left (update m (holderAt w) v) p c ≡ popped T m page (contextOf m p) (update m (holderAt w) v) c
   unfolding left popped contextOf
   process-pop w v c h =
@@ -81,12 +81,12 @@ module _ (T : Table) (m page : Memory) (p : ℕ) where
         link-kept m w v p (m (frameAt p)) 2 (h .high) (omega arith),
       )
 
-pub starts : (T : Table) (m : Memory) (r μ : ℕ) (ws : List ℕ) → begun m r (firstStmt T μ) (moduleWords T μ) ws ≡ started T m r μ ws
-unfolding begun given started
+pub starts : (T : Table) (m : Memory) (r μ : ℕ) (ws : List ℕ) → withStart m r (firstStmt T μ) (moduleWords T μ) ws ≡ started T m r μ ws
+unfolding withStart withParameters started
 starts T m r μ ws = refl
 
 -- what a caller shows holds while a holder changes
-pub fits-kept : (m : Memory) (r v p n : ℕ) → Fits m p n → Fits (update m (holderAt r) v) p n
+pub fits-kept : (m : Memory) (r v p n : ℕ) → FrameFits m p n → FrameFits (update m (holderAt r) v) p n
 fits-kept m r v p n f = record {
   low = f .low;
   high = f .high;
@@ -94,7 +94,7 @@ fits-kept m r v p n f = record {
   depth = rw (record-kept m r v p 7 (omega arith) (λ e. omega arith)) (f .depth);
 }
 
-pub called-kept : (m : Memory) (w v p : ℕ) → Called m p → Called (update m (holderAt w) v) p
+pub called-kept : (m : Memory) (w v p : ℕ) → InCall m p → InCall (update m (holderAt w) v) p
 called-kept m w v p f = record {
   low = f .low;
   high = f .high;
@@ -121,19 +121,19 @@ module _ (T : Table) (s : List ℕ) (p q : ℕ) (ws : List ℕ) where
       rw (g .is, j .is, k, process-call T (memoryOf s) page p q r p ws) at h
 
 -- the frame fits, or the process is in a call, after a hold
-pub fits-held : (s s1 : List ℕ) (r v p n : ℕ) → Fits (memoryOf s) p n → Becomes s1 (update (memoryOf s) (holderAt r) v)
-    → Fits (memoryOf s1) p n
+pub fits-held : (s s1 : List ℕ) (r v p n : ℕ) → FrameFits (memoryOf s) p n → Becomes s1 (update (memoryOf s) (holderAt r) v)
+    → FrameFits (memoryOf s1) p n
 fits-held s s1 r v p n f c = rw (c .is) (fits-kept (memoryOf s) r v p n f)
 
-pub called-held : (s s1 : List ℕ) (w v p : ℕ) → Called (memoryOf s) p → Becomes s1 (update (memoryOf s) (holderAt w) v)
-    → Called (memoryOf s1) p
+pub called-held : (s s1 : List ℕ) (w v p : ℕ) → InCall (memoryOf s) p → Becomes s1 (update (memoryOf s) (holderAt w) v)
+    → InCall (memoryOf s1) p
 called-held s s1 w v p f c = rw (c .is) (called-kept (memoryOf s) w v p f)
 
 pub pops-local : (s s1 : List ℕ) (p c : ℕ) → Becomes s1 (left (memoryOf s) p c) → (T : Table) (page : Memory)
     → Becomes s1 (popped T (memoryOf s) page (contextOf (memoryOf s) p) (memoryOf s) c)
 pops-local s s1 p c h T page = rw (local-pop T (memoryOf s) page p c) at h
 
-pub pops-process : (s s1 s2 : List ℕ) (p c w : ℕ) → Called (memoryOf s) p → w ≡ memoryOf s (worksAt p)
+pub pops-process : (s s1 s2 : List ℕ) (p c w : ℕ) → InCall (memoryOf s) p → w ≡ memoryOf s (worksAt p)
     → Becomes s1 (update (memoryOf s) (holderAt w) 0) → Becomes s2 (left (memoryOf s1) p c) → (T : Table) (page : Memory)
     → Becomes s2
     (popped T (memoryOf s) page (contextOf (memoryOf s) p) (update (memoryOf s) (holderAt (memoryOf s (worksAt p))) 0) c)
@@ -141,5 +141,5 @@ pops-process s s1 s2 p c w f e g h T page =
     rw (← e) (rw (g .is, process-pop T (memoryOf s) page p w 0 c f) at h)
 
 pub starts-done : (T : Table) (s s1 ws : List ℕ) (r b c size : ℕ) → Field (firstStmt T b) c → size ≡ moduleWords T b
-    → Becomes s1 (begun (memoryOf s) r c size ws) → Becomes s1 (started T (memoryOf s) r b ws)
+    → Becomes s1 (withStart (memoryOf s) r c size ws) → Becomes s1 (started T (memoryOf s) r b ws)
 starts-done T s s1 ws r b c size j k h = rw (j .is, k, starts T (memoryOf s) r b ws) at h

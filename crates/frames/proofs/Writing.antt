@@ -15,7 +15,7 @@ use Rattle.machine.specs.Calls.{standing}
 use Rattle.machine.specs.Processes.{created}
 use Rattle.machine.proofs.Memories.{update-same, update-other, store-below, store-above, store-at, clear-below, clear-above, clear-at, location-plus}
 use Rattle.machine.proofs.Copies.{store-none}
-use Rattle.frames.specs.Frames.{placed, padded, linked, framed, entered, left, wiped, given, begun, ended}
+use Rattle.frames.specs.Frames.{withPosition, padded, linked, framed, entered, left, wiped, withParameters, withStart, ended}
 
 -- ---- lists stored in parts
 
@@ -91,14 +91,14 @@ store-zeros m a n = fun-ext at
 module _ (s : List ℕ) (p : ℕ) where
   pub puts : (s1 s2 s3 : List ℕ) (a b c : ℕ) → Becomes s1 (update (memoryOf s) (statementAt p) a)
       → Becomes s2 (update (memoryOf s1) (frameAt p) b) → Becomes s3 (update (memoryOf s2) (topAt p) c)
-      → Becomes s3 (placed (memoryOf s) p a b c)
-  unfolding placed
+      → Becomes s3 (withPosition (memoryOf s) p a b c)
+  unfolding withPosition
   puts s1 s2 s3 a b c c1 c2 c3 = record { long = c3 .long; is = rw (c3 .is, c2 .is, c1 .is) }
 
-  pub stood : (s3 s4 s5 : List ℕ) (a b c d e : ℕ) → Becomes s3 (placed (memoryOf s) p a b c)
+  pub stood : (s3 s4 s5 : List ℕ) (a b c d e : ℕ) → Becomes s3 (withPosition (memoryOf s) p a b c)
       → Becomes s4 (update (memoryOf s3) (worksAt p) d) → Becomes s5 (update (memoryOf s4) (depthAt p) e)
       → Becomes s5 (standing (memoryOf s) p a b c d e)
-  unfolding standing placed
+  unfolding standing withPosition
   stood s3 s4 s5 a b c d e c3 c4 c5 = record { long = c5 .long; is = rw (c5 .is, c4 .is, c3 .is) }
 
   pub ends : (s1 s2 : List ℕ) → Becomes s1 (update (memoryOf s) (statusAt p) 3)
@@ -199,13 +199,13 @@ creates s s1 s2 s3 s4 n μ c1 c2 c3 c4 = record { long = c4 .long; is = rw (c4 .
 
 pub gives : (s s1 s2 s3 ws : List ℕ) (r at : ℕ) → at ≡ location r 0 → Becomes s1 (store (memoryOf s) at ws)
     → Becomes s2 (update (memoryOf s1) (statusAt r) 2) → Becomes s3 (update (memoryOf s2) (holderAt r) r)
-    → Becomes s3 (given (memoryOf s) r ws)
-unfolding given
+    → Becomes s3 (withParameters (memoryOf s) r ws)
+unfolding withParameters
 gives s s1 s2 s3 ws r at i c1 c2 c3 = record { long = c3 .long; is = rw (c3 .is, c2 .is, c1 .is, i) }
 
-pub begins : (s s1 s2 ws : List ℕ) (r c size : ℕ) → Becomes s1 (given (memoryOf s) r ws)
-    → Becomes s2 (standing (memoryOf s1) r c 0 size r 0) → Becomes s2 (begun (memoryOf s) r c size ws)
-unfolding begun
+pub begins : (s s1 s2 ws : List ℕ) (r c size : ℕ) → Becomes s1 (withParameters (memoryOf s) r ws)
+    → Becomes s2 (standing (memoryOf s1) r c 0 size r 0) → Becomes s2 (withStart (memoryOf s) r c size ws)
+unfolding withStart
 begins s s1 s2 ws r c size c1 c2 = record { long = c2 .long; is = c2 .is ∙ rw (c1 .is) }
 
 -- the record of a process lies in the state

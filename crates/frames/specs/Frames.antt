@@ -18,8 +18,8 @@ pub record Direct (from to n : ℕ) : Type 0 where
   pub apart : SameOrApart from to n
 
 -- process p is at a statement, its innermost frame and its first free word are these
-unfoldable pub placed : Memory → ℕ → ℕ → ℕ → ℕ → Memory
-placed m p statement frame top = update (update (update m (statementAt p) statement) (frameAt p) frame) (topAt p) top
+unfoldable pub withPosition : Memory → ℕ → ℕ → ℕ → ℕ → Memory
+withPosition m p statement frame top = update (update (update m (statementAt p) statement) (frameAt p) frame) (topAt p) top
 
 -- ws, then zeros up to n words
 unfoldable pub padded : List ℕ → ℕ → List ℕ
@@ -55,30 +55,30 @@ unfoldable pub wiped : Memory → ℕ → Memory
 wiped m n = clear (clear m (location n 0) 256) (recordAt n 0) 20
 
 -- process n is created, of module μ, for the variable at i, and its area is made
-unfoldable pub made : Memory → ℕ → ℕ → ℕ → Memory
-made m n μ i = fresh (update (created m n μ) i n) (location n 0) 256
+unfoldable pub withProcess : Memory → ℕ → ℕ → ℕ → Memory
+withProcess m n μ i = fresh (update (created m n μ) i n) (location n 0) 256
 
 -- process r has its parameters, is started and holds its own variables (11.5)
-unfoldable pub given : Memory → ℕ → List ℕ → Memory
-given m r ws = update (update (store m (location r 0) ws) (statusAt r) 2) (holderAt r) r
+unfoldable pub withParameters : Memory → ℕ → List ℕ → Memory
+withParameters m r ws = update (update (store m (location r 0) ws) (statusAt r) 2) (holderAt r) r
 
 -- it stands at statement c; its variables take n words
-unfoldable pub begun : Memory → ℕ → ℕ → ℕ → List ℕ → Memory
-begun m r c n ws = standing (given m r ws) r c 0 n r 0
+unfoldable pub withStart : Memory → ℕ → ℕ → ℕ → List ℕ → Memory
+withStart m r c n ws = standing (withParameters m r ws) r c 0 n r 0
 
 -- the end of process p: its variables are given up (13)
 unfoldable pub ended : Memory → ℕ → Memory
 ended m p = update (update m (statusAt p) 3) (holderAt p) 0
 
 -- the frame that is to be pushed fits the area
-pub record Fits (m : Memory) (p n : ℕ) : Type 0 where
+pub record FrameFits (m : Memory) (p n : ℕ) : Type 0 where
   pub low : 1 ≤ p
   pub high : p ≤ 64
   pub area : m (topAt p) + 4 + n ≤ 256
   pub depth : m (depthAt p) < 64
 
 -- the process is in a call, whose frame lies in the area
-pub record Called (m : Memory) (p : ℕ) : Type 0 where
+pub record InCall (m : Memory) (p : ℕ) : Type 0 where
   pub low : 1 ≤ p
   pub high : p ≤ 64
   pub area : m (frameAt p) + 4 ≤ 256

@@ -16,7 +16,7 @@ ghost use Rattle.machine.specs.Variables.{frameWords};
 ghost use Rattle.machine.specs.Context.{contextOf};
 ghost use Rattle.machine.specs.Calls.{standing, pushed, frameMarked, popped};
 ghost use Rattle.machine.specs.Processes.{created, started};
-ghost use Rattle.frames.specs.Frames.{Direct, placed, padded, linked, framed, framedMarks, entered, calledIn, left, wiped, given, begun, made, ended, Fits, Called};
+ghost use Rattle.frames.specs.Frames.{Direct, withPosition, padded, linked, framed, framedMarks, entered, calledIn, left, wiped, withParameters, withStart, withProcess, ended, FrameFits, InCall};
 
 // The first n words of the buffer, to the words from `at` on.
 pub fn copy_words(state: &mut [u8], at: usize, n: usize, words: &[u16])
@@ -174,7 +174,7 @@ pub fn end_process(state: &mut [u8], p: usize)
 fn place(state: &mut [u8], p: usize, statement: u16, frame: u16, top: u16)
     requires { ⌜ State (now state) ⌝ }
     requires { ⌜ (1 ≤ p) × (p ≤ 64) ⌝ }
-    ensures { λ _. ⌜ Becomes (now (state .exit)) (placed (memoryOf (now (state .entry))) p statement frame top) ⌝ }
+    ensures { λ _. ⌜ Becomes (now (state .exit)) (withPosition (memoryOf (now (state .entry))) p statement frame top) ⌝ }
 {
     go_to(state, p, statement);
     machine::set_record_word(state, p, machine::FRAME, frame);
@@ -250,7 +250,7 @@ fn put_frame(state: &mut [u8], p: usize, f: usize, q: u16, size: usize, n: usize
 // the buffer are the arguments.
 fn enter(state: &mut [u8], p: usize, q: u16, r: u16, c: u16, size: usize, n: usize, words: &[u16])
     requires { ⌜ State (now state) ⌝ }
-    requires { ⌜ Fits (memoryOf (now state)) p size ⌝ }
+    requires { ⌜ FrameFits (memoryOf (now state)) p size ⌝ }
     requires { ⌜ (n ≤ size) × (n ≤ length (now words)) ⌝ }
     ensures { λ _. ⌜ Becomes (now (state .exit)) (entered (memoryOf (now (state .entry))) p q r c size (take n (now (words .entry)))) ⌝ }
 {
@@ -281,7 +281,7 @@ fn mark_frame(state: &mut [u8], at: usize, size: usize, n: usize)
 // Process p enters procedure q, as in `enter`, and its frame has its marks.
 fn call_in(state: &mut [u8], p: usize, q: u16, r: u16, c: u16, size: usize, n: usize, words: &[u16])
     requires { ⌜ State (now state) ⌝ }
-    requires { ⌜ Fits (memoryOf (now state)) p size ⌝ }
+    requires { ⌜ FrameFits (memoryOf (now state)) p size ⌝ }
     requires { ⌜ (n ≤ size) × (n ≤ length (now words)) ⌝ }
     ensures { λ _. ⌜ Becomes (now (state .exit)) (calledIn (memoryOf (now (state .entry))) p q r c size (take n (now (words .entry)))) ⌝ }
 {
@@ -294,7 +294,7 @@ fn call_in(state: &mut [u8], p: usize, q: u16, r: u16, c: u16, size: usize, n: u
 // Process p leaves the procedure of its innermost call, and stands after the call statement c.
 pub fn leave(state: &mut [u8], p: usize, c: u16)
     requires { ⌜ State (now state) ⌝ }
-    requires { ⌜ Called (memoryOf (now state)) p ⌝ }
+    requires { ⌜ InCall (memoryOf (now state)) p ⌝ }
     requires { ⌜ c < 65535 ⌝ }
     ensures { λ _. ⌜ Becomes (now (state .exit)) (left (memoryOf (now (state .entry))) p c) ⌝ }
 {
@@ -334,7 +334,7 @@ fn give(state: &mut [u8], r: usize, n: usize, words: &[u16])
     requires { ⌜ State (now state) ⌝ }
     requires { ⌜ (1 ≤ r) × (r ≤ 64) ⌝ }
     requires { ⌜ (n ≤ 256) × (n ≤ length (now words)) ⌝ }
-    ensures { λ _. ⌜ Becomes (now (state .exit)) (given (memoryOf (now (state .entry))) r (take n (now (words .entry)))) ⌝ }
+    ensures { λ _. ⌜ Becomes (now (state .exit)) (withParameters (memoryOf (now (state .entry))) r (take n (now (words .entry)))) ⌝ }
 {
     let at = machine::location_of(r, 0);
     copy_words(state, at, n, words);
@@ -347,7 +347,7 @@ pub fn begin(state: &mut [u8], r: usize, c: u16, size: u16, n: usize, words: &[u
     requires { ⌜ State (now state) ⌝ }
     requires { ⌜ (1 ≤ r) × (r ≤ 64) ⌝ }
     requires { ⌜ (n ≤ 256) × (n ≤ length (now words)) ⌝ }
-    ensures { λ _. ⌜ Becomes (now (state .exit)) (begun (memoryOf (now (state .entry))) r c size (take n (now (words .entry)))) ⌝ }
+    ensures { λ _. ⌜ Becomes (now (state .exit)) (withStart (memoryOf (now (state .entry))) r c size (take n (now (words .entry)))) ⌝ }
 {
     give(state, r, n, words);
     stand(state, r, c, 0, size, r as u16, 0);
@@ -364,7 +364,7 @@ pub fn push_local(
     words: &[u16],
 )
     requires { ⌜ State (now state) ⌝ }
-    requires { ⌜ Fits (memoryOf (now state)) p size ⌝ }
+    requires { ⌜ FrameFits (memoryOf (now state)) p size ⌝ }
     requires { ⌜ (n ≤ size) × ((n ≤ length (now words)) × (q < 65536)) ⌝ }
     requires { ⌜ size ≡ frameWords (decoded (now c)) q ⌝ }
     ensures { λ _. ⌜ ((page : Memory) → Becomes (now (state .exit)) (frameMarked (decoded (now (c .entry))) (memoryOf (now (state .entry))) page (contextOf (memoryOf (now (state .entry))) p) (pushed (decoded (now (c .entry))) (memoryOf (now (state .entry))) page (contextOf (memoryOf (now (state .entry))) p) (memoryOf (now (state .entry))) q (memoryOf (now (state .entry)) (worksAt p)) (take n (now (words .entry)))) q (take n (now (words .entry))))) ⌝ }
@@ -386,7 +386,7 @@ pub fn push_process(
     words: &[u16],
 )
     requires { ⌜ State (now state) ⌝ }
-    requires { ⌜ Fits (memoryOf (now state)) p size ⌝ }
+    requires { ⌜ FrameFits (memoryOf (now state)) p size ⌝ }
     requires { ⌜ (n ≤ size) × ((n ≤ length (now words)) × ((q < 65536) × ((1 ≤ r) × (r ≤ 64)))) ⌝ }
     requires { ⌜ size ≡ frameWords (decoded (now c)) q ⌝ }
     ensures { λ _. ⌜ ((page : Memory) → Becomes (now (state .exit)) (frameMarked (decoded (now (c .entry))) (memoryOf (now (state .entry))) page (contextOf (memoryOf (now (state .entry))) p) (pushed (decoded (now (c .entry))) (memoryOf (now (state .entry))) page (contextOf (memoryOf (now (state .entry))) p) (update (memoryOf (now (state .entry))) (holderAt r) p) q r (take n (now (words .entry)))) q (take n (now (words .entry))))) ⌝ }
@@ -399,7 +399,7 @@ pub fn push_process(
 // The end of a local call, whose statement is c.
 pub fn pop_local(state: &mut [u8], p: usize, c: u16)
     requires { ⌜ State (now state) ⌝ }
-    requires { ⌜ Called (memoryOf (now state)) p ⌝ }
+    requires { ⌜ InCall (memoryOf (now state)) p ⌝ }
     requires { ⌜ c < 65535 ⌝ }
     ensures { λ _. ⌜ ((T : Table) (page : Memory) → Becomes (now (state .exit)) (popped T (memoryOf (now (state .entry))) page (contextOf (memoryOf (now (state .entry))) p) (memoryOf (now (state .entry))) c)) ⌝ }
 {
@@ -409,7 +409,7 @@ pub fn pop_local(state: &mut [u8], p: usize, c: u16)
 // The end of a process call, whose statement is c: the variables that it worked on are given up.
 pub fn pop_process(state: &mut [u8], p: usize, c: u16)
     requires { ⌜ State (now state) ⌝ }
-    requires { ⌜ Called (memoryOf (now state)) p ⌝ }
+    requires { ⌜ InCall (memoryOf (now state)) p ⌝ }
     requires { ⌜ (c < 65535) × ((1 ≤ memoryOf (now state) (worksAt p)) × (memoryOf (now state) (worksAt p) ≤ 64)) ⌝ }
     ensures { λ _. ⌜ ((T : Table) (page : Memory) → Becomes (now (state .exit)) (popped T (memoryOf (now (state .entry))) page (contextOf (memoryOf (now (state .entry))) p) (update (memoryOf (now (state .entry))) (holderAt (memoryOf (now (state .entry)) (worksAt p))) 0) c)) ⌝ }
 {
@@ -452,7 +452,7 @@ pub fn enter_arm(state: &mut [u8], p: usize, w: usize, c: u16)
 fn create_for(state: &mut [u8], n: usize, block: u16, at: usize)
     requires { ⌜ State (now state) ⌝ }
     requires { ⌜ (1 ≤ n) × ((n ≤ 64) × (at < locations)) ⌝ }
-    ensures { λ _. ⌜ Becomes (now (state .exit)) (made (memoryOf (now (state .entry))) n block at) ⌝ }
+    ensures { λ _. ⌜ Becomes (now (state .exit)) (withProcess (memoryOf (now (state .entry))) n block at) ⌝ }
 {
     create(state, n, block);
     machine::set_word(state, at, n as u16);

@@ -21,9 +21,9 @@ use Rattle.machine.specs.Entries.{repeats, stmtAt}
 use Rattle.machine.specs.Statements.{Effect, onOpener, endOf, goTo, goOn, doEnd, perform}
 use Rattle.operands.specs.declared.Context.{Context}
 use Rattle.operands.specs.Ready.{contextIn}
-use Rattle.effects.specs.Effects.{carried, Stepped, Standing}
+use Rattle.effects.specs.Effects.{statementStep, Stepped, Standing}
 use Rattle.effects.proofs.Carrying.{performs-skip, performs-arm, performs-end, stepped}
-use Rattle.guards.specs.Guards.{openerOf, endAt, Linked, Linking, Ended}
+use Rattle.guards.specs.Guards.{openerOf, endAt, Linked, Linking, ArmsEnd}
 use Rattle.guards.proofs.Standing.{stands-lent, stands-page, stands-small}
 use Rattle.guards.proofs.Arms.{through, need-is, same-unstuck, at-arm, at-end, arms-there, end-kind, end-is, opener-there, opener-is}
 
@@ -56,7 +56,7 @@ module _ (T : Table) where
     free : endAt T (c .left) j ≡ stuck → ⊥
     free = same-unstuck (c .rest) (c .unstuck)
 
-    pub linking-ends : (k ≡ 10 → ⊥) → Ended T i j
+    pub linking-ends : (k ≡ 10 → ⊥) → ArmsEnd T i j
     linking-ends n =
         let d = reached (c .left) j free (λ e. n (hk .is ∙ e)) in record { is = sym (d .0) ∙ c .rest; below = d .1 }
 
@@ -169,7 +169,7 @@ pub ruleset nexts = (next-while, next-cycle, next-on)
 module _ (t m p : List ℕ) (x : Context) (h : Standing t m p x) where
   pub skip-returns : stmtKind (decoded t) (x .statement) ≡ 0 → (m1 : List ℕ)
       → Becomes m1 (update (memoryOf m) (statementAt (x .process)) (x .statement + 1))
-      → Stepped 0 m1 p (carried (decoded t) (memoryOf m) (memoryOf p) (contextIn x))
+      → Stepped 0 m1 p (statementStep (decoded t) (memoryOf m) (memoryOf p) (contextIn x))
   unfolding goOn goTo contextIn
   skip-returns e m1 i =
       stepped (decoded t) m p m1 p (contextIn x) 0 _ (memoryOf p)
@@ -191,7 +191,7 @@ module _ (t m p : List ℕ) (x : Context) (h : Standing t m p x) where
     unfolding contextIn
     arms-linked = end-linked (decoded t) (memoryOf m) (memoryOf p) (contextIn x) unstuck-end
 
-    module _ (i : ℕ) (d : Ended (decoded t) (x .statement) i) where
+    module _ (i : ℕ) (d : ArmsEnd (decoded t) (x .statement) i) where
       pub end-small : i < 65535
       end-small = let b = d .below in let s = h .statements in omega arith
 
@@ -204,7 +204,7 @@ module _ (t m p : List ℕ) (x : Context) (h : Standing t m p x) where
       pub end-returns : (j v c : ℕ) → Field (stmtLink (decoded t) i) j → Field (stmtKind (decoded t) j) v
           → c ≡ pick (repeats (openerOf v)) j (i + 1) → (m1 : List ℕ)
           → Becomes m1 (update (memoryOf m) (statementAt (x .process)) c)
-          → Stepped 0 m1 p (carried (decoded t) (memoryOf m) (memoryOf p) (contextIn x))
+          → Stepped 0 m1 p (statementStep (decoded t) (memoryOf m) (memoryOf p) (contextIn x))
       unfolding goTo contextIn
       end-returns j v c hj hv hc m1 q =
           let e : c ≡ pick (repeats (openerOf (stmtKind (decoded t) (stmtLink (decoded t) i)))) (stmtLink (decoded t) i) (i + 1) = rw (hc, hv .is, hj .is) in

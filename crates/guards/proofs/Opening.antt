@@ -25,7 +25,7 @@ use Rattle.machine.specs.Entries.{Opener, waits, stmtAt}
 use Rattle.machine.specs.Statements.{goTo, wait, choose, chosen, doOpener, perform}
 use Rattle.operands.specs.declared.Context.{Context}
 use Rattle.operands.specs.Ready.{contextIn}
-use Rattle.effects.specs.Effects.{carried, Stepped, Standing}
+use Rattle.effects.specs.Effects.{statementStep, Stepped, Standing}
 use Rattle.effects.proofs.Carrying.{performs-if, performs-while, performs-when, performs-cycle, stepped, stepped-fail}
 use Rattle.guards.specs.declared.Found.{Found}
 use Rattle.guards.specs.declared.Found.the-variants.{Arm, End, Fails}
@@ -122,7 +122,7 @@ module _ (t m p : List ℕ) (x : Context) (h : Standing t m p x) where
 
       pub opener-fails : (e : Failure) → r ≡ Fails e → (n : ℕ) (m1 : List ℕ) → n ≡ failureNumber e
           → Becomes m1 (update (memoryOf m) failureAt (failureNumber e))
-          → Stepped n m1 p (carried (decoded t) (memoryOf m) (memoryOf p) (contextIn x))
+          → Stepped n m1 p (statementStep (decoded t) (memoryOf m) (memoryOf p) (contextIn x))
       unfolding andThen contextIn
       opener-fails e q n m1 u v =
           let d = rw q at c in
@@ -135,7 +135,7 @@ module _ (t m p : List ℕ) (x : Context) (h : Standing t m p x) where
 
         pub opener-enters : (i : ℕ) → r ≡ Arm i → (n : ℕ) (m1 : List ℕ) → n ≡ 0
             → Becomes m1 (update (pick (leb 8 v) (update (memoryOf m) (holderAt (x .works)) (x .process)) (memoryOf m)) (statementAt (x .process)) (i + 1))
-            → Stepped n m1 p (carried (decoded t) (memoryOf m) (memoryOf p) (contextIn x))
+            → Stepped n m1 p (statementStep (decoded t) (memoryOf m) (memoryOf p) (contextIn x))
         unfolding andThen chosen goTo contextIn
         opener-enters i q n m1 u w =
             let d = rw q at c in
@@ -145,7 +145,7 @@ module _ (t m p : List ℕ) (x : Context) (h : Standing t m p x) where
 
         pub opener-passes : (i : ℕ) → r ≡ End i → (n : ℕ) (m1 : List ℕ) → n ≡ pick (leb 8 v) 1 0
             → Becomes m1 (pick (leb 8 v) (update (memoryOf m) (holderAt (x .works)) 0) (update (memoryOf m) (statementAt (x .process)) (i + 1)))
-            → Stepped n m1 p (carried (decoded t) (memoryOf m) (memoryOf p) (contextIn x))
+            → Stepped n m1 p (statementStep (decoded t) (memoryOf m) (memoryOf p) (contextIn x))
         unfolding andThen chosen goTo wait contextIn
         opener-passes i q n m1 u w =
             let d = rw q at c in

@@ -63,7 +63,7 @@ pub record Linking (T : Table) (i j : ℕ) : Type 0 where
   pub unstuck : endAt T (stmtCount T) i ≡ stuck → ⊥
 
 -- r is the end of the arms from i on, a statement that exists
-pub record Ended (T : Table) (i r : ℕ) : Type 0 where
+pub record ArmsEnd (T : Table) (i r : ℕ) : Type 0 where
   pub is : ok r ≡ endAt T (stmtCount T) i
   pub below : r < stmtCount T
 

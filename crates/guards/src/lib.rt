@@ -16,8 +16,8 @@ ghost use Rattle.machine.specs.Entries.{repeats};
 ghost use Rattle.machine.specs.Operands.{operand};
 ghost use Rattle.operands.specs.Answers.{firstWord, Evaluable, OneWord};
 ghost use Rattle.operands.specs.Ready.{contextIn, Ready};
-ghost use Rattle.effects.specs.Effects.{CarriedOut, Standing};
-ghost use Rattle.guards.specs.Guards.{openerOf, Choosable, Chosen, Linked, Ended, Going};
+ghost use Rattle.effects.specs.Effects.{StatementLeaves, Standing};
+ghost use Rattle.guards.specs.Guards.{openerOf, Choosable, Chosen, Linked, ArmsEnd, Going};
 
 // The arm whose guard is the first that is true, the end of the arms where none is, or the failure of a guard.
 pub enum Found {
@@ -30,7 +30,7 @@ pub enum Found {
 pub fn skip(c: &code::Slots, state: &mut [u8], page: &[u8], x: Context) -> u8
     requires { ⌜ Standing (now c) (now state) (now page) x ⌝ }
     requires { ⌜ stmtKind (decoded (now c)) (x .statement) ≡ 0 ⌝ }
-    ensures { λ r. ⌜ CarriedOut (now (c .entry)) (now (state .entry)) (now (page .entry)) x r (now (state .exit)) (now (page .entry)) ⌝ }
+    ensures { λ r. ⌜ StatementLeaves (now (c .entry)) (now (state .entry)) (now (page .entry)) x r (now (state .exit)) (now (page .entry)) ⌝ }
 {
     effects::go_on(state, x);
     0
@@ -102,7 +102,7 @@ pub fn pass(state: &mut [u8], x: Context, waits: bool, i: usize) -> u8
 pub fn open(c: &code::Slots, state: &mut [u8], page: &[u8], x: Context) -> u8
     requires { ⌜ Standing (now c) (now state) (now page) x ⌝ }
     requires { ⌜ (6 ≤ stmtKind (decoded (now c)) (x .statement)) × (stmtKind (decoded (now c)) (x .statement) ≤ 9) ⌝ }
-    ensures { λ r. ⌜ CarriedOut (now (c .entry)) (now (state .entry)) (now (page .entry)) x r (now (state .exit)) (now (page .entry)) ⌝ }
+    ensures { λ r. ⌜ StatementLeaves (now (c .entry)) (now (state .entry)) (now (page .entry)) x r (now (state .exit)) (now (page .entry)) ⌝ }
 {
     let waits = kinds::WHEN <= code::stmt_kind(c, x.statement);
     let first = x.statement + 1;
@@ -117,7 +117,7 @@ pub fn open(c: &code::Slots, state: &mut [u8], page: &[u8], x: Context) -> u8
 // The end of the arms from i on: each arm is linked to the next.
 fn end_of(c: &code::Slots, i: usize) -> usize
     requires { ⌜ Linked (decoded (now c)) i ⌝ }
-    ensures { λ r. ⌜ Ended (decoded (now (c .entry))) i r ⌝ }
+    ensures { λ r. ⌜ ArmsEnd (decoded (now (c .entry))) i r ⌝ }
 {
     let mut j = i;
     while code::stmt_kind(c, j) == kinds::ARM {
@@ -144,7 +144,7 @@ fn next(k: usize, opener: usize, end: usize) -> u16
 pub fn end_arm(c: &code::Slots, state: &mut [u8], page: &[u8], x: Context) -> u8
     requires { ⌜ Standing (now c) (now state) (now page) x ⌝ }
     requires { ⌜ (10 ≤ stmtKind (decoded (now c)) (x .statement)) × (stmtKind (decoded (now c)) (x .statement) ≤ 11) ⌝ }
-    ensures { λ r. ⌜ CarriedOut (now (c .entry)) (now (state .entry)) (now (page .entry)) x r (now (state .exit)) (now (page .entry)) ⌝ }
+    ensures { λ r. ⌜ StatementLeaves (now (c .entry)) (now (state .entry)) (now (page .entry)) x r (now (state .exit)) (now (page .entry)) ⌝ }
 {
     let end = end_of(c, x.statement);
     let opener = code::stmt_link(c, end);

@@ -10,7 +10,7 @@ use Rattle.machine.specs.Memory.{Memory}
 use Rattle.machine.specs.Outcomes.{stuck}
 use Rattle.machine.specs.Entries.{nodeAt, typeAt}
 use Rattle.machine.specs.Context.{Context}
-use Rattle.machine.specs.Variables.{knownType, knownAt, known}
+use Rattle.machine.specs.Variables.{knownType, knownAt, typeExists}
 use Rattle.machine.specs.Operands.{nodeOperand, operandAt, operand}
 use Rattle.machine.specs.Values.{typeHolds, holdsAt, holds, nowhere, partAt, part}
 
@@ -26,8 +26,8 @@ unfolding operand operandAt
 operand-is T m page x n = course-is stuck (operandAt T m page x) n
 
 -- a part that has no lower number is no type
-pub known-is : (T : Table) (τ : ℕ) → known T τ ≡ knownType T (below false τ (known T)) (typeAt T τ)
-unfolding known knownAt
+pub known-is : (T : Table) (τ : ℕ) → typeExists T τ ≡ knownType T (below false τ (typeExists T)) (typeAt T τ)
+unfolding typeExists knownAt
 known-is T τ = course-is false (knownAt T) τ
 
 pub holds-is :

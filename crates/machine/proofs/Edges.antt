@@ -3,7 +3,7 @@ use Prim.Native.Nat.{ℕ}
 use mathlib.Core.Path.{_≡_, refl}
 use mathlib.Core.List.{List, [], _∷_}
 use lib.IntN.{pos, negℤ}
-use Rattle.words.specs.Numbers.{wordOf}
+use Rattle.words.specs.Numbers.{wordOfZ}
 use Rattle.table.specs.Table.{Table}
 use Rattle.machine.specs.Memory.{Memory, zeros, update}
 use Rattle.machine.specs.Run.{Run, ran, stuck}
@@ -13,7 +13,7 @@ use Rattle.machine.proofs.Programs.{runOn}
 
 -- the word of -n
 abbrev minus : ℕ → ℕ
-minus n = wordOf (negℤ (pos n))
+minus n = wordOfZ (negℤ (pos n))
 
 -- begin write(-2, e) end, where node e is the last of es, which follow the node of -2
 abbrev writes : List Row → ℕ → Table

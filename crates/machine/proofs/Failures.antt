@@ -18,8 +18,8 @@ use Rattle.machine.specs.Entries.{Opener, waits, repeats, Statement, ski
 use Rattle.machine.specs.Context.{Context, contextOf}
 use Rattle.machine.specs.Operands.{operand}
 use Rattle.machine.specs.Processes.{onModule, onProcess, onReference}
-use Rattle.machine.specs.Statements.{Effect, effect, onArms, onOpener, Choice, enters, skips, endOf, goTo, goOn, wait, moved, doAssign, doLocalCall, free, doProcessCall, doCreate, doStart, chosen, doOpener, doEnd, doWrite, doBlockEnd, perform}
-use Rattle.machine.specs.Step.{done, settled, answers, performs, proceeds, exists, turn, step}
+use Rattle.machine.specs.Statements.{Effect, effect, onArms, onOpener, Choice, enters, skips, endOf, goTo, goOn, wait, moved, doAssign, doLocalCall, canServe, doProcessCall, doCreate, doStart, chosen, doOpener, doEnd, doWrite, doBlockEnd, perform}
+use Rattle.machine.specs.Step.{done, settled, answersOnly, performs, proceeds, exists, turn, step}
 use Rattle.machine.specs.Run.{ran, onDone, before, run}
 use Rattle.machine.proofs.Ends.{Ends, ends-ok, ends-fail, ends-stuck, ends-need, ends-failWhere, ends-pick, ends-andThen, ends-onPlace, ends-onTyped, ends-onWord}
 use Rattle.machine.proofs.Tests.{failure-low}
@@ -128,7 +128,7 @@ module _ (T : Table) (m page : Memory) (x : Context) where
   low-perform (processCall a q c d) =
       ends-onProcess Low T a m page x _
       (λ i μ. ends-need Low _ _ (ends-onReference Low m i μ _
-      (λ r. ends-pick Low (free m r) _ _ (ends-andThen Low _ _ (λ ws. low-moved _)) (low-wait m))))
+      (λ r. ends-pick Low (canServe m r) _ _ (ends-andThen Low _ _ (λ ws. low-moved _)) (low-wait m))))
   low-perform (create a) = ends-onProcess Low T a m page x _ (λ i μ. ends-failWhere Low _ 24 _ (low-goOn _))
   low-perform (start a c d) =
       ends-onProcess Low T a m page x _
@@ -153,8 +153,8 @@ pub record Failed (m page : Memory) (a : ℕ) (s d : Memory) : Type 0 where
   pub device : d ≡ page
 
 module _ (T : Table) (m page : Memory) (p : ℕ) where
-  low-answers : (a : ℕ) → a ≤ 3 → Ends Low (answers T m page p a)
-  unfolding answers
+  low-answers : (a : ℕ) → a ≤ 3 → Ends Low (answersOnly T m page p a)
+  unfolding answersOnly
   low-answers a h = low a m page h
 
   low-exists : Ends Low (exists T m page p)
@@ -189,7 +189,7 @@ module _ (T : Table) (m page : Memory) (p : ℕ) where
 
   -- AFTER A FAILURE every step answers its number, and changes nothing
   pub failed-step : isFailure (m failureAt) ≡ true → step T m page p ≡ done (m failureAt) m page
-  unfolding step turn settled need answers
+  unfolding step turn settled need answersOnly
   failed-step h =
       let l = failure-low (m failureAt) h in
       let n : m failureAt ≡ 0 → ⊥ = λ e. omega arith in

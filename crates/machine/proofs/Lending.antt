@@ -7,10 +7,10 @@ use native.Mathlib.Omega.{arith}
 use Rattle.words.specs.Memory.{wordAt, putWord}
 use Rattle.words.proofs.MemoryLaws.{length-put}
 use Rattle.machine.specs.Memory.{memoryOf, update}
-use Rattle.machine.specs.Lent.{Lent, Changed}
+use Rattle.machine.specs.Lent.{WordSlice, Changed}
 use Rattle.machine.proofs.Memories.{memory-put, memory-word}
 
-module _ (n : ℕ) (s : List ℕ) (l : Lent n s) (i : ℕ) (h : i < n) where
+module _ (n : ℕ) (s : List ℕ) (l : WordSlice n s) (i : ℕ) (h : i < n) where
   pub lent-in : i * 2 + 1 < length s
   lent-in = let e = l .long in omega arith
 

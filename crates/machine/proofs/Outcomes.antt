@@ -10,7 +10,7 @@ use Rattle.types.specs.Types.{NodeType, numbered, string}
 use Rattle.types.specs.Match.{Match, equal, fitted, unfit}
 use Rattle.machine.specs.Texts.{fit}
 use Rattle.machine.specs.Calls.{passed}
-use Rattle.machine.specs.Outcomes.{Outcome, ok, fail, stuck, andThen, need, failWhere, Operand, place, value, text, placed, valued, typed, onPlace, onValue, onTyped, wordOf, onWord}
+use Rattle.machine.specs.Outcomes.{Outcome, ok, fail, stuck, andThen, need, failWhere, Operand, place, value, text, placed, valued, typedWords, onPlace, onValue, onTyped, wordOf, onWord}
 use Rattle.machine.specs.Entries.{TypeEntry, integer, boolean, character, recordType, arrayType, processType, noType}
 use Rattle.machine.specs.Operands.{onRecord, onArray}
 use Rattle.machine.specs.Processes.{onModule}
@@ -76,7 +76,7 @@ module _ {B : Type 0} (P : Outcome B → Type 0) (lost : P stuck) where
 
   pub g-typed : (o : Outcome Operand) (k : NodeType → List ℕ → Outcome B) → ((f : ℕ) → o ≡ fail f → P (fail f)) → ((τ : ℕ) (ws : List ℕ) → o ≡ ok (value τ ws) → P (k (numbered τ) ws))
       → ((ws : List ℕ) → o ≡ ok (text ws) → P (k (string (length ws)) ws)) → P (onTyped o k)
-  unfolding onTyped andThen typed
+  unfolding onTyped andThen typedWords
   g-typed (ok (place a τ)) k f g h = lost
   g-typed (ok (value τ ws)) k f g h = g τ ws refl
   g-typed (ok (text ws)) k f g h = h ws refl

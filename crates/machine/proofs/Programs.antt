@@ -36,7 +36,7 @@ use Rattle.machine.specs.Public
 
 -- a run of a schedule from begin with a number, over a page; unfolding it unfolds the whole definition
 unfoldable pub runWith : ℕ → Table → Memory.Memory → List ℕ → Run.Run
-unfolding Choice.both Choice.either Choice.allBelow Course.upto Course.course table.declared types.offset types.span types.elements types.isString nodes.numberOf nodes.evened types.isText types.characters types.sameNumber types.matching types.isEqual Texts.fit Texts.textAt Sizes.sumBelow Sizes.fieldsWords Sizes.typeWords Sizes.wordsOf Sizes.partWords Sizes.offsetIn Sizes.varOffset Sizes.moduleWords Numbers.between Operators.ranged Operators.addW Operators.subW Operators.negW Operators.mulW Operators.divW Operators.modW Operators.ltW Operators.leW Operators.notB Operators.andB Operators.orB Standard.lowest Standard.highest Standard.inType Standard.transferW Devices.isDevice Devices.positionOf Memory.update Memory.within Memory.store Memory.clear Memory.wordsAt Memory.zeros Layout.location Layout.recordAt Layout.linkAt Outcomes.isFailure Outcomes.andThen Outcomes.need Outcomes.failWhere Outcomes.placed Outcomes.valued Outcomes.typed Outcomes.onPlace Outcomes.onValue Outcomes.onTyped Outcomes.wordOf Outcomes.onWord Entries.typeAt Entries.unaryAt Entries.binaryAt Entries.nodeOf Entries.nodeAt Entries.waits Entries.repeats Entries.statementOf Entries.stmtAt Variables.varWords Variables.firstWords Variables.frameWords Variables.offsetOf Variables.belongs Variables.isModule Variables.isProcedure Variables.knownType Variables.knownAt Variables.known Variables.fits Context.blockOf Context.contextOf Context.contextual Operands.simple Operands.truth Operands.given Operands.same Operands.deviceWord Operands.unaryValue Operands.ordered Operands.integral Operands.logical Operands.binaryValue Operands.onRecord Operands.onArray Operands.outside Operands.placeAt Operands.fieldPlace Operands.elementPlace Operands.moduleVariable Operands.frameVariable Operands.wholePlace Operands.nodeOperand Operands.operandAt Operands.operand Space.callWords Space.isProcedureOf Space.eachOnce Space.reserve Space.ownWords Space.ownAfter Space.spaceFull Calls.standing Calls.passed Calls.valueArgument Calls.varArgument Calls.argument Calls.argumentWords Calls.arguments Calls.frame Calls.topAfter Calls.pushed Calls.call Calls.popped Calls.returns Calls.return Processes.onModule Processes.onProcess Processes.refers Processes.onReference Processes.created Processes.started Statements.onArms Statements.onOpener Statements.endOf Statements.goTo Statements.goOn Statements.wait Statements.moved Statements.doAssign Statements.doLocalCall Statements.free Statements.doProcessCall Statements.doCreate Statements.doStart Statements.choose Statements.chosen Statements.doOpener Statements.doEnd Statements.doWrite Statements.doBlockEnd Statements.perform Step.settled Choice.between Step.answers Step.performs Step.proceeds Step.exists Step.turn Step.step Run.first Run.begin Marks.bitOf Marks.putBit Marks.markWord Marks.marked Marks.setMark Marks.setMarks Marks.allMarked Memory.fill Operands.retrieved Calls.frameMarked Rule.runOk Public.wordThere Run.onDone Run.before Run.run Values.someBelow Values.typeHolds Values.holdsAt Values.nowhere Values.holds Values.partIn Values.partAt Values.part Values.partOfVariable Values.partOfBlock table.stmtLimit Rule.liesIn Rule.calls Rule.isCreated Rule.owns Rule.lives Rule.worked Rule.holdsOn Rule.worksBy Rule.mayWait Rule.moduleHolds Rule.modulesHold Rule.frameHolds Rule.framesHold Rule.frameOk Rule.chain Rule.moduleOk Rule.startedOk Rule.processOk Rule.failureOk Rule.rule Public.visible Public.look
+unfolding Choice.both Choice.either Choice.allBelow Course.upto Course.course table.declared types.offset types.span types.elements types.isString nodes.numberOf nodes.evened types.isText types.characters types.sameNumber types.matching types.isEqual Texts.fit Texts.textAt Sizes.sumBelow Sizes.fieldsWords Sizes.typeWords Sizes.wordsOf Sizes.partWords Sizes.offsetIn Sizes.varOffset Sizes.moduleWords Numbers.betweenZ Operators.ranged Operators.addW Operators.subW Operators.negW Operators.mulW Operators.divW Operators.modW Operators.ltW Operators.leW Operators.notB Operators.andB Operators.orB Standard.lowest Standard.highest Standard.inType Standard.transferW Devices.isDevice Devices.positionOf Memory.update Memory.within Memory.store Memory.clear Memory.wordsAt Memory.zeros Layout.location Layout.recordAt Layout.linkAt Outcomes.isFailure Outcomes.andThen Outcomes.need Outcomes.failWhere Outcomes.placed Outcomes.valued Outcomes.typedWords Outcomes.onPlace Outcomes.onValue Outcomes.onTyped Outcomes.wordOf Outcomes.onWord Entries.typeAt Entries.unaryAt Entries.binaryAt Entries.nodeOf Entries.nodeAt Entries.waits Entries.repeats Entries.statementOf Entries.stmtAt Variables.varWords Variables.firstWords Variables.frameWords Variables.offsetOf Variables.belongs Variables.isModule Variables.isProcedure Variables.knownType Variables.knownAt Variables.typeExists Variables.fits Context.blockOf Context.contextOf Context.contextual Operands.oneWord Operands.truth Operands.given Operands.same Operands.deviceWord Operands.unaryValue Operands.ordered Operands.integral Operands.logical Operands.binaryValue Operands.onRecord Operands.onArray Operands.outside Operands.placeAt Operands.fieldPlace Operands.elementPlace Operands.moduleVariable Operands.frameVariable Operands.wholePlace Operands.nodeOperand Operands.operandAt Operands.operand Space.callWords Space.isProcedureOf Space.eachOnce Space.reserve Space.ownWords Space.ownAfter Space.spaceFull Calls.standing Calls.passed Calls.valueArgument Calls.varArgument Calls.argument Calls.argumentWords Calls.arguments Calls.frame Calls.topAfter Calls.pushed Calls.call Calls.popped Calls.returns Calls.return Processes.onModule Processes.onProcess Processes.refers Processes.onReference Processes.created Processes.started Statements.onArms Statements.onOpener Statements.endOf Statements.goTo Statements.goOn Statements.wait Statements.moved Statements.doAssign Statements.doLocalCall Statements.canServe Statements.doProcessCall Statements.doCreate Statements.doStart Statements.choose Statements.chosen Statements.doOpener Statements.doEnd Statements.doWrite Statements.doBlockEnd Statements.perform Step.settled Choice.between Step.answersOnly Step.performs Step.proceeds Step.exists Step.turn Step.step Run.initialState Run.begin Marks.bitOf Marks.putBit Marks.markWord Marks.marked Marks.setMark Marks.setMarks Marks.allMarked Memory.fill Operands.retrieved Calls.frameMarked Rule.runOk Public.wordThere Run.onDone Run.before Run.run Values.someBelow Values.typeHolds Values.holdsAt Values.nowhere Values.holds Values.partIn Values.partAt Values.part Values.partOfVariable Values.partOfBlock table.stmtLimit Rule.liesIn Rule.calls Rule.isCreated Rule.owns Rule.lives Rule.worked Rule.holdsOn Rule.worksBy Rule.mayWait Rule.moduleHolds Rule.modulesHold Rule.frameHolds Rule.framesHold Rule.frameOk Rule.chain Rule.moduleOk Rule.startedOk Rule.processOk Rule.failureOk Rule.rule Public.visible Public.look
 runWith number T page schedule = Run.run T schedule (Run.begin T number) page
 
 -- with variables that begin as 0

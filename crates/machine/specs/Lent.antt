@@ -8,7 +8,7 @@ use Rattle.machine.specs.Memory.{Memory, memoryOf}
 use Rattle.machine.specs.Layout.{stateWords}
 
 -- s has n words
-pub record Lent (n : ℕ) (s : List ℕ) : Type 0 where
+pub record WordSlice (n : ℕ) (s : List ℕ) : Type 0 where
   pub long : length s ≡ n * 2
 
 -- s still has n words, and is the memory m
@@ -18,7 +18,7 @@ pub record Changed (n : ℕ) (s : List ℕ) (m : Memory) : Type 0 where
 
 -- s is lent as a state; it is still one, and has become the memory m
 abbrev pub State : List ℕ → Type 0
-State s = Lent stateWords s
+State s = WordSlice stateWords s
 
 abbrev pub Becomes : List ℕ → Memory → Type 0
 Becomes s m = Changed stateWords s m

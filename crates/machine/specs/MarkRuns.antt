@@ -19,7 +19,7 @@ unfoldable pub fullRun : ℕ → ℕ → ℕ → Bool
 fullRun w k c = eqb (bitAnd w (maskOf k c)) (maskOf k c)
 
 -- r of the `left` locations from a on, at least one, have their marks in one word with a; all of them that do
-pub record Part (a left r : ℕ) : Type 0 where
+pub record MarkRun (a left r : ℕ) : Type 0 where
   pub one : 1 ≤ r
   pub upto : r ≤ left
   pub room : a % 16 + r ≤ 16

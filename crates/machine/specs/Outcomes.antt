@@ -52,10 +52,10 @@ valued (place a τ) f = stuck
 valued (value τ ws) f = f τ ws
 valued (text ws) f = stuck
 
-unfoldable pub typed : {A : Type 0} → Operand → (NodeType → List ℕ → Outcome A) → Outcome A
-typed (place a τ) f = stuck
-typed (value τ ws) f = f (numbered τ) ws
-typed (text ws) f = f (string (length ws)) ws
+unfoldable pub typedWords : {A : Type 0} → Operand → (NodeType → List ℕ → Outcome A) → Outcome A
+typedWords (place a τ) f = stuck
+typedWords (value τ ws) f = f (numbered τ) ws
+typedWords (text ws) f = f (string (length ws)) ws
 
 -- the operand is a variable; it is an expression whose type has a number; it is any expression; it is an expression of type τ, whose value
 -- is one word
@@ -66,7 +66,7 @@ unfoldable pub onValue : {A : Type 0} → Outcome Operand → (ℕ → List ℕ 
 onValue o f = andThen o λ x. valued x f
 
 unfoldable pub onTyped : {A : Type 0} → Outcome Operand → (NodeType → List ℕ → Outcome A) → Outcome A
-onTyped o f = andThen o λ x. typed x f
+onTyped o f = andThen o λ x. typedWords x f
 
 unfoldable pub wordOf : List ℕ → ℕ
 wordOf ws = getD ws 0 0

@@ -13,15 +13,15 @@ use Rattle.machine.specs.Calls.{standing}
 use Rattle.machine.specs.Step.{Step, done, step}
 
 -- process 1, started, runs block 0: it holds its own variables, all 0, and stands at its first statement
-unfoldable pub first : Table → ℕ → Memory
-first T number =
+unfoldable pub initialState : Table → ℕ → Memory
+initialState T number =
     standing
     (update (update (update (update zeros (statusAt 1) 2) (holderAt 1) 1) createdAt 1) numberAt number)
     1 (firstStmt T 0) 0 (moduleWords T 0) 1 0
 
 -- a run of the table begins with this number: under 0 no word is marked, under 1 every one (02, g)
 unfoldable pub begin : Table → ℕ → Memory
-begin T number = fill (first T number) plainWords markWords (pick (eqb number 1) 65535 0)
+begin T number = fill (initialState T number) plainWords markWords (pick (eqb number 1) 65535 0)
 
 -- what a run comes to: the answers in order, the last state and page
 pub data Run : Type 0 where

@@ -53,8 +53,8 @@ knownType T r noType = false
 unfoldable pub knownAt : Table → ℕ → (ℕ → Bool) → Bool
 knownAt T τ r = knownType T r (typeAt T τ)
 
-unfoldable pub known : Table → ℕ → Bool
-known T τ = course false (knownAt T) τ
+unfoldable pub typeExists : Table → ℕ → Bool
+typeExists T τ = course false (knownAt T) τ
 
 -- a value of type τ at location a lies in one area
 unfoldable pub fits : Table → ℕ → ℕ → Bool

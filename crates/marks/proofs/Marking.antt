@@ -15,7 +15,7 @@ use Rattle.machine.specs.Memory.{Memory, memoryOf, update}
 use Rattle.machine.specs.Layout.{plainWords, locations}
 use Rattle.machine.specs.Lent.{State, Becomes}
 use Rattle.machine.specs.Marks.{bitOf, markWord, marked, setMarks, allMarked}
-use Rattle.machine.specs.MarkRuns.{putRun, fullRun, Part}
+use Rattle.machine.specs.MarkRuns.{putRun, fullRun, MarkRun}
 use Rattle.machine.proofs.MarkBits.{bit-lower, bit-higher}
 use Rattle.machine.proofs.MarkLaws.{marks-none, marks-add, marks-run, all-add, all-run}
 
@@ -119,7 +119,7 @@ module _ (m : Memory) (i n : ℕ) where
 
 -- ---- the first word, whole words, the rest: c of n locations from a on, k words, what is left
 
-module _ (a n c k : ℕ) (p : Part a n c) (e : k ≡ (n - c) / 16) where
+module _ (a n c k : ℕ) (p : MarkRun a n c) (e : k ≡ (n - c) / 16) where
   parts : c + (k * 16 + (n - c - k * 16)) ≡ n
   parts = let u = p .upto in omega arith
 
@@ -174,7 +174,7 @@ module _ (a n c k : ℕ) (p : Part a n c) (e : k ≡ (n - c) / 16) where
   unfolding both
   rest-tested m r x b q t y z w = rw (in-parts m, ← q, t, ← y, z) w
 
-pub first-unset : (m : Memory) (a n c : ℕ) (r : Bool) → Part a n c → r ≡ allMarked m a c → r ≡ false → false ≡ allMarked m a n
+pub first-unset : (m : Memory) (a n c : ℕ) (r : Bool) → MarkRun a n c → r ≡ allMarked m a c → r ≡ false → false ≡ allMarked m a n
 unfolding both
 first-unset m a n c r p q t = let e : c + (n - c) ≡ n = omega (arith, p .upto) in rw (← e, all-add m a c (n - c), ← q, t)
 

@@ -5,7 +5,7 @@ ghost use Rattle.machine.specs.Memory.{memoryOf};
 ghost use Rattle.machine.specs.Layout.{locations};
 ghost use Rattle.machine.specs.Lent.{State, Becomes};
 ghost use Rattle.machine.specs.Marks.{marked, setMarks, allMarked};
-ghost use Rattle.machine.specs.MarkRuns.{maskOf, putRun, fullRun, Part};
+ghost use Rattle.machine.specs.MarkRuns.{maskOf, putRun, fullRun, MarkRun};
 
 // The word where the marks begin.
 pub const MARKS: usize = 17664;
@@ -75,7 +75,7 @@ fn all_run(s: &[u8], a: usize, c: usize) -> bool
 // How many of the `left` locations from a on have their marks in one word.
 fn part_of(a: usize, left: usize) -> usize
     requires { ⌜ 1 ≤ left ⌝ }
-    ensures { λ r. ⌜ Part a left r ⌝ }
+    ensures { λ r. ⌜ MarkRun a left r ⌝ }
 {
     let room = 16 - a % 16;
     if left < room { left } else { room }

@@ -9,8 +9,8 @@ use Rattle.basics.specs.Loops.{Chain}
 use Rattle.basics.proofs.Chains.{ends, chain-none, chain-more, chain-all}
 use Rattle.table.specs.Table.{Table}
 use Rattle.table.specs.Entries.{blockCount, firstStmt, stmtCount, stmtA, stmtLink}
-use Rattle.nesting.specs.Nest.{class, stmtEnd, bodyFrom, armEnd, armsFrom, closed, bodyEnd, armsEnd, finished, blockEnd, blockOk, nested}
-use Rattle.nesting.specs.Grammar.{Body, one, more, Statement, simple, group, Arm, arm, Arms, last, next, Block, block, Blocks, none, further}
+use Rattle.nesting.specs.Nest.{class, stmtEnd, bodyFrom, armEnd, armsFrom, closed, bodyEnd, armsEnd, afterBlock, blockEnd, blockOk, nested}
+use Rattle.nesting.specs.Grammar.{Body, one, more, StatementSpan, simple, group, Arm, arm, Arms, last, next, Block, block, Blocks, none, further}
 use Rattle.nesting.proofs.Grammar.{within, body-up, stmt-up, arm-up, stmt-in, arm-in, first-arm, first-stmt, blocks-sound}
 
 module _ (T : Table) where
@@ -28,7 +28,7 @@ module _ (T : Table) where
         let v = stmt-in T s in
         rw (stmt-complete s f (omega arith), ne-eqb j 0 (λ x. omega arith), lt-leb 2 (class T j) (first-stmt T b)) (body-complete b f (omega arith) c)
 
-    stmt-complete : {i j : ℕ} → Statement T i j → (f : ℕ) → stmtCount T - i ≤ f → stmtEnd T i (armsEnd f T i (i + 1)) ≡ j
+    stmt-complete : {i j : ℕ} → StatementSpan T i j → (f : ℕ) → stmtCount T - i ≤ f → stmtEnd T i (armsEnd f T i (i + 1)) ≡ j
     stmt-complete {i} (simple c e) f h = rw (c, e)
     stmt-complete {i} (group c a) f h = let v = within T i (omega arith) in rw c (arms-complete a f (omega arith))
 
@@ -49,7 +49,7 @@ module _ (T : Table) where
 
   -- a block of the grammar passes, and ends where the numbers say
   pub block-complete : (b : ℕ) {i j : ℕ} → Block T b i j → blockEnd T b i ≡ j
-  unfolding blockEnd finished
+  unfolding blockEnd afterBlock
   block-complete b {i} {j} (block {e = e} f d c a g) =
       let u = body-up T d in
       rw (eq-eqb (firstStmt T b) i f, body-complete d (stmtCount T + 1) (omega arith) (omega arith), ne-eqb e 0 (λ x. omega arith), c, eq-eqb (stmtA T e) b a, g)

@@ -8,7 +8,7 @@ use lib.ListN.{length, getD}
 use Rattle.basics.specs.Choice.{pick, both, allBelow}
 use Rattle.basics.specs.Chain.{free, carried, chained}
 use Rattle.table.specs.Table.{Table}
-use Rattle.nesting.specs.Nest.{classOf, class, stmtEnd, bodyFrom, armEnd, closed, armsFrom, bodyEnd, finished, blockEnd, blockOk, nested}
+use Rattle.nesting.specs.Nest.{classOf, class, stmtEnd, bodyFrom, armEnd, closed, armsFrom, bodyEnd, afterBlock, blockEnd, blockOk, nested}
 
 -- a statement with its kind, a and link
 abbrev stmt : ℕ → ℕ → ℕ → List ℕ
@@ -48,5 +48,5 @@ ended b = program (0 ∷ []) (stmt 0 0 0 ∷ stmt 13 b 0 ∷ [])
 examples :
     (nested (two 8 4 1) ≡ true) × (nested (two 8 6 1) ≡ false) × (nested (two 8 4 2) ≡ false) × (nested (two 7 4 1) ≡ false)
     × (nested empty-arm ≡ false) × (nested no-end ≡ false) × (nested bare ≡ false) × (nested (ended 0) ≡ true) × (nested (ended 1) ≡ false)
-unfolding nested chained carried allBelow both free blockEnd blockOk finished bodyEnd bodyFrom stmtEnd armEnd armsFrom closed class classOf
+unfolding nested chained carried allBelow both free blockEnd blockOk afterBlock bodyEnd bodyFrom stmtEnd armEnd armsFrom closed class classOf
 examples = (refl, refl, refl, refl, refl, refl, refl, refl, refl)

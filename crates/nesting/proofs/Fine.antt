@@ -8,7 +8,7 @@ use Rattle.basics.specs.Cases.{cases}
 use Rattle.table.specs.Table.{Table}
 use Rattle.table.specs.Entries.{stmtLink}
 use Rattle.nesting.specs.Nest.{class}
-use Rattle.nesting.specs.Grammar.{Body, one, more, Statement, simple, group, Arm, arm, Arms, last, next}
+use Rattle.nesting.specs.Grammar.{Body, one, more, StatementSpan, simple, group, Arm, arm, Arms, last, next}
 use Rattle.nesting.proofs.Grammar.{body-up, stmt-up, arm-up, arms-up, first-arm}
 
 -- statement k is right among the statements from lo to before hi
@@ -54,7 +54,7 @@ module _ (T : Table) (lo hi : ℕ) where
     body-fine (one s) p q = stmt-fine s p q
     body-fine (more s b) p q = let u = stmt-up T s in let v = body-up T b in joined (stmt-fine s p (omega arith)) (body-fine b (omega arith) q)
 
-    stmt-fine : {i j : ℕ} → Statement T i j → lo ≤ i → j ≤ hi → Fines i j
+    stmt-fine : {i j : ℕ} → StatementSpan T i j → lo ≤ i → j ≤ hi → Fines i j
     stmt-fine (simple c e) p q = first-and (fine-simple _ c) (none e)
     stmt-fine (group c a) p q = first-and (fine-opener _ c (first-arm T a)) (arms-fine a p (omega arith) c q)
 

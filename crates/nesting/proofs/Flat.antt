@@ -11,8 +11,8 @@ use mir.Syntax.{w64}
 use Rattle.basics.specs.Loops.{Chain}
 use Rattle.table.specs.Table.{Table}
 use Rattle.table.specs.Entries.{blockCount, firstStmt, stmtCount, stmtKind, stmtLink}
-use Rattle.nesting.specs.Nest.{classOf, class, stmtEnd, bodyFrom, armEnd, armsFrom, closed, bodyEnd, armsEnd, blockEnd, blockOk, finished, nested}
-use Rattle.nesting.specs.Grammar.{Statement, Arm}
+use Rattle.nesting.specs.Nest.{classOf, class, stmtEnd, bodyFrom, armEnd, armsFrom, closed, bodyEnd, armsEnd, blockEnd, blockOk, afterBlock, nested}
+use Rattle.nesting.specs.Grammar.{StatementSpan, Arm}
 use Rattle.nesting.specs.Ends.{ClassIs, BodyEnds, ArmsEnds, ArmEnds, StmtEnds, BodyRest, ArmsRest}
 use Rattle.basics.proofs.Chains.{chain-none, chain-more, chain-fail, chain-all}
 use Rattle.table.specs.Reading.{Field}
@@ -46,7 +46,7 @@ module _ (T : Table) where
       arm-unlinked e = record { is = λ f h. rw (← k, q, ← m, ← b .is f (omega (arith, within T i (omega arith))), ne-eqb l j e) }
 
   module _ (i j : ℕ) (s : StmtEnds T i j) where
-    stmt-of : (j ≡ 0 → ⊥) → Statement T i j
+    stmt-of : (j ≡ 0 → ⊥) → StatementSpan T i j
     stmt-of e = let g = s .is (stmtCount T) (omega arith) in rw g (stmt-is T i (armsEnd (stmtCount T) T i (i + 1)) (λ x. e (g ∙ x)) (arms-sound T (stmtCount T) i (i + 1)))
 
     pub stmt-moves : (j ≡ 0 → ⊥) → i < j
@@ -203,7 +203,7 @@ module _ (T : Table) (b j v : ℕ) (l : v ≡ firstStmt T b) where
     unfolding blockEnd
     block-empty u = rw (← l, eq-eqb v j e, ← q .is (stmtCount T + 1) (omega arith), u)
 
-    pub block-done : (r : ℕ) → (x ≡ 0 → ⊥) → r ≡ finished T b x → r ≡ blockEnd T b j
+    pub block-done : (r : ℕ) → (x ≡ 0 → ⊥) → r ≡ afterBlock T b x → r ≡ blockEnd T b j
     unfolding blockEnd
     block-done r u g = rw (← l, eq-eqb v j e, ← q .is (stmtCount T + 1) (omega arith), ne-eqb x 0 u) g
 

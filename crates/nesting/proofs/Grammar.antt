@@ -11,8 +11,8 @@ use Rattle.basics.specs.Chain.{free}
 use Rattle.basics.proofs.Chains.{passes}
 use Rattle.table.specs.Table.{Table}
 use Rattle.table.specs.Entries.{blockCount, firstStmt, stmtCount, stmtA, stmtLink}
-use Rattle.nesting.specs.Nest.{class, onward, stmtEnd, bodyFrom, armEnd, armsFrom, closed, bodyEnd, armsEnd, finished, blockEnd, blockOk, nested}
-use Rattle.nesting.specs.Grammar.{Body, one, more, Statement, simple, group, Arm, arm, Arms, last, next, Block, block, Blocks, none, further}
+use Rattle.nesting.specs.Nest.{class, onward, stmtEnd, bodyFrom, armEnd, armsFrom, closed, bodyEnd, armsEnd, afterBlock, blockEnd, blockOk, nested}
+use Rattle.nesting.specs.Grammar.{Body, one, more, StatementSpan, simple, group, Arm, arm, Arms, last, next, Block, block, Blocks, none, further}
 
 module _ (T : Table) where
   -- what is no class 5 is within
@@ -32,13 +32,13 @@ module _ (T : Table) where
       go true e g = absurd (g refl)
       go false e g = (e, g)
 
-  pub stmt-is : (i e : ℕ) → (stmtEnd T i e ≡ 0 → ⊥) → ((e ≡ 0 → ⊥) → Arms T i (i + 1) e) → Statement T i (stmtEnd T i e)
+  pub stmt-is : (i e : ℕ) → (stmtEnd T i e ≡ 0 → ⊥) → ((e ≡ 0 → ⊥) → Arms T i (i + 1) e) → StatementSpan T i (stmtEnd T i e)
   unfolding stmtEnd
   stmt-is i e h a =
       cases (eqb (class T i) 0) (λ p. rw p (simple (eqb-true (class T i) 0 p) refl))
       (λ p. let g = took (eqb (class T i) 1) e (rw p at h) in rw (p, g .0) (group (eqb-true (class T i) 1 (g .0)) (a (g .1))))
 
-  body-is : (i j e : ℕ) → (bodyFrom T j e ≡ 0 → ⊥) → ((j ≡ 0 → ⊥) → Statement T i j) → ((e ≡ 0 → ⊥) → Body T j e) → Body T i (bodyFrom T j e)
+  body-is : (i j e : ℕ) → (bodyFrom T j e ≡ 0 → ⊥) → ((j ≡ 0 → ⊥) → StatementSpan T i j) → ((e ≡ 0 → ⊥) → Body T j e) → Body T i (bodyFrom T j e)
   unfolding bodyFrom
   body-is i j e h s b =
       let g = skipped j (pick (leb 2 (class T j)) j e) h in
@@ -79,7 +79,7 @@ module _ (T : Table) where
     body-up (one s) = stmt-up s
     body-up (more s b) = let p = stmt-up s in let q = body-up b in omega arith
 
-    pub stmt-up : {i j : ℕ} → Statement T i j → i < j
+    pub stmt-up : {i j : ℕ} → StatementSpan T i j → i < j
     stmt-up (simple c e) = omega arith
     stmt-up (group c a) = let p = arms-up a in omega arith
 
@@ -97,7 +97,7 @@ module _ (T : Table) where
   first-arm (last a d e r) = arm-class a
   first-arm (next a b) = arm-class a
 
-  pub stmt-in : {i j : ℕ} → Statement T i j → i < stmtCount T
+  pub stmt-in : {i j : ℕ} → StatementSpan T i j → i < stmtCount T
   stmt-in {i} (simple c e) = within i (omega arith)
   stmt-in {i} (group c a) = within i (omega arith)
 
@@ -120,7 +120,7 @@ module _ (T : Table) where
 
   -- a block whose numbers are right is one of the grammar
   pub block-sound : (b j : ℕ) → blockOk T b j ≡ true → Block T b j (blockEnd T b j)
-  unfolding blockEnd finished
+  unfolding blockEnd afterBlock
   block-sound b j h =
       let g = took (eqb (firstStmt T b) j) _ (block-some b j h) in
       let k = skipped (bodyEnd (stmtCount T + 1) T j) _ (g .1) in

@@ -14,7 +14,7 @@ use Rattle.table.specs.Table.{Table}
 use Rattle.table.specs.Entries.{blockCount, firstStmt, stmtCount, stmtKind, stmtA, stmtLink, stmtLimit}
 use Rattle.nesting.specs.Nest.{class, blockEnd, blockOk, nested, blockStep}
 use Rattle.nesting.specs.Grammar.{Block, block}
-use Rattle.nesting.specs.Blocks.{blockOf, StmtOf}
+use Rattle.nesting.specs.Blocks.{stmtBlock, StmtOf}
 use Rattle.nesting.proofs.Grammar.{within, body-up, block-sound}
 use Rattle.nesting.proofs.Fine.{Fine, body-fine}
 use Rattle.nesting.proofs.Classes.{opener-low, opener-high, arm-kind, end-kind, block-end-kind, class-opener, class-arm, class-end, class-block-end}
@@ -201,15 +201,15 @@ module _ (T : Table) where
         let c : class T k ≡ 4 = rw w at (z .«end») in
         rw (eq-eqb (stmtKind T k) 13 (block-end-kind T k c), counted k b (omega arith) (omega (arith, z .some)) (omega arith), add-one b))
 
-    pub block-of : (b i : ℕ) → b < blockCount T → StmtOf T b i → blockOf T i ≡ b
-    unfolding blockOf
+    pub block-of : (b i : ℕ) → b < blockCount T → StmtOf T b i → stmtBlock T i ≡ b
+    unfolding stmtBlock
     block-of b i l p =
         let x = span b l .first in
         let y = limit-is b l in
         counted i b l (omega (arith, p .from)) (omega (arith, p .below))
 
     -- every statement is one of its block's
-    found : (m i : ℕ) → m ≤ blockCount T → i < start m → (blockOf T i < blockCount T) × StmtOf T (blockOf T i) i
+    found : (m i : ℕ) → m ≤ blockCount T → i < start m → (stmtBlock T i < blockCount T) × StmtOf T (stmtBlock T i) i
     found zero i g l = absurd (omega (arith, start-0))
     found (suc b) i g l =
         cases (ltb i (start b)) (λ e. found b i (omega arith) (ltb-true i (start b) e))
@@ -221,8 +221,8 @@ module _ (T : Table) where
         let p : StmtOf T b i = record { from = omega arith; below = omega arith } in
         rw (block-of b i (omega arith) p) (omega arith, p))
 
-    pub block-known : (i : ℕ) → i < stmtCount T → blockOf T i < blockCount T
+    pub block-known : (i : ℕ) → i < stmtCount T → stmtBlock T i < blockCount T
     block-known i l = found (blockCount T) i (omega arith) (omega (arith, start-end)) .0
 
-    pub block-in : (i : ℕ) → i < stmtCount T → StmtOf T (blockOf T i) i
+    pub block-in : (i : ℕ) → i < stmtCount T → StmtOf T (stmtBlock T i) i
     block-in i l = found (blockCount T) i (omega arith) (omega (arith, start-end)) .1

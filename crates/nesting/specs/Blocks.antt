@@ -7,8 +7,8 @@ use Rattle.table.specs.Entries.{firstStmt, stmtLimit}
 use Rattle.nesting.specs.Nest.{blockStep}
 
 -- the block of statement i: as many block ends stand before it
-unfoldable pub blockOf : Table → ℕ → ℕ
-blockOf T i = free (blockStep T) i
+unfoldable pub stmtBlock : Table → ℕ → ℕ
+stmtBlock T i = free (blockStep T) i
 
 -- statement i is one of block b's
 pub record StmtOf (T : Table) (b i : ℕ) : Type 0 where

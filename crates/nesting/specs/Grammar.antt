@@ -11,13 +11,13 @@ use Rattle.nesting.specs.Nest.{class}
 mutual
   -- one or more statements
   pub data Body (T : Table) : ℕ → ℕ → Type 0 where
-    one : {i j : ℕ} → Statement T i j → Body T i j
-    more : {i j k : ℕ} → Statement T i j → Body T j k → Body T i k
+    one : {i j : ℕ} → StatementSpan T i j → Body T i j
+    more : {i j k : ℕ} → StatementSpan T i j → Body T j k → Body T i k
 
   -- a simple statement, or an opener and its arms
-  pub data Statement (T : Table) : ℕ → ℕ → Type 0 where
-    simple : {i j : ℕ} → class T i ≡ 0 → j ≡ i + 1 → Statement T i j
-    group : {i j : ℕ} → class T i ≡ 1 → Arms T i (i + 1) j → Statement T i j
+  pub data StatementSpan (T : Table) : ℕ → ℕ → Type 0 where
+    simple : {i j : ℕ} → class T i ≡ 0 → j ≡ i + 1 → StatementSpan T i j
+    group : {i j : ℕ} → class T i ≡ 1 → Arms T i (i + 1) j → StatementSpan T i j
 
   -- an arm and its body; its link is the number after them, which is the next arm or the end
   pub data Arm (T : Table) : ℕ → ℕ → Type 0 where

@@ -55,14 +55,14 @@ unfoldable mutual
   armsEnd (suc f) T o i = armsFrom T o (armEnd T i (bodyEnd f T (i + 1))) (armsEnd f T o (armEnd T i (bodyEnd f T (i + 1))))
 
 -- the number after the block end at e of block b
-unfoldable pub finished : Table → ℕ → ℕ → ℕ
-finished T b e = pick (eqb (class T e) 4) (pick (eqb (stmtA T e) b) (e + 1) 0) 0
+unfoldable pub afterBlock : Table → ℕ → ℕ → ℕ
+afterBlock T b e = pick (eqb (class T e) 4) (pick (eqb (stmtA T e) b) (e + 1) 0) 0
 
 -- the number after block b, whose first statement is j, the next free one: a body, and its block end; 0 where that is not so
 unfoldable pub blockEnd : Table → ℕ → ℕ → ℕ
 blockEnd T b j =
     pick (eqb (firstStmt T b) j)
-    (onward (bodyEnd (stmtCount T + 1) T j) (finished T b (bodyEnd (stmtCount T + 1) T j)))
+    (onward (bodyEnd (stmtCount T + 1) T j) (afterBlock T b (bodyEnd (stmtCount T + 1) T j)))
     0
 
 unfoldable pub blockOk : Table → ℕ → ℕ → Bool

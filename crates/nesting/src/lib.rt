@@ -4,7 +4,7 @@ use code::kinds;
 ghost use mathlib.Core.Path.{_≡_};
 ghost use Prim.Native.Nat.{_<_};
 ghost use Rattle.code.specs.Code.{decoded};
-ghost use Rattle.nesting.specs.Nest.{classOf, closed, finished, blockEnd, nested};
+ghost use Rattle.nesting.specs.Nest.{classOf, closed, afterBlock, blockEnd, nested};
 ghost use Rattle.nesting.specs.Ends.{ClassIs, BodyEnds, ArmsEnds, ArmEnds, StmtEnds};
 
 // The classes of statements, as classOf has them.
@@ -129,7 +129,7 @@ fn arms_end(c: &code::Slots, o: usize, i: usize) -> usize
 
 // The number after the block end at e of block b, or 0 where it is not there.
 fn finish(c: &code::Slots, b: usize, e: usize) -> usize
-    ensures { λ r. ⌜ r ≡ finished (decoded (now (c .entry))) b e ⌝ }
+    ensures { λ r. ⌜ r ≡ afterBlock (decoded (now (c .entry))) b e ⌝ }
 {
     if stmt_class(c, e) == BLOCK_END {
         if code::stmt_a(c, e) == b {

@@ -13,7 +13,7 @@ use Rattle.table.specs.Entries.{declared}
 use Rattle.types.specs.Types.{nodeType, typeOf}
 use Rattle.table.specs.Kinds.{variableKind, names, rows, rowOf, held, eachField, isCall}
 use Rattle.numbers.specs.Sorts.{nameable, limit, fieldRanged, entryRanged}
-use Rattle.numbers.specs.Declarations.{isRecord, recordFirst, recordCount, fieldsTaken, fieldBelow, recordRanged, typeRanged, moduleOf, named, namedOnce, modulesOnce}
+use Rattle.numbers.specs.Declarations.{isRecord, recordFirst, recordCount, fieldsTaken, fieldBelow, recordRanged, typeRanged, moduleOf, namedModules, namedOnce, modulesOnce}
 use Rattle.numbers.specs.Blocks.{variablesTaken, programPlaced, ownerRanged, spaceRanged, modePlaced, variablesPlaced, blockPlaced, blockRanged}
 use Rattle.numbers.specs.Operands.{placeRanged, nodeRanged, argumentsTaken, isStringNode, stringFirst, stringCount, charactersTaken}
 use Rattle.numbers.specs.Ranges.{inOrder, typesRanged, declarationsRanged, operandsRanged, inRange}
@@ -54,5 +54,5 @@ examples :
     × (inRange (least 0 512) ≡ false) × (inRange (selects 1 3 1) ≡ true) × (inRange (selects 1 3 2) ≡ false) × (inRange (selects 1 0 2) ≡ true)
     × (inRange (selects 3 3 1) ≡ false) × (inRange (selects 1 4 1) ≡ false) × (inRange (spells 0 2) ≡ true) × (inRange (spells 0 1) ≡ false) × (inRange (spells 1 1) ≡ false)
     × (inRange empty ≡ false)
-unfolding inRange inOrder typesRanged declarationsRanged operandsRanged both allBelow fieldsTaken variablesTaken argumentsTaken charactersTaken isStringNode stringFirst stringCount taken chained carried free modulesOnce namedOnce named gather occurs blockRanged blockPlaced programPlaced ownerRanged spaceRanged variablesPlaced entryRanged eachField held rowOf rows fieldRanged limit nameable between isCall names stepTake testTake always declared isRecord recordFirst recordCount recordRanged fieldBelow typeRanged moduleOf modePlaced nodeRanged placeRanged variableKind typeOf course upto nodeType
+unfolding inRange inOrder typesRanged declarationsRanged operandsRanged both allBelow fieldsTaken variablesTaken argumentsTaken charactersTaken isStringNode stringFirst stringCount taken chained carried free modulesOnce namedOnce namedModules gather occurs blockRanged blockPlaced programPlaced ownerRanged spaceRanged variablesPlaced entryRanged eachField held rowOf rows fieldRanged limit nameable between isCall names stepTake testTake always declared isRecord recordFirst recordCount recordRanged fieldBelow typeRanged moduleOf modePlaced nodeRanged placeRanged variableKind typeOf course upto nodeType
 examples = (refl, refl, refl, refl, refl, refl, refl, refl, refl, refl, refl, refl, refl, refl)

@@ -11,7 +11,7 @@ use Rattle.table.specs.Entries.{typeP, fieldType, varMode, blockKind, owner, fi
 use Rattle.types.specs.Types.{typeOf}
 use Rattle.table.specs.Kinds.{variableKind, expressionKind}
 use Rattle.numbers.specs.Operands.{placeRanged}
-use Rattle.numbers.specs.Tested.{variableBelow, expressionBelow, blockOf, aVariable, aExpression, bExpression}
+use Rattle.numbers.specs.Tested.{variableBelow, expressionBelow, isBlock, aVariable, aExpression, bExpression}
 
 -- one number
 module _ (r : Bool) (k f : ℕ) (h : k ≡ f) where
@@ -34,7 +34,7 @@ module _ (r : Bool) (k f : ℕ) (h : k ≡ f) where
   b-expression-is e = rw (← h) e
 
   module _ (T : Table) where
-    pub block-is : (x : ℕ) → r ≡ blockOf T x k → r ≡ blockOf T x f
+    pub block-is : (x : ℕ) → r ≡ isBlock T x k → r ≡ isBlock T x f
     block-is x e = rw (← h) e
 
     pub variable-is : (n : ℕ) → r ≡ variableBelow T n k → r ≡ variableBelow T n f

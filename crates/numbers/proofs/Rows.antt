@@ -16,7 +16,7 @@ use Rattle.types.specs.Types.{typeOf}
 use Rattle.numbers.specs.Sorts.{nameable, limit, fieldRanged, entryRanged}
 use Rattle.numbers.specs.Declarations.{isRecord, typeRanged}
 use Rattle.numbers.specs.Operands.{placeRanged, nodeRanged}
-use Rattle.numbers.specs.Tested.{variableBelow, expressionBelow, blockOf, arrayRanged, typeTested, pRanged, qRanged, nodeTested, aVariable, aExpression, aBlock, aRanged, bExpression, bRanged, linkRanged, stmtTested}
+use Rattle.numbers.specs.Tested.{variableBelow, expressionBelow, isBlock, arrayRanged, typeTested, pRanged, qRanged, nodeTested, aVariable, aExpression, aBlock, aRanged, bExpression, bRanged, linkRanged, stmtTested}
 
 -- a test with two tests after it that ask nothing
 lone : (a : Bool) → both (both a true) true ≡ a
@@ -41,7 +41,7 @@ module _ (T : Table) (i : ℕ) where
   type-fields = all-five (test 0)
 
   type-at : (k : ℕ) → T .cell 0 i 0 ≡ k → typeRanged T i ≡ typeTested T i
-  unfolding typeRanged isRecord typeTested arrayRanged blockOf test held rowOf rows fieldRanged limit nameable both always
+  unfolding typeRanged isRecord typeTested arrayRanged isBlock test held rowOf rows fieldRanged limit nameable both always
   type-at =
       type-kinds (λ k. T .cell 0 i 0 ≡ k → typeRanged T i ≡ typeTested T i)
       (λ e. rw (type-fields, declared-is T i 0, e))
@@ -85,7 +85,7 @@ module _ (T : Table) (i : ℕ) where
   stmt-fields = all-six (test 6)
 
   stmt-at : (k : ℕ) → stmtKind T i ≡ k → entryRanged T 6 i ≡ stmtTested T i
-  unfolding stmtTested aRanged aVariable aExpression aBlock bRanged bExpression linkRanged between variableBelow expressionBelow blockOf test held rowOf rows fieldRanged limit nameable both always
+  unfolding stmtTested aRanged aVariable aExpression aBlock bRanged bExpression linkRanged between variableBelow expressionBelow isBlock test held rowOf rows fieldRanged limit nameable both always
   stmt-at =
       stmt-kinds (λ k. stmtKind T i ≡ k → entryRanged T 6 i ≡ stmtTested T i)
       (λ e. rw (stmt-fields, e)) (λ e. rw (stmt-fields, e)) (λ e. rw (stmt-fields, e)) (λ e. rw (stmt-fields, e)) (λ e. rw (stmt-fields, e)) (λ e. rw (stmt-fields, e)) (λ e. rw (stmt-fields, e)) (λ e. rw (stmt-fields, e)) (λ e. rw (stmt-fields, e)) (λ e. rw (stmt-fields, e))

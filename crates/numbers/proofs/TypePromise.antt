@@ -10,12 +10,12 @@ use Rattle.table.specs.Table.{Table}
 use Rattle.table.specs.Entries.{typeKind, typeP, typeQ, fieldType, varType, blockKind, typeCount, fieldCount, varCount, blockCount}
 use Rattle.types.proofs.Matching.{declared-from}
 use Rattle.numbers.specs.Declarations.{isRecord, recordFirst, recordCount, fieldsTaken, fieldBelow, recordRanged}
-use Rattle.numbers.specs.Tested.{blockOf, arrayRanged, typeTested}
+use Rattle.numbers.specs.Tested.{isBlock, arrayRanged, typeTested}
 use Rattle.numbers.specs.Ranges.{inRange}
 use Rattle.numbers.proofs.Parts.{fields-taken, type-row, var-row}
 
-pub block-there : (T : Table) (k b : ℕ) → blockOf T k b ≡ true → (b < blockCount T) × (blockKind T b ≡ k)
-unfolding blockOf
+pub block-there : (T : Table) (k b : ℕ) → isBlock T k b ≡ true → (b < blockCount T) × (blockKind T b ≡ k)
+unfolding isBlock
 block-there T k b e = (ltb-true b (blockCount T) (both-l _ _ e), eqb-true (blockKind T b) k (both-r _ _ e))
 
 module _ (T : Table) (h : inRange T ≡ true) where

@@ -40,11 +40,11 @@ typeRanged T i = both (entryRanged T 0 i) (pick (isRecord T i) (recordRanged T (
 unfoldable pub moduleOf : Table → ℕ → List ℕ
 moduleOf T i = pick (eqb (typeKind T (3 + i)) 3) (typeP T (3 + i) ∷ []) []
 
-unfoldable pub named : Table → List ℕ
-named T = gather (moduleOf T) (typeCount T)
+unfoldable pub namedModules : Table → List ℕ
+namedModules T = gather (moduleOf T) (typeCount T)
 
 unfoldable pub namedOnce : Table → ℕ → Bool
-namedOnce T b = leb (occurs b (named T)) 1
+namedOnce T b = leb (occurs b (namedModules T)) 1
 
 unfoldable pub modulesOnce : Table → Bool
 modulesOnce T = allBelow (blockCount T) (namedOnce T)

@@ -7,7 +7,7 @@ use lib.ListN.{length, getD}
 use lib.Dec.{eqb}
 use Rattle.basics.specs.Choice.{pick}
 use Rattle.basics.specs.Marks.{gather}
-use Rattle.basics.specs.Loops.{marked, Seen}
+use Rattle.basics.specs.Loops.{withMark, MarksOf}
 use Rattle.table.specs.Table.{Table}
 use Rattle.table.specs.Entries.{typeKind, typeP, blockCount}
 use Rattle.numbers.specs.Declarations.{moduleOf}
@@ -18,9 +18,9 @@ pub record Clear (T : Table) (l : List ℕ) : Type 0 where
   pub clear : (j : ℕ) → j < length l → getD l j 0 ≡ 0
 
 -- the marks of the modules that the first i declared types name
-pub record Named (T : Table) (i : ℕ) (l : List ℕ) : Type 0 where
+pub record ModuleMarks (T : Table) (i : ℕ) (l : List ℕ) : Type 0 where
   pub long : blockCount T ≤ length l
-  pub seen : Seen (gather (moduleOf T) i) l
+  pub seen : MarksOf (gather (moduleOf T) i) l
 
 unfoldable pub moduleMarked : Table → ℕ → List ℕ → List ℕ
-moduleMarked T i l = pick (eqb (typeKind T (3 + i)) 3) (marked (typeP T (3 + i)) l) l
+moduleMarked T i l = pick (eqb (typeKind T (3 + i)) 3) (withMark (typeP T (3 + i)) l) l

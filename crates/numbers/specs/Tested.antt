@@ -19,8 +19,8 @@ unfoldable pub expressionBelow : Table → ℕ → ℕ → Bool
 expressionBelow T m n = both (ltb n m) (expressionKind (nodeKind T n))
 
 -- b is an existing block of kind k
-unfoldable pub blockOf : Table → ℕ → ℕ → Bool
-blockOf T k b = both (ltb b (blockCount T)) (eqb (blockKind T b) k)
+unfoldable pub isBlock : Table → ℕ → ℕ → Bool
+isBlock T k b = both (ltb b (blockCount T)) (eqb (blockKind T b) k)
 
 -- '2 array: index type 0..2, element type'
 unfoldable pub arrayRanged : Table → ℕ → Bool
@@ -31,7 +31,7 @@ unfoldable pub typeTested : Table → ℕ → Bool
 typeTested T i =
     pick (eqb (typeKind T (3 + i)) 1) (recordRanged T (3 + i))
     (pick (eqb (typeKind T (3 + i)) 2) (arrayRanged T (3 + i))
-    (pick (eqb (typeKind T (3 + i)) 3) (blockOf T 1 (typeP T (3 + i))) true))
+    (pick (eqb (typeKind T (3 + i)) 3) (isBlock T 1 (typeP T (3 + i))) true))
 
 -- Node: 'A node stands after its operands'. p: 0 constant type 0..2; 1 whole a variable; 2 field, 3 element, 4 value a variable node;
 -- 5 unary, 6 binary, 7 transfer an expression node; 8 string the next free character
@@ -64,7 +64,7 @@ aExpression k = pick (eqb k 10) true (eqb k 12)
 
 unfoldable pub aBlock : Table → ℕ → Bool
 aBlock T i =
-    pick (eqb (stmtKind T i) 2) (blockOf T 2 (stmtA T i))
+    pick (eqb (stmtKind T i) 2) (isBlock T 2 (stmtA T i))
     (pick (eqb (stmtKind T i) 13) (ltb (stmtA T i) (blockCount T)) true)
 
 unfoldable pub aRanged : Table → ℕ → Bool
@@ -79,7 +79,7 @@ bExpression k = pick (eqb k 1) true (eqb k 12)
 unfoldable pub bRanged : Table → ℕ → Bool
 bRanged T i =
     pick (bExpression (stmtKind T i)) (expressionBelow T (nodeCount T) (stmtB T i))
-    (pick (eqb (stmtKind T i) 3) (blockOf T 2 (stmtB T i)) true)
+    (pick (eqb (stmtKind T i) 3) (isBlock T 2 (stmtB T i)) true)
 
 -- link: 10 arm, 11 end a statement
 unfoldable pub linkRanged : Table → ℕ → Bool

@@ -8,7 +8,7 @@ ghost use Rattle.table.specs.Entries.{typeCount, varCount, blockCount};
 ghost use Rattle.numbers.specs.Sorts.{entryRanged};
 ghost use Rattle.numbers.specs.Declarations.{fieldBelow, recordRanged, typeRanged, namedOnce, modulesOnce};
 ghost use Rattle.numbers.specs.Tested.{arrayRanged};
-ghost use Rattle.numbers.specs.Marking.{Clear, Named, moduleMarked};
+ghost use Rattle.numbers.specs.Marking.{Clear, ModuleMarks, moduleMarked};
 use super::sorts;
 
 // Field j of record x has a type with a lower number.
@@ -119,7 +119,7 @@ fn mark_module(c: &code::Slots, i: usize, marks: &mut [u8])
 
 fn mark_modules(c: &code::Slots, marks: &mut [u8])
     requires { ⌜ Clear (decoded (now c)) (now marks) ⌝ }
-    ensures { λ _. ⌜ Named (decoded (now (c .entry))) (typeCount (decoded (now (c .entry)))) (now (marks .exit)) ⌝ }
+    ensures { λ _. ⌜ ModuleMarks (decoded (now (c .entry))) (typeCount (decoded (now (c .entry)))) (now (marks .exit)) ⌝ }
 {
     let n = code::types(c);
     let mut i = 0;
@@ -131,7 +131,7 @@ fn mark_modules(c: &code::Slots, marks: &mut [u8])
 
 // Block b is marked once at most.
 fn named_once(c: &code::Slots, marks: &[u8], b: usize) -> bool
-    requires { ⌜ Named (decoded (now c)) (typeCount (decoded (now c))) (now marks) ⌝ }
+    requires { ⌜ ModuleMarks (decoded (now c)) (typeCount (decoded (now c))) (now marks) ⌝ }
     requires { ⌜ b < blockCount (decoded (now c)) ⌝ }
     ensures { λ r. ⌜ r ≡ namedOnce (decoded (now (c .entry))) b ⌝ }
 {
@@ -139,7 +139,7 @@ fn named_once(c: &code::Slots, marks: &[u8], b: usize) -> bool
 }
 
 fn marked_once(c: &code::Slots, marks: &[u8]) -> bool
-    requires { ⌜ Named (decoded (now c)) (typeCount (decoded (now c))) (now marks) ⌝ }
+    requires { ⌜ ModuleMarks (decoded (now c)) (typeCount (decoded (now c))) (now marks) ⌝ }
     ensures { λ r. ⌜ r ≡ modulesOnce (decoded (now (c .entry))) ⌝ }
 {
     let n = code::blocks(c);

@@ -1,7 +1,7 @@
 // Nodes and blocks of the sort that a place asks.
 ghost use mathlib.Core.Path.{_≡_};
 ghost use Rattle.code.specs.Code.{decoded};
-ghost use Rattle.numbers.specs.Tested.{variableBelow, expressionBelow, blockOf};
+ghost use Rattle.numbers.specs.Tested.{variableBelow, expressionBelow, isBlock};
 
 // Node v is below m and a variable.
 pub fn variable_below(c: &code::Slots, m: usize, v: usize) -> bool
@@ -25,7 +25,7 @@ pub fn expression_below(c: &code::Slots, m: usize, e: usize) -> bool
 
 // Block b exists and is of kind k.
 pub fn block_of(c: &code::Slots, k: usize, b: usize) -> bool
-    ensures { λ r. ⌜ r ≡ blockOf (decoded (now (c .entry))) k b ⌝ }
+    ensures { λ r. ⌜ r ≡ isBlock (decoded (now (c .entry))) k b ⌝ }
 {
     if b < code::blocks(c) {
         return code::block_kind(c, b) == k;

@@ -14,7 +14,7 @@ pub by-truth : (b : Bool) (w r : ℕ) → w ≡ boolWord b → Field w r → Wor
 by-truth b w r e f = tell-word (words.word (boolWord b)) w r f (rw e)
 
 module _ (o τ u v r : ℕ) where
-  pub by-number : (k : ℕ) (x : words.Outcome) → o ≡ k → WordIs x r → x ≡ binaryWord k τ u v → WordIs (binaryWord o τ u v) r
+  pub by-number : (k : ℕ) (x : words.WordOutcome) → o ≡ k → WordIs x r → x ≡ binaryWord k τ u v → WordIs (binaryWord o τ u v) r
   by-number k x e h g = rw e (rw g at h)
 
   pub by-relation : (k : ℕ) (b a : Bool) → o ≡ k → WordIs (words.word (boolWord b)) r → b ≡ a → words.word (boolWord a) ≡ binaryWord k τ u v → WordIs (binaryWord o τ u v) r

@@ -17,7 +17,7 @@ use Rattle.operands.specs.declared.Place.{Place}
 use Rattle.operands.specs.declared.Place.the-variants.{At, Fail}
 use Rattle.operands.specs.Answers.{selected, firstWord, Selectable, Evaluable, Retrieval, Retrieved}
 use Rattle.operands.specs.Bases.{contextAt, Bearing}
-use Rattle.operands.specs.Packed.{wordIn, Located, Evaluated, Held, Unpacked}
+use Rattle.operands.specs.Packed.{wordIn, Located, Evaluated, RetrievedFrom, Unpacked}
 use Rattle.operands.specs.Ready.{contextIn, Ready}
 use Rattle.operands.proofs.Packing.{out-at, out-failed}
 
@@ -29,7 +29,7 @@ bears t x f k o r hf hk ho hr =
     let a = hf .is in let b = hk .is in
     record { context = refl; based = record { first = a; after = rw (a, b); owned = ho; framed = hr } }
 
-held-out : (t m p : List ℕ) (x : Context) (n r : ℕ) → Held t m p x n r → (a : Place) → Unpacked r a → Retrieved (decoded t) (memoryOf m) (memoryOf p) (contextIn x) n a
+held-out : (t m p : List ℕ) (x : Context) (n r : ℕ) → RetrievedFrom t m p x n r → (a : Place) → Unpacked r a → Retrieved (decoded t) (memoryOf m) (memoryOf p) (contextIn x) n a
 held-out t m p x n r h (At i) u =
     let q = out-at r i u in
     let e = q .1 in
@@ -67,7 +67,7 @@ module _ (t m p : List ℕ) (x : Context) (n : ℕ) (l : List ℕ) (h : Bearing 
       → outcomeOf v ≡ firstWord (operand (decoded t) (memoryOf m) (memoryOf p) (contextIn x) n)
   eval-returns r v g u = let e = h .context in u ∙ (rw e at (g .is))
 
-  pub retrieve-returns : (r : ℕ) (a : Place) → Held t m p (contextAt l) n r → Unpacked r a
+  pub retrieve-returns : (r : ℕ) (a : Place) → RetrievedFrom t m p (contextAt l) n r → Unpacked r a
       → Retrieved (decoded t) (memoryOf m) (memoryOf p) (contextIn x) n a
   retrieve-returns r a g u =
       let e = h .context in

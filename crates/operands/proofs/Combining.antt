@@ -22,7 +22,7 @@ use Rattle.machine.specs.Outcomes.{onTyped, wordOf}
 use Rattle.machine.specs.Operands.{binaryValue}
 use Rattle.code.specs.Code.{slotIn, decoded}
 use Rattle.operands.specs.declared.Context.{Context}
-use Rattle.operands.specs.Answers.{firstWord, single, nodeWords, structured, Unstuck, OneWord, Binary}
+use Rattle.operands.specs.Answers.{firstWord, single, nodeWords, structured, Unstuck, OneWord, BinaryNode}
 use Rattle.operands.specs.Operators.{binaryWord}
 use Rattle.operands.specs.Packed.{WordIs, Evaluated}
 use Rattle.operands.specs.Ready.{contextIn, Ready}
@@ -56,7 +56,7 @@ equal-two T o τ σ us vs l u n =
     (λ e. let q = eqb-true o 0 e in no-unstuck _ refl (subst (λ (i : ℕ). Unstuck (binaryValue T (binaryAt i) τ us σ vs)) q u))
     (λ e. let q = eqb-false o 0 e in omega arith)
 
-module _ (t m p : List ℕ) (x : Context) (h : Ready t m p x) (n : ℕ) (b : Bool) (c : Binary (decoded t) (memoryOf m) (memoryOf p) (contextIn x) n b) (v q : ℕ) (hv : v ≡ nodeP (decoded t) n) (hq : q ≡ nodeQ (decoded t) n) where
+module _ (t m p : List ℕ) (x : Context) (h : Ready t m p x) (n : ℕ) (b : Bool) (c : BinaryNode (decoded t) (memoryOf m) (memoryOf p) (contextIn x) n b) (v q : ℕ) (hv : v ≡ nodeP (decoded t) n) (hq : q ≡ nodeQ (decoded t) n) where
   pub within-table : n < nodeCount (decoded t)
   within-table = c .evaluable .expression .below
 

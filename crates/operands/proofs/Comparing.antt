@@ -27,9 +27,9 @@ use Rattle.machine.proofs.Tests.{range-high}
 use Rattle.machine.proofs.TextLaws.{text-long, evened-high}
 use Rattle.code.specs.Code.{decoded}
 use Rattle.operands.specs.declared.Context.{Context}
-use Rattle.operands.specs.Answers.{firstWord, nodeWords, Unstuck, Binary, Retrieval, Several}
+use Rattle.operands.specs.Answers.{firstWord, nodeWords, Unstuck, BinaryNode, Retrieval, Several}
 use Rattle.operands.specs.Operators.{equality}
-use Rattle.operands.specs.Packed.{Listed, Evaluated, Held, Source}
+use Rattle.operands.specs.Packed.{FailureListed, Evaluated, RetrievedFrom, ValueSource}
 use Rattle.operands.specs.Ready.{contextIn, Ready}
 use Rattle.operands.specs.Sources.{sourceWords, failing, Sourced, Compared}
 use Rattle.operands.proofs.Packing.{tell-word, tell-failure}
@@ -50,7 +50,7 @@ equality-first T o τ σ us vs l u =
     (λ e. let q = equal-two T o τ σ us vs l u (eqb-false o 1 e) in rw q (sym (first-unequal T τ σ us vs (rw q at u))))
 
 -- a failure's number is below that of any string constant
-listed-high : (r : ℕ) → Listed r → r < 131072
+listed-high : (r : ℕ) → FailureListed r → r < 131072
 unfolding isFailure
 listed-high r h =
     cases (ltb r 65536)
@@ -67,7 +67,7 @@ module _ (t m p : List ℕ) (x : Context) (h : Ready t m p x) (n : ℕ) (c : Sev
   several-low = c .small
 
   module _ (k : ℕ) (hk : k ≡ nodeKind (decoded t) n) where
-    pub source-text : (r : ℕ) → k ≡ 8 → r ≡ 131072 + n → Source t m p x n r
+    pub source-text : (r : ℕ) → k ≡ 8 → r ≡ 131072 + n → ValueSource t m p x n r
     source-text r e g =
         record {
           retrieves = λ l. absurd (omega arith);
@@ -82,7 +82,7 @@ module _ (t m p : List ℕ) (x : Context) (h : Ready t m p x) (n : ℕ) (c : Sev
           let b = c .evaluable .expression in
           record { evaluable = c .evaluable; kind = only-retrieval (decoded t) _ n (h .ranged) (h .typed) (b .below) b (c .words) (λ g. e (hk ∙ g)) }
 
-      pub source-held : (r : ℕ) → Held t m p x n r → Source t m p x n r
+      pub source-held : (r : ℕ) → RetrievedFrom t m p x n r → ValueSource t m p x n r
       source-held r g =
           let d = listed-high r (g .listed) in
           record {
@@ -98,12 +98,12 @@ module _ (t m p : List ℕ) (x : Context) (h : Ready t m p x) (n : ℕ) (c : Sev
 pub ruleset sources = (several-low, source-text, source-retrieval, source-held, source-below)
 
 -- an operand that has several words, and came to a source
-module _ (t m p : List ℕ) (x : Context) (h : Ready t m p x) (n : ℕ) (c : Several (decoded t) (memoryOf m) (memoryOf p) (contextIn x) n) (r : ℕ) (hr : Source t m p x n r) where
+module _ (t m p : List ℕ) (x : Context) (h : Ready t m p x) (n : ℕ) (c : Several (decoded t) (memoryOf m) (memoryOf p) (contextIn x) n) (r : ℕ) (hr : ValueSource t m p x n r) where
   source-failed : failing r ≡ true → words.fail (r - 65536) ≡ firstWord (out t m p x n)
   unfolding firstWord
   source-failed e = let d = hr .held (failing-high r e) .fails (failing-low r e) in rw d refl
 
-  source-listed : failing r ≡ true → Listed r
+  source-listed : failing r ≡ true → FailureListed r
   source-listed e = hr .held (failing-high r e) .listed
 
   module _ (e : failing r ≡ false) where
@@ -170,7 +170,7 @@ module _ (t m p : List ℕ) (x : Context) (h : Ready t m p x) (n : ℕ) (c : Sev
           few = cases (ltb r 65536) (λ g. here-few (ltb-true r 65536 g)) (λ g. text-few (ltb-false r 65536 g));
         }
 
-module _ (t m p : List ℕ) (x : Context) (h : Ready t m p x) (n : ℕ) (c : Binary (decoded t) (memoryOf m) (memoryOf p) (contextIn x) n true) (v q : ℕ) (hv : Field (nodeP (decoded t) n) v) (hq : Field (nodeQ (decoded t) n) q) where
+module _ (t m p : List ℕ) (x : Context) (h : Ready t m p x) (n : ℕ) (c : BinaryNode (decoded t) (memoryOf m) (memoryOf p) (contextIn x) n true) (v q : ℕ) (hv : Field (nodeP (decoded t) n) v) (hq : Field (nodeQ (decoded t) n) q) where
   pub left-several : Several (decoded t) (memoryOf m) (memoryOf p) (contextIn x) v
   left-several =
       let e = hv .is in
@@ -186,7 +186,7 @@ module _ (t m p : List ℕ) (x : Context) (h : Ready t m p x) (n : ℕ) (c : Bin
   counts : nodeWords (decoded t) v ≡ nodeWords (decoded t) q
   counts = operands-match t m p x h n true c v q (hv .is) (hq .is) (compares-equal (decoded t) n (c .compares))
 
-  module _ (l : ℕ) (hl : Source t m p x v l) (d : Bool) (hd : d ≡ failing l) where
+  module _ (l : ℕ) (hl : ValueSource t m p x v l) (d : Bool) (hd : d ≡ failing l) where
     pub first-fails : d ≡ true → Evaluated t m p x n l
     first-fails e =
         let g = sym hd ∙ e in
@@ -212,7 +212,7 @@ module _ (t m p : List ℕ) (x : Context) (h : Ready t m p x) (n : ℕ) (c : Bin
       pub second-below : (u : ℕ) → 3 * n ≡ u → 3 * q + 1 < u
       second-below u e = let g = right-node t m p x h n true c v q (hv .is) (hq .is) .below in omega arith
 
-      module _ (r : ℕ) (hr : Source t m p x q r) (f : Bool) (hf : f ≡ failing r) where
+      module _ (r : ℕ) (hr : ValueSource t m p x q r) (f : Bool) (hf : f ≡ failing r) where
         pub second-fails : f ≡ true → Evaluated t m p x n r
         second-fails e =
             let g = sym hf ∙ e in

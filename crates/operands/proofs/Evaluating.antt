@@ -37,9 +37,9 @@ use Rattle.code.specs.Code.{slotIn, decoded}
 use Rattle.operands.specs.declared.Context.{Context}
 use Rattle.operands.specs.declared.Place.{Place}
 use Rattle.operands.specs.declared.Place.the-variants as place
-use Rattle.operands.specs.Answers.{firstWord, single, structured, Unstuck, Evaluable, OneWord, Binary, Retrieval, Retrieved}
+use Rattle.operands.specs.Answers.{firstWord, single, structured, Unstuck, Evaluable, OneWord, BinaryNode, Retrieval, Retrieved}
 use Rattle.operands.specs.Operators.{unaryWord, binaryWord}
-use Rattle.operands.specs.Packed.{valueAt, WordIs, Located, Evaluated, Held}
+use Rattle.operands.specs.Packed.{valueAt, WordIs, Located, Evaluated, RetrievedFrom}
 use Rattle.operands.specs.Places.{wholeAt}
 use Rattle.operands.specs.Ready.{contextIn, Ready, Naming, Valued, Counted}
 use Rattle.operands.proofs.Packing.{told-word, told-failure, told-place, told-no-place, tell-word, tell-failure, retell, unset-listed}
@@ -89,7 +89,7 @@ module _ (t m p : List ℕ) (x : Context) (h : Ready t m p x) (n : ℕ) where
     pub retrieval : k ≡ 4 → Retrieval (decoded t) (memoryOf m) (memoryOf p) (contextIn x) n
     retrieval e = record { evaluable = c; kind = sym hk ∙ e }
 
-    pub binary-node : (b d : Bool) → k ≡ 6 → b ≡ structured (decoded t) n → b ≡ d → Binary (decoded t) (memoryOf m) (memoryOf p) (contextIn x) n d
+    pub binary-node : (b d : Bool) → k ≡ 6 → b ≡ structured (decoded t) n → b ≡ d → BinaryNode (decoded t) (memoryOf m) (memoryOf p) (contextIn x) n d
     binary-node b d e hb g = record { evaluable = c; kind = sym hk ∙ e; compares = sym hb ∙ g }
 
     pub operand-counted : k ≡ 6 → Counted t (nodeP (decoded t) n)
@@ -149,7 +149,7 @@ module _ (t m p : List ℕ) (x : Context) (h : Ready t m p x) (n : ℕ) where
             (λ d. rw (the-unary (eqb-true k 5 d)) (failed-value _ _ _ q))
             (λ d. rw (the-transfer (eqb-false k 5 d)) (failed-value _ _ _ q)))
 
-        module _ (s : l < 65536) (w q : ℕ) (hw : w ≡ l) (hq : q ≡ nodeQ (decoded t) n) (o : words.Outcome) (r : ℕ) (hr : WordIs o r) where
+        module _ (s : l < 65536) (w q : ℕ) (hw : w ≡ l) (hq : q ≡ nodeQ (decoded t) n) (o : words.WordOutcome) (r : ℕ) (hr : WordIs o r) where
           one-typed : OfType (decoded t) (typeOf (decoded t) v) (out t m p x v)
           one-typed = typed-expression (decoded t) (memoryOf m) (memoryOf p) (contextIn x) (h .ranged) v (one-evaluable .expression) (one-single .numbered)
 
@@ -247,7 +247,7 @@ module _ (t m p : List ℕ) (x : Context) (h : Ready t m p x) (n : ℕ) (c : Ret
     unfolding firstWord
     held-fails g = let q = held-failed g in tell-failure (firstWord (out t m p x n)) l (hl .listed) g (rw q)
 
-    pub hold-fails : 65536 ≤ l → Held t m p x n l
+    pub hold-fails : 65536 ≤ l → RetrievedFrom t m p x n l
     hold-fails g =
         record {
           holds = λ s. absurd (omega arith);
@@ -271,7 +271,7 @@ module _ (t m p : List ℕ) (x : Context) (h : Ready t m p x) (n : ℕ) (c : Ret
         hold-room = rw hk (fits-high (decoded t) a (typeOf (decoded t) n) (there-fits a held-place))
 
         module _ (b : Bool) (hb : b ≡ allMarked (memoryOf m) a k) where
-          pub hold-returns : b ≡ true → Held t m p x n l
+          pub hold-returns : b ≡ true → RetrievedFrom t m p x n l
           hold-returns e =
               record {
                 holds = λ g. rw (← ha) (there-value a held-place (rw (← hk, ← hb) e));
@@ -280,7 +280,7 @@ module _ (t m p : List ℕ) (x : Context) (h : Ready t m p x) (n : ℕ) (c : Ret
                 listed = hl .listed;
               }
 
-          pub hold-unset : b ≡ false → Held t m p x n 65567
+          pub hold-unset : b ≡ false → RetrievedFrom t m p x n 65567
           hold-unset e =
               record {
                 holds = λ g. absurd (omega arith);

@@ -18,7 +18,7 @@ use Rattle.machine.specs.Texts.{textAt}
 use Rattle.machine.specs.Context.{Context}
 use Rattle.machine.specs.Outcomes.{ok, stuck, need, text, onPlace, onValue, onTyped, wordOf}
 use Rattle.machine.specs.Entries.{nodeOf, nodeAt, unaryAt, binaryAt}
-use Rattle.machine.specs.Operands.{simple, given, unaryValue, binaryValue, fieldPlace, elementPlace, wholePlace, retrieved, nodeOperand, operandAt, operand}
+use Rattle.machine.specs.Operands.{oneWord, given, unaryValue, binaryValue, fieldPlace, elementPlace, wholePlace, retrieved, nodeOperand, operandAt, operand}
 
 module _ (T : Table) (m page : Memory) (x : Context) where
   operand-is : (n : ℕ) → operand T m page x n ≡ nodeOperand T m page x (λ p. pick (ltb p n) (operand T m page x p) stuck) (nodeAt T n)
@@ -26,7 +26,7 @@ module _ (T : Table) (m page : Memory) (x : Context) where
   operand-is n = course-is stuck (operandAt T m page x) n
 
   module _ (n : ℕ) (l : n < nodeCount T) where
-    pub is-constant : nodeKind T n ≡ 0 → operand T m page x n ≡ need (ltb (nodeP T n) 3) (simple (nodeP T n) (nodeV T n))
+    pub is-constant : nodeKind T n ≡ 0 → operand T m page x n ≡ need (ltb (nodeP T n) 3) (oneWord (nodeP T n) (nodeV T n))
     unfolding nodeAt nodeOf nodeOperand
     is-constant e = operand-is n ∙ rw (lt-ltb n (nodeCount T) l, e)
 

@@ -32,9 +32,9 @@ use Rattle.machine.specs.Variables.{offsetOf}
 use Rattle.code.specs.Code.{slotIn, decoded}
 use Rattle.code.proofs.Slots.{slot-none}
 use Rattle.operands.specs.declared.Context.{Context}
-use Rattle.operands.specs.Bases.{contextAt, Based}
+use Rattle.operands.specs.Bases.{contextAt, BaseNumbers}
 use Rattle.operands.specs.Packed.{PlaceIs}
-use Rattle.operands.specs.Places.{numbered, framed, frameAt, wholeAt, IndexIs, elementAt, Matched}
+use Rattle.operands.specs.Places.{numbered, frameOffset, frameVariableAt, wholeAt, IndexIs, elementAt, Matched}
 use Rattle.operands.specs.Ready.{Naming, Fielded, Sized, Indexed, Valued, Counted}
 
 pub memory-word : (s : List ℕ) (a r : ℕ) → r ≡ wordAt s a → r ≡ memoryOf s a
@@ -53,18 +53,18 @@ module _ (t : List ℕ) (x : Context) (v : ℕ) (h : Naming t x v) (w : ℕ) (e 
   module-low n = let g = module-is n in let u = h .named .ofModule n .1 in omega arith
 
   frame-is : numbered (decoded t) (x .owner) v ≡ false → w ≡ offsetOf (decoded t) (x .block) v
-  unfolding framed
+  unfolding frameOffset
   frame-is n =
       let u = h .named .ofFrame n in
       let g = h .code .offsets (x .block) v (u .0) in
       let l = u .1 in omega arith
 
   frame-low : numbered (decoded t) (x .owner) v ≡ false → x .frame + 4 + w < 256
-  unfolding framed
+  unfolding frameOffset
   frame-low n = let u = h .named .ofFrame n .1 in let g = frame-is n in omega arith
 
 -- the same by the numbers that a context is lent as
-module _ (t l : List ℕ) (v : ℕ) (h : Naming t (contextAt l) v) (g : Based t l) (b : Bool) (hb : b ≡ both (leb (getD l 6 0) v) (ltb v (getD l 7 0))) (w : ℕ) (hw : w ≡ slotIn t v 10) where
+module _ (t l : List ℕ) (v : ℕ) (h : Naming t (contextAt l) v) (g : BaseNumbers t l) (b : Bool) (hb : b ≡ both (leb (getD l 6 0) v) (ltb v (getD l 7 0))) (w : ℕ) (hw : w ≡ slotIn t v 10) where
   is-numbered : b ≡ numbered (decoded t) (contextAt l .owner) v
   unfolding numbered within
   is-numbered = let e = g .first in let d = g .after in hb ∙ rw (e, d)
@@ -87,8 +87,8 @@ module _ (t l : List ℕ) (v : ℕ) (h : Naming t (contextAt l) v) (g : Based t 
         let a = g .owned in rw (n, ← i) (omega arith)
 
   module _ (e : b ≡ false) where
-    framed-sum : getD l 9 0 + w ≡ location (contextAt l .process) (framed (decoded t) (contextAt l) v)
-    unfolding framed location
+    framed-sum : getD l 9 0 + w ≡ location (contextAt l .process) (frameOffset (decoded t) (contextAt l) v)
+    unfolding frameOffset location
     framed-sum =
         let n = sym is-numbered ∙ e in
         let i = frame-is t (contextAt l) v h w hw n in
@@ -96,7 +96,7 @@ module _ (t l : List ℕ) (v : ℕ) (h : Naming t (contextAt l) v) (g : Based t 
         let a = g .framed (omega arith) in rw (← i) (omega arith)
 
     pub framed-low : getD l 9 0 + w < locations
-    unfolding framed location
+    unfolding frameOffset location
     framed-low =
         let a = framed-sum in
         let i = h .named .ofFrame (sym is-numbered ∙ e) .1 in let j = h .context .processHigh in omega arith
@@ -106,11 +106,11 @@ module _ (t l : List ℕ) (v : ℕ) (h : Naming t (contextAt l) v) (g : Based t 
 
     module _ (m : Memory) (d : ℕ) (hd : d ≡ varMode (decoded t) v) where
       pub frame-own : (d ≡ 2 → ⊥) → getD l 9 0 + w ≡ wholeAt (decoded t) m (contextAt l) v
-      unfolding wholeAt frameAt
+      unfolding wholeAt frameVariableAt
       frame-own n = rw (← is-numbered, e, ← hd, ne-eqb d 2 n) framed-sum
 
       pub frame-bound : (u r : ℕ) → d ≡ 2 → r ≡ u → u ≡ m (getD l 9 0 + w) → r ≡ wholeAt (decoded t) m (contextAt l) v
-      unfolding wholeAt frameAt
+      unfolding wholeAt frameVariableAt
       frame-bound u r i f k = rw (← is-numbered, e, ← hd, i, ← framed-sum) (f ∙ k)
 
 -- fields

@@ -21,9 +21,9 @@ use Rattle.machine.proofs.Memories.{length-words, words-at}
 use Rattle.machine.proofs.TextLaws.{text-long, text-at}
 use Rattle.code.specs.Code.{decoded, textWord}
 use Rattle.operands.specs.Answers.{nodeWords}
-use Rattle.operands.specs.Places.{Rooms, Matched}
+use Rattle.operands.specs.Places.{WordsInAreas, Matched}
 use Rattle.operands.specs.Ready.{Valued}
-use Rattle.operands.specs.Sources.{sourceWord, sourceWords, failing, Sourced, Compared}
+use Rattle.operands.specs.Sources.{sourceWordAt, sourceWords, failing, Sourced, Compared}
 use Rattle.operands.proofs.TypeWords.{words-constant, words-numbered}
 use Rattle.operands.proofs.Standing.{matched-none, matched-more, matched-not, matched-all}
 
@@ -38,26 +38,26 @@ words-are f b (w ∷ ws) h =
 
 module _ (T : Table) (m : Memory) (r : ℕ) where
   module _ (l : r < 65536) where
-    word-location : (i : ℕ) → sourceWord T m r i ≡ m (r + i)
-    unfolding sourceWord
+    word-location : (i : ℕ) → sourceWordAt T m r i ≡ m (r + i)
+    unfolding sourceWordAt
     word-location i = rw (lt-ltb r 65536 l)
 
     pub words-location : (n : ℕ) → sourceWords T m r n ≡ wordsAt m r n
     unfolding sourceWords
     words-location n =
-        let g = words-are (sourceWord T m r) 0 (wordsAt m r n) (λ i h. let k = length-words m r n in let z : 0 + i ≡ i = omega arith in rw z (word-location i ∙ sym (words-at m r n i (omega arith)))) in
+        let g = words-are (sourceWordAt T m r) 0 (wordsAt m r n) (λ i h. let k = length-words m r n in let z : 0 + i ≡ i = omega arith in rw z (word-location i ∙ sym (words-at m r n i (omega arith)))) in
         rw (length-words m r n) at g
 
   module _ (l : 131072 ≤ r) where
-    word-text : (i : ℕ) → sourceWord T m r i ≡ textWord T (nodeP T (r - 131072)) (nodeQ T (r - 131072)) i
-    unfolding sourceWord
+    word-text : (i : ℕ) → sourceWordAt T m r i ≡ textWord T (nodeP T (r - 131072)) (nodeQ T (r - 131072)) i
+    unfolding sourceWordAt
     word-text i = rw (le-ltb r 65536 (omega arith))
 
     pub words-text : (n : ℕ) → r - 131072 ≡ n → sourceWords T m r (evened (nodeQ T n)) ≡ textAt T (nodeP T n) (nodeQ T n)
     unfolding sourceWords textWord
     words-text n e =
         let k = text-long T (nodeP T n) (nodeQ T n) in
-        let g = words-are (sourceWord T m r) 0 (textAt T (nodeP T n) (nodeQ T n)) (λ i h. let z : 0 + i ≡ i = omega arith in rw z (word-text i ∙ rw e (sym (text-at T (nodeP T n) (nodeQ T n) i (omega arith))))) in
+        let g = words-are (sourceWordAt T m r) 0 (textAt T (nodeP T n) (nodeQ T n)) (λ i h. let z : 0 + i ≡ i = omega arith in rw z (word-text i ∙ rw e (sym (text-at T (nodeP T n) (nodeQ T n) i (omega arith))))) in
         rw k at g
 
 -- ---- the laws of `source_word`
@@ -65,7 +65,7 @@ module _ (T : Table) (s : List ℕ) (r i : ℕ) where
   pub location-room : Sourced s r (i + 1) → r < 65536 → (a : ℕ) → a ≡ r → a + i < locations
   location-room h l a e = let g = h .room l in omega arith
 
-  pub location-returns : (a w u : ℕ) → r < 65536 → a ≡ r → w ≡ memoryOf s (a + i) → u ≡ w → u ≡ sourceWord T (memoryOf s) r i
+  pub location-returns : (a w u : ℕ) → r < 65536 → a ≡ r → w ≡ memoryOf s (a + i) → u ≡ w → u ≡ sourceWordAt T (memoryOf s) r i
   location-returns a w u l e g d = d ∙ (g ∙ (rw e (sym (word-location T (memoryOf s) r l i))))
 
   pub text-high : Sourced s r (i + 1) → 65536 ≤ r → 131072 ≤ r
@@ -74,7 +74,7 @@ module _ (T : Table) (s : List ℕ) (r i : ℕ) where
   pub text-low : Sourced s r (i + 1) → (p : ℕ) → p < 65536 → (p < 65536) × (i < 65536)
   text-low h p l = let g = h .few in (l, omega arith)
 
-  pub text-returns : (n p q u : ℕ) → Sourced s r (i + 1) → 65536 ≤ r → n ≡ r - 131072 → p ≡ nodeP T n → q ≡ nodeQ T n → u ≡ textWord T p q i → u ≡ sourceWord T (memoryOf s) r i
+  pub text-returns : (n p q u : ℕ) → Sourced s r (i + 1) → 65536 ≤ r → n ≡ r - 131072 → p ≡ nodeP T n → q ≡ nodeQ T n → u ≡ textWord T p q i → u ≡ sourceWordAt T (memoryOf s) r i
   text-returns n p q u h l e hp hq g = g ∙ (rw (hp, hq, e) (sym (word-text T (memoryOf s) r (h .text l) i)))
 
 pub ruleset words-read = (location-room, location-returns, text-high, text-low, text-returns)
@@ -85,22 +85,22 @@ sourced-word s r n i h l = let f = h .few in record { state = h .state; room = �
 
 module _ (T : Table) (m : Memory) (a b n : ℕ) where
   abbrev pub Alike : ℕ → Type 0
-  Alike i = Matched (sourceWord T m a) (sourceWord T m b) 0 0 n i
+  Alike i = Matched (sourceWordAt T m a) (sourceWordAt T m b) 0 0 n i
 
   pub alike-none : Alike 0
-  alike-none = matched-none (sourceWord T m a) (sourceWord T m b) 0 0 n
+  alike-none = matched-none (sourceWordAt T m a) (sourceWordAt T m b) 0 0 n
 
-  module _ (i : ℕ) (h : Alike i) (u v : ℕ) (l : i < n) (hu : u ≡ sourceWord T m a i) (hv : v ≡ sourceWord T m b i) where
+  module _ (i : ℕ) (h : Alike i) (u v : ℕ) (l : i < n) (hu : u ≡ sourceWordAt T m a i) (hv : v ≡ sourceWordAt T m b i) where
     pub alike-more : u ≡ v → Alike (i + 1)
-    alike-more e = let z : 0 + i ≡ i = omega arith in matched-more (sourceWord T m a) (sourceWord T m b) 0 0 n i h u v l (rw z hu) (rw z hv) e
+    alike-more e = let z : 0 + i ≡ i = omega arith in matched-more (sourceWordAt T m a) (sourceWordAt T m b) 0 0 n i h u v l (rw z hu) (rw z hv) e
 
     pub alike-not : (u ≡ v → ⊥) → false ≡ same (sourceWords T m a n) (sourceWords T m b n)
     unfolding sourceWords
-    alike-not e = let z : 0 + i ≡ i = omega arith in matched-not (sourceWord T m a) (sourceWord T m b) 0 0 n i h u v l (rw z hu) (rw z hv) e
+    alike-not e = let z : 0 + i ≡ i = omega arith in matched-not (sourceWordAt T m a) (sourceWordAt T m b) 0 0 n i h u v l (rw z hu) (rw z hv) e
 
   pub alike-all : (i : ℕ) → Alike i → n ≤ i → true ≡ same (sourceWords T m a n) (sourceWords T m b n)
   unfolding sourceWords
-  alike-all i h l = matched-all (sourceWord T m a) (sourceWord T m b) 0 0 n i h l
+  alike-all i h l = matched-all (sourceWordAt T m a) (sourceWordAt T m b) 0 0 n i h l
 
 pub ruleset alikes = (sourced-word, alike-none, alike-more, alike-not, alike-all)
 
@@ -114,7 +114,7 @@ module _ (t s : List ℕ) (p a b : ℕ) (h : Compared t s p a b) where
       value-count : n ≡ nodeWords (decoded t) p
       value-count = hn ∙ sym (words-numbered (decoded t) p (h .numbered l))
 
-      pub value-rooms : b < 65536 → (i j : ℕ) → i ≡ a → j ≡ b → Rooms s i j n
+      pub value-rooms : b < 65536 → (i j : ℕ) → i ≡ a → j ≡ b → WordsInAreas s i j n
       value-rooms g i j hi hj =
           let k = value-count in
           let d = h .left .room l in

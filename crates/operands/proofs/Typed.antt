@@ -24,10 +24,10 @@ use Rattle.sizes.proofs.Counting.{words-standard}
 use Rattle.words.specs.Outcomes as words
 use Rattle.machine.specs.Memory.{Memory, wordsAt}
 use Rattle.machine.specs.Context.{Context}
-use Rattle.machine.specs.Outcomes.{Outcome, ok, fail, stuck, andThen, need, failWhere, Operand, place, value, text, placed, valued, typed, onPlace, onValue, onTyped, onWord, wordOf}
+use Rattle.machine.specs.Outcomes.{Outcome, ok, fail, stuck, andThen, need, failWhere, Operand, place, value, text, placed, valued, typedWords, onPlace, onValue, onTyped, onWord, wordOf}
 use Rattle.machine.specs.Entries.{recordType, arrayType, typeAt, noUnary, unaryAt, noBinary, binaryAt}
 use Rattle.machine.specs.Variables.{fits, belongs}
-use Rattle.machine.specs.Operands.{simple, truth, given, unaryValue, ordered, integral, logical, binaryValue, outside, onRecord, onArray, placeAt, fieldPlace, elementPlace, moduleVariable, frameVariable, wholePlace, retrieved, operand}
+use Rattle.machine.specs.Operands.{oneWord, truth, given, unaryValue, ordered, integral, logical, binaryValue, outside, onRecord, onArray, placeAt, fieldPlace, elementPlace, moduleVariable, frameVariable, wholePlace, retrieved, operand}
 use Rattle.operands.proofs.Nodes.{is-constant, is-string, is-whole, is-field, is-element, is-retrieve, is-unary, is-binary, is-transfer, type-constant, type-whole, type-field, type-element, type-retrieve, type-unary, type-binary, type-transfer}
 
 pub seven : (k : ℕ) → k ≤ 7 → eqb k 0 ≡ false → eqb k 1 ≡ false → eqb k 2 ≡ false → eqb k 3 ≡ false → eqb k 4 ≡ false → eqb k 5 ≡ false → eqb k 6 ≡ false → k ≡ 7
@@ -65,11 +65,11 @@ module _ (T : Table) (τ : ℕ) where
   of-failWhere true k o f = a-failure
   of-failWhere false k o f = f
 
-  of-simple : (w : ℕ) → τ < 3 → OfType T τ (simple τ w)
-  unfolding simple
+  of-simple : (w : ℕ) → τ < 3 → OfType T τ (oneWord τ w)
+  unfolding oneWord
   of-simple w l = a-value (sym (words-standard T τ l))
 
-  of-given : (o : words.Outcome) → τ < 3 → OfType T τ (given τ o)
+  of-given : (o : words.WordOutcome) → τ < 3 → OfType T τ (given τ o)
   unfolding given
   of-given (words.word w) l = of-simple w l
   of-given (words.fail k) l = a-failure
@@ -93,7 +93,7 @@ module _ (T : Table) (τ : ℕ) where
   of-onValue σ stuck g a-stuck f = a-stuck
 
   of-onTyped : (σ : ℕ) (o : Outcome Operand) (g : NodeType → List ℕ → Outcome Operand) → OfType T σ o → ((ws : List ℕ) → OfType T τ (g (numbered σ) ws)) → OfType T τ (onTyped o g)
-  unfolding onTyped andThen typed
+  unfolding onTyped andThen typedWords
   of-onTyped σ (ok (place a ρ)) g (a-place e) f = a-stuck
   of-onTyped σ (ok (value ρ ws)) g (a-value e) f = f ws
   of-onTyped σ (fail k) g a-failure f = a-failure
@@ -216,11 +216,11 @@ binary-cases P (suc (suc (suc (suc (suc (suc (suc (suc (suc (suc (suc (suc zero)
 binary-cases P (suc (suc (suc (suc (suc (suc (suc (suc (suc (suc (suc (suc (suc zero))))))))))))) p₁ p₂ p₃ p₄ p₅ p₆ p₇ p₈ p₉ q₀ q₁ q₂ q₃ none = q₃
 binary-cases P (suc (suc (suc (suc (suc (suc (suc (suc (suc (suc (suc (suc (suc (suc o)))))))))))))) p₁ p₂ p₃ p₄ p₅ p₆ p₇ p₈ p₉ q₀ q₁ q₂ q₃ none = none refl
 
-of-not : (T : Table) (τ i b : ℕ) → OfType T τ (pick (eqb τ 0) (simple 0 i) (need (eqb τ 1) (simple 1 b)))
+of-not : (T : Table) (τ i b : ℕ) → OfType T τ (pick (eqb τ 0) (oneWord 0 i) (need (eqb τ 1) (oneWord 1 b)))
 of-not T τ i b =
     cases (eqb τ 0)
     (λ e. let q = eqb-true τ 0 e in rw q (of-simple T 0 i (omega arith)))
-    (λ e. rw e (of-need T τ (eqb τ 1) (simple 1 b) (λ g. let q = eqb-true τ 1 g in rw q (of-simple T 1 b (omega arith)))))
+    (λ e. rw e (of-need T τ (eqb τ 1) (oneWord 1 b) (λ g. let q = eqb-true τ 1 g in rw q (of-simple T 1 b (omega arith)))))
 
 of-unary : (T : Table) (page : Memory) (o τ w : ℕ) → OfType T (unaryType o τ) (unaryValue page (unaryAt o) τ w)
 unfolding unaryType unaryValue unaryAt
@@ -238,7 +238,7 @@ of-ordered : (T : Table) (τ σ : ℕ) (c : Bool) → OfType T 1 (ordered τ σ 
 unfolding ordered
 of-ordered T τ σ c = of-equal T (both (eqb τ σ) (ltb τ 3)) c
 
-of-integral : (T : Table) (τ σ : ℕ) (o : words.Outcome) → OfType T 0 (integral τ σ o)
+of-integral : (T : Table) (τ σ : ℕ) (o : words.WordOutcome) → OfType T 0 (integral τ σ o)
 unfolding integral
 of-integral T τ σ o = of-need T 0 _ _ (λ e. of-given T 0 o (omega arith))
 
@@ -281,7 +281,7 @@ module _ (T : Table) (m page : Memory) (x : Context) (h : inRange T ≡ true) wh
         (λ e. let q = eqb-false (nodeKind T p) 8 e in of-onValue T τ (typeOf T p) _ g (r (omega arith)) f)
 
     of-any : (g : NodeType → List ℕ → Outcome Operand) → ((κ : NodeType) (ws : List ℕ) → numberOf κ ≡ typeOf T p → OfType T τ (g κ ws)) → OfType T τ (onTyped (operand T m page x p) g)
-    unfolding onTyped andThen typed numberOf
+    unfolding onTyped andThen typedWords numberOf
     of-any g f =
         cases (eqb (nodeKind T p) 8)
         (λ e. let q = eqb-true (nodeKind T p) 8 e in rw (is-string T m page x p l q) (f _ _ (sym (constant-none T p q))))

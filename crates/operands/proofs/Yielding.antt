@@ -18,15 +18,15 @@ use Rattle.types.specs.Match.{offset, matching, isEqual}
 use Rattle.sizes.specs.Sizes.{wordsOf}
 use Rattle.words.specs.Outcomes as words
 use Rattle.words.specs.Memory.{wordAtByte}
-use Rattle.words.specs.Numbers.{intOf, between}
+use Rattle.words.specs.Numbers.{intOf, betweenZ}
 use Rattle.words.specs.Operators.{leW, boolWord}
 use Rattle.words.specs.Devices.{isDevice, positionOf}
 use Rattle.words.specs.Pages.{readDevice}
 use Rattle.machine.specs.Memory.{Memory, memoryOf, wordsAt}
-use Rattle.machine.specs.Outcomes.{Outcome, ok, fail, stuck, andThen, need, failWhere, Operand, place, value, text, valued, typed, onPlace, onValue, onTyped, onWord, wordOf}
+use Rattle.machine.specs.Outcomes.{Outcome, ok, fail, stuck, andThen, need, failWhere, Operand, place, value, text, valued, typedWords, onPlace, onValue, onTyped, onWord, wordOf}
 use Rattle.machine.specs.Entries.{Unary, unaryAt, Binary, binaryAt, equal, notEqual}
 use Rattle.machine.specs.Variables.{fits}
-use Rattle.machine.specs.Operands.{simple, truth, given, same, deviceWord, unaryValue, ordered, integral, logical, binaryValue}
+use Rattle.machine.specs.Operands.{oneWord, truth, given, same, deviceWord, unaryValue, ordered, integral, logical, binaryValue}
 use Rattle.operands.specs.Answers.{firstWord, Unstuck, goes, fails}
 use Rattle.operands.specs.Operators.{unaryWord, logic, binaryWord}
 use Rattle.operands.proofs.Typed.{OfType, a-place, a-value, a-failure, unary-cases, binary-cases}
@@ -76,11 +76,11 @@ pub record Comes (o : Outcome Operand) (κ : NodeType) (us : List ℕ) : Type 0 
   pub is : (g : NodeType → List ℕ → Outcome Operand) → onTyped o g ≡ g κ us
 
 pub comes-value : (o : Outcome Operand) (τ : ℕ) (us : List ℕ) → o ≡ ok (value τ us) → Comes o (numbered τ) us
-unfolding onTyped andThen typed
+unfolding onTyped andThen typedWords
 comes-value o τ us e = record { is = λ g. rw e refl }
 
 pub comes-text : (o : Outcome Operand) (us : List ℕ) → o ≡ ok (text us) → Comes o (string (length us)) us
-unfolding onTyped andThen typed
+unfolding onTyped andThen typedWords
 comes-text o us e = record { is = λ g. rw e refl }
 
 no-word : {A : Type 0} (w : ℕ) (k : ℕ) → words.word w ≡ words.fail k → A
@@ -93,7 +93,7 @@ module _ (T : Table) (τ : ℕ) where
   gave (fail k) w g h a-failure e = no-word w k e
 
   pub gave-typed : (o : Outcome Operand) (w : ℕ) (g : NodeType → List ℕ → Outcome Operand) → Unstuck (onTyped o g) → OfType T τ o → words.word w ≡ firstWord o → Gave T o τ w
-  unfolding onTyped andThen typed firstWord
+  unfolding onTyped andThen typedWords firstWord
   gave-typed (ok (value σ ws)) w g h (a-value l) e = record { words = ws; is = refl; first = cc; long = l }
   gave-typed (fail k) w g h a-failure e = no-word w k e
 
@@ -127,28 +127,28 @@ same-one u v = cases (eqb u v) (λ e. rw e) (λ e. rw e)
 first-need : (b : Bool) (o : Outcome Operand) → Unstuck (need b o) → firstWord (need b o) ≡ firstWord o
 first-need b o h = ap firstWord (need-is b o h)
 
-first-given : (τ : ℕ) (o : words.Outcome) → firstWord (given τ o) ≡ o
-unfolding given simple firstWord wordOf
+first-given : (τ : ℕ) (o : words.WordOutcome) → firstWord (given τ o) ≡ o
+unfolding given oneWord firstWord wordOf
 first-given τ (words.word w) = refl
 first-given τ (words.fail k) = refl
 
-pub first-simple : (τ w : ℕ) → firstWord (simple τ w) ≡ words.word w
-unfolding simple firstWord wordOf
+pub first-simple : (τ w : ℕ) → firstWord (oneWord τ w) ≡ words.word w
+unfolding oneWord firstWord wordOf
 first-simple τ w = refl
 
 first-truth : (b : Bool) → firstWord (truth b) ≡ words.word (boolWord b)
 unfolding truth
 first-truth b = first-simple 1 (boolWord b)
 
-pub first-constant : (b : Bool) (τ w : ℕ) → Unstuck (need b (simple τ w)) → firstWord (need b (simple τ w)) ≡ words.word w
-first-constant b τ w h = first-need b (simple τ w) h ∙ first-simple τ w
+pub first-constant : (b : Bool) (τ w : ℕ) → Unstuck (need b (oneWord τ w)) → firstWord (need b (oneWord τ w)) ≡ words.word w
+first-constant b τ w h = first-need b (oneWord τ w) h ∙ first-simple τ w
 
-pub first-transfer : (b : Bool) (τ : ℕ) (o : words.Outcome) → Unstuck (need b (given τ o)) → firstWord (need b (given τ o)) ≡ o
+pub first-transfer : (b : Bool) (τ : ℕ) (o : words.WordOutcome) → Unstuck (need b (given τ o)) → firstWord (need b (given τ o)) ≡ o
 first-transfer b τ o h = first-need b (given τ o) h ∙ first-given τ o
 
 -- device locations are even
 position-even : (x : ℤ) → isDevice x ≡ true → positionOf x / 2 * 2 ≡ positionOf x
-unfolding isDevice positionOf between
+unfolding isDevice positionOf betweenZ
 position-even (pos n) h = no-true (both-r _ _ (both-r _ _ h))
 position-even (negsuc n) h =
     let e = eqb-true (suc n % 2) 0 (both-l _ _ h) in
@@ -159,16 +159,16 @@ device-word : (pg : List ℕ) (w : ℕ) → isDevice (intOf w) ≡ true → memo
 unfolding memoryOf deviceWord wordAtByte
 device-word pg w h = rw (position-even (intOf w) h)
 
-first-device : (pg : List ℕ) (w : ℕ) → firstWord (failWhere (bool.not (isDevice (intOf w))) 21 (simple 0 (memoryOf pg (deviceWord w)))) ≡ readDevice pg w
-unfolding readDevice failWhere firstWord simple wordOf
+first-device : (pg : List ℕ) (w : ℕ) → firstWord (failWhere (bool.not (isDevice (intOf w))) 21 (oneWord 0 (memoryOf pg (deviceWord w)))) ≡ readDevice pg w
+unfolding readDevice failWhere firstWord oneWord wordOf
 first-device pg w =
     cases (isDevice (intOf w))
     (λ e. rw (e, device-word pg w e))
     (λ e. rw e)
 
 -- not, and, or: integers or booleans
-first-either : (τ i b : ℕ) → Unstuck (pick (eqb τ 0) (simple 0 i) (need (eqb τ 1) (simple 1 b)))
-    → firstWord (pick (eqb τ 0) (simple 0 i) (need (eqb τ 1) (simple 1 b))) ≡ words.word (pick (eqb τ 0) i b)
+first-either : (τ i b : ℕ) → Unstuck (pick (eqb τ 0) (oneWord 0 i) (need (eqb τ 1) (oneWord 1 b)))
+    → firstWord (pick (eqb τ 0) (oneWord 0 i) (need (eqb τ 1) (oneWord 1 b))) ≡ words.word (pick (eqb τ 0) i b)
 first-either τ i b h =
     cases (eqb τ 0)
     (λ e. rw e (first-simple 0 i))
@@ -183,7 +183,7 @@ first-ordered : (τ σ : ℕ) (b : Bool) → Unstuck (ordered τ σ b) → first
 unfolding ordered
 first-ordered τ σ b h = first-need (both (eqb τ σ) (ltb τ 3)) (truth b) h ∙ first-truth b
 
-first-integral : (τ σ : ℕ) (o : words.Outcome) → Unstuck (integral τ σ o) → firstWord (integral τ σ o) ≡ o
+first-integral : (τ σ : ℕ) (o : words.WordOutcome) → Unstuck (integral τ σ o) → firstWord (integral τ σ o) ≡ o
 unfolding integral
 first-integral τ σ o h = first-need (both (eqb τ 0) (eqb σ 0)) (given 0 o) h ∙ first-given 0 o
 

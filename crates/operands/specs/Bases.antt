@@ -20,7 +20,7 @@ contextAt l = record {
 }
 
 -- the numbers of the owner's variables, the location where they begin, and that where the variables of the frame begin
-pub record Based (c l : List ℕ) : Type 0 where
+pub record BaseNumbers (c l : List ℕ) : Type 0 where
   pub first : getD l 6 0 ≡ firstVar (decoded c) (contextAt l .owner)
   pub after : getD l 7 0 ≡ firstVar (decoded c) (contextAt l .owner) + vars (decoded c) (contextAt l .owner)
   pub owned : getD l 8 0 ≡ location (contextAt l .works) 0
@@ -29,4 +29,4 @@ pub record Based (c l : List ℕ) : Type 0 where
 -- l is the context x
 pub record Bearing (c : List ℕ) (x : Context) (l : List ℕ) : Type 0 where
   pub context : contextAt l ≡ x
-  pub based : Based c l
+  pub based : BaseNumbers c l

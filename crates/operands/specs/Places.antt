@@ -22,24 +22,24 @@ unfoldable pub numbered : Table → ℕ → ℕ → Bool
 numbered T b v = within (firstVar T b) (vars T b) v
 
 -- variable v of the process's block stands at word k of its own area
-unfoldable pub framed : Table → Context → ℕ → ℕ
-framed T x v = x .frame + 4 + offsetOf T (x .block) v
+unfoldable pub frameOffset : Table → Context → ℕ → ℕ
+frameOffset T x v = x .frame + 4 + offsetOf T (x .block) v
 
 -- the location of a variable in a frame; a var parameter is bound to the location that stands there (12.1)
-unfoldable pub frameAt : Table → Memory → Context → ℕ → ℕ
-frameAt T m x v =
-    pick (eqb (varMode T v) 2) (m (location (x .process) (framed T x v))) (location (x .process) (framed T x v))
+unfoldable pub frameVariableAt : Table → Memory → Context → ℕ → ℕ
+frameVariableAt T m x v =
+    pick (eqb (varMode T v) 2) (m (location (x .process) (frameOffset T x v))) (location (x .process) (frameOffset T x v))
 
 -- the location of a whole variable: the module's or the procedure's (8.3, 13)
 unfoldable pub wholeAt : Table → Memory → Context → ℕ → ℕ
 wholeAt T m x v =
-    pick (numbered T (x .owner) v) (location (x .works) (offsetOf T (x .owner) v)) (frameAt T m x v)
+    pick (numbered T (x .owner) v) (location (x .works) (offsetOf T (x .owner) v)) (frameVariableAt T m x v)
 
 -- v is a variable that the process can name
 pub record Named (T : Table) (x : Context) (v : ℕ) : Type 0 where
   pub there : v < varCount T
   pub ofModule : numbered T (x .owner) v ≡ true → (belongs T (x .owner) v ≡ true) × (offsetOf T (x .owner) v < 256)
-  pub ofFrame : numbered T (x .owner) v ≡ false → (belongs T (x .block) v ≡ true) × (framed T x v < 256)
+  pub ofFrame : numbered T (x .owner) v ≡ false → (belongs T (x .block) v ≡ true) × (frameOffset T x v < 256)
 
 -- how many elements lie before the one with index value i, of index values from low to high (8.5); 65,536 where i is outside
 pub record IndexIs (low high i r : ℕ) : Type 0 where
@@ -51,7 +51,7 @@ unfoldable pub elementAt : Table → ℕ → ℕ → ℕ → ℕ
 elementAt T a τ i = a + (offset i - offset (typeLow T τ)) * wordsOf T (typeQ T τ)
 
 -- the n words at locations a and b lie in areas
-pub record Rooms (s : List ℕ) (a b n : ℕ) : Type 0 where
+pub record WordsInAreas (s : List ℕ) (a b n : ℕ) : Type 0 where
   pub state : length s ≡ stateSize
   pub first : a + n ≤ locations
   pub second : b + n ≤ locations

@@ -16,11 +16,11 @@ use Rattle.operands.specs.Answers.{nodeWords}
 use Rattle.operands.specs.Ready.{Valued}
 
 -- word i of what r stands for: the variable at a location, or the string constant of a node
-unfoldable pub sourceWord : Table → Memory → ℕ → ℕ → ℕ
-sourceWord T m r i = pick (ltb r 65536) (m (r + i)) (textWord T (nodeP T (r - 131072)) (nodeQ T (r - 131072)) i)
+unfoldable pub sourceWordAt : Table → Memory → ℕ → ℕ → ℕ
+sourceWordAt T m r i = pick (ltb r 65536) (m (r + i)) (textWord T (nodeP T (r - 131072)) (nodeQ T (r - 131072)) i)
 
 unfoldable pub sourceWords : Table → Memory → ℕ → ℕ → List ℕ
-sourceWords T m r n = wordsAt (sourceWord T m r) 0 n
+sourceWords T m r n = wordsAt (sourceWordAt T m r) 0 n
 
 -- r is a failure
 unfoldable pub failing : ℕ → Bool

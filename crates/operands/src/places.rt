@@ -25,9 +25,9 @@ ghost use Rattle.machine.specs.Operands.{outside, same};
 ghost use Rattle.machine.specs.Layout.{stateSize, locations};
 ghost use Rattle.code.specs.Code.{decoded};
 ghost use Rattle.operands.specs.Answers.{single};
-ghost use Rattle.operands.specs.Bases.{contextAt, Based};
+ghost use Rattle.operands.specs.Bases.{contextAt, BaseNumbers};
 ghost use Rattle.operands.specs.Packed.{PlaceIs, WordIs, valueAt};
-ghost use Rattle.operands.specs.Places.{wholeAt, IndexIs, elementAt, Rooms};
+ghost use Rattle.operands.specs.Places.{wholeAt, IndexIs, elementAt, WordsInAreas};
 ghost use Rattle.operands.specs.Ready.{Naming, Fielded, Sized, Indexed, Valued, Counted};
 
 pub fn wide(x: u16) -> usize
@@ -68,7 +68,7 @@ fn is_within(first: usize, after: usize, v: usize) -> bool
 // A whole variable is the module's or the procedure's (8.3, 13); a var parameter is bound to the location that stands there (12.1).
 pub fn whole_at(c: &code::Slots, state: &[u8], x: &Bases, v: usize) -> usize
     requires { ⌜ Naming (now c) (contextAt (now x)) v ⌝ }
-    requires { ⌜ Based (now c) (now x) ⌝ }
+    requires { ⌜ BaseNumbers (now c) (now x) ⌝ }
     requires { ⌜ length (now state) ≡ stateSize ⌝ }
     ensures { λ r. ⌜ r ≡ wholeAt (decoded (now (c .entry))) (memoryOf (now (state .entry))) (contextAt (now (x .entry))) v ⌝ }
 {
@@ -149,7 +149,7 @@ pub fn element_place(c: &code::Slots, a: usize, y: usize, i: u16) -> u32
 
 // The n words at two locations are the same.
 pub fn same_words(state: &[u8], a: usize, b: usize, n: usize) -> bool
-    requires { ⌜ Rooms (now state) a b n ⌝ }
+    requires { ⌜ WordsInAreas (now state) a b n ⌝ }
     ensures { λ r. ⌜ r ≡ same (wordsAt (memoryOf (now (state .entry))) a n) (wordsAt (memoryOf (now (state .entry))) b n) ⌝ }
 {
     let mut i = 0;

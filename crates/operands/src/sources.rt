@@ -12,12 +12,12 @@ ghost use Rattle.machine.specs.Memory.{memoryOf};
 ghost use Rattle.machine.specs.Operands.{same};
 ghost use Rattle.code.specs.Code.{decoded};
 ghost use Rattle.operands.specs.Answers.{nodeWords};
-ghost use Rattle.operands.specs.Sources.{sourceWord, sourceWords, Sourced, Compared};
+ghost use Rattle.operands.specs.Sources.{sourceWordAt, sourceWords, Sourced, Compared};
 
 // Word i of what r stands for.
 pub fn source_word(c: &code::Slots, state: &[u8], r: u32, i: usize) -> usize
     requires { ⌜ Sourced (now state) r (i + 1) ⌝ }
-    ensures { λ w. ⌜ w ≡ sourceWord (decoded (now (c .entry))) (memoryOf (now (state .entry))) r i ⌝ }
+    ensures { λ w. ⌜ w ≡ sourceWordAt (decoded (now (c .entry))) (memoryOf (now (state .entry))) r i ⌝ }
 {
     if r < FAILURES {
         return wide(word_at(state, widen(r) + i));

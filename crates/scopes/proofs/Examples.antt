@@ -9,7 +9,7 @@ use Rattle.basics.specs.Choice.{pick, both, allBelow}
 use Rattle.basics.specs.Course.{upto, course}
 use Rattle.table.specs.Table.{Table}
 use Rattle.table.specs.Kinds.{names, rows, rowOf, held, eachField}
-use Rattle.scopes.specs.Scopes.{among, visible, fieldScoped, nodeScope, nodeScoped, staysIn}
+use Rattle.scopes.specs.Scopes.{ofBlock, inScope, fieldScoped, nodeScope, nodeScoped, staysIn}
 
 -- the program 0 with variables 0, 1; the module 1 with variable 2; its procedure 2 with variable 3; a procedure 3 of the program, with none
 sampleBlocks : List (List ℕ)
@@ -33,13 +33,13 @@ sample =
 
 -- a procedure sees its own variables and its module's, not the program's; the module does not see its procedure's
 visible-variables :
-    (visible sample 2 3 ≡ true)
-    × (visible sample 2 2 ≡ true)
-    × (visible sample 2 1 ≡ false)
-    × (visible sample 2 4 ≡ false)
-    × (visible sample 1 3 ≡ false)
-    × (visible sample 3 1 ≡ true)
-unfolding sample sampleBlocks sampleCalls sampleNodes visible among
+    (inScope sample 2 3 ≡ true)
+    × (inScope sample 2 2 ≡ true)
+    × (inScope sample 2 1 ≡ false)
+    × (inScope sample 2 4 ≡ false)
+    × (inScope sample 1 3 ≡ false)
+    × (inScope sample 3 1 ≡ true)
+unfolding sample sampleBlocks sampleCalls sampleNodes inScope ofBlock
 visible-variables = (refl, refl, refl, refl, refl, refl)
 
 -- the module calls its procedure; a procedure of the program is called from the program, and from no module

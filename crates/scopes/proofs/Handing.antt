@@ -24,9 +24,9 @@ use Rattle.table.specs.Kinds.{names, held, eachField, isCall}
 use Rattle.numbers.specs.Ranges.{inRange}
 use Rattle.uses.specs.Uses.{entryUses, usedOnce}
 use Rattle.uses.proofs.Promise.{Names, user}
-use Rattle.scopes.specs.Scopes.{visible, fieldScoped, nodeScope, nodeScoped, argumentScoped, argumentsScoped, staysIn, stmtScoped, scoped}
+use Rattle.scopes.specs.Scopes.{inScope, fieldScoped, nodeScope, nodeScoped, argumentScoped, argumentsScoped, staysIn, stmtScoped, scoped}
 use Rattle.scopes.specs.Parts.{fieldsScoped}
-use Rattle.scopes.specs.Handed.{given, roots, fits, UsedIn, by-stmt, by-node, RootsHanded, Stays}
+use Rattle.scopes.specs.Handed.{withBlock, roots, nodeVisible, UsedIn, by-stmt, by-node, RootsHanded, Stays}
 use Rattle.scopes.proofs.Rows.{node-scope, stmt-scope, has-first}
 use Rattle.scopes.proofs.Scoping.{length-given, given-there, given-other}
 use Rattle.scopes.proofs.Users.{Argument, operand-of, first-used, second-used, field-of, root-of, field-root, a-root, b-root, argument-root, first-before, second-before, use-before, a-below, b-below, called-below, call-of, named-arg, one-block}
@@ -55,13 +55,13 @@ used-scoped : (T : Table) → scoped T ≡ true → (x b : ℕ) → UsedIn T x b
 used-scoped T h x b (by-stmt i l r e) = root-scoped T h x b i l e (root-of T i x r)
 used-scoped T h x b (by-node n l r u) = operand-in T h x b n (used-scoped T h n b u) (operand-of T n x r)
 
-scoped-fits : (T : Table) (b n : ℕ) → nodeScoped T b n ≡ true → fits T n b ≡ true
-unfolding fits
+scoped-fits : (T : Table) (b n : ℕ) → nodeScoped T b n ≡ true → nodeVisible T n b ≡ true
+unfolding nodeVisible
 scoped-fits T b n s = cases (eqb (nodeKind T n) 1) (λ e. rw e (visible-whole T b n s (eqb-true (nodeKind T n) 1 e))) (λ e. rw e)
 
 -- ---- where each node fits in the block that it is used in, the rule holds
 
-module _ (T : Table) (ranged : inRange T ≡ true) (fit : (x : ℕ) → x < nodeCount T → (b : ℕ) → UsedIn T x b → fits T x b ≡ true) where
+module _ (T : Table) (ranged : inRange T ≡ true) (fit : (x : ℕ) → x < nodeCount T → (b : ℕ) → UsedIn T x b → nodeVisible T x b ≡ true) where
   abbrev In : ℕ → Type 0
   In x = x < nodeCount T → (b : ℕ) → UsedIn T x b → nodeScoped T b x ≡ true
 
@@ -78,12 +78,12 @@ module _ (T : Table) (ranged : inRange T ≡ true) (fit : (x : ℕ) → x < node
         (λ c. rw (p, c))
 
     node-in : nodeScoped T b n ≡ true
-    unfolding fits
+    unfolding nodeVisible
     node-in =
-        let f : pick (eqb (nodeKind T n) 1) (visible T b (nodeP T n)) true ≡ true = fit n l b u in
+        let f : pick (eqb (nodeKind T n) 1) (inScope T b (nodeP T n)) true ≡ true = fit n l b u in
         cases (eqb (nodeKind T n) 0) (λ e. rw (node-scope, e))
         (λ e.
-        cases (eqb (nodeKind T n) 1) (λ d. let g : visible T b (nodeP T n) ≡ true = rw d at f in rw (node-scope, e, d) g)
+        cases (eqb (nodeKind T n) 1) (λ d. let g : inScope T b (nodeP T n) ≡ true = rw d at f in rw (node-scope, e, d) g)
         (λ d.
         cases (leb (nodeKind T n) 7)
         (λ c.
@@ -142,10 +142,10 @@ leaves T i l e =
 -- ---- one entry hands its block to its nodes: nodes that have theirs keep it
 
 module _ (T : Table) (b : ℕ) (xs l : List ℕ) (x : ℕ) (there : x < length l) where
-  has-it : 1 ≤ occurs x xs → UsedIn T x b → UsedIn T x (getD (given b xs l) x 0)
+  has-it : 1 ≤ occurs x xs → UsedIn T x b → UsedIn T x (getD (withBlock b xs l) x 0)
   has-it o u = rw (given-there b x xs l o there) u
 
-  keeps-it : (1 ≤ occurs x xs → UsedIn T x b) → UsedIn T x (getD l x 0) → UsedIn T x (getD (given b xs l) x 0)
+  keeps-it : (1 ≤ occurs x xs → UsedIn T x b) → UsedIn T x (getD l x 0) → UsedIn T x (getD (withBlock b xs l) x 0)
   keeps-it f u =
       cases (ltb 0 (occurs x xs)) (λ e. let o = ltb-true 0 (occurs x xs) e in has-it o (f o))
       (λ e. let z = ltb-false 0 (occurs x xs) e in rw (given-other b x xs l (omega arith)) u)
@@ -163,7 +163,7 @@ module _ (T : Table) where
     pub stays-more : (x : ℕ) (r : Bool) → r ≡ staysIn T i b → r ≡ true → x ≡ blockStep T i b → Chain (blockStep T) (staysIn T) (i + 1) x
     stays-more x r hr e g = chain-more (blockStep T) (staysIn T) i b h x (sym hr ∙ e) g
 
-    pub rooted-more : (v c : ℕ) (l m : List ℕ) → RootsHanded T i l → c ≡ stmtCount T → i < c → v ≡ b → m ≡ given v (roots T i) l → RootsHanded T (i + 1) m
+    pub rooted-more : (v c : ℕ) (l m : List ℕ) → RootsHanded T i l → c ≡ stmtCount T → i < c → v ≡ b → m ≡ withBlock v (roots T i) l → RootsHanded T (i + 1) m
     rooted-more v c l m o hc g hv e =
         rw e
         (record {
@@ -194,7 +194,7 @@ module _ (T : Table) where
           nodes = λ d. rw (← e) o;
         }
 
-pub long-more : (b : ℕ) (xs l m k : List ℕ) → length l ≡ length k → m ≡ given b xs l → length m ≡ length k
+pub long-more : (b : ℕ) (xs l m k : List ℕ) → length l ≡ length k → m ≡ withBlock b xs l → length m ≡ length k
 long-more b xs l m k h e = ap length e ∙ length-given b xs l ∙ h
 
 pub ruleset handings = (stays-none, rooted-none, stays-more, rooted-more, stays-out, stays-all, long-more)
@@ -207,7 +207,7 @@ pub record Downward (T : Table) (n : ℕ) (l : List ℕ) : Type 0 where
   pub calls : carried (blockStep T) (staysIn T) (stmtCount T) ≡ true
   pub roots-have : (x j : ℕ) → x < nodeCount T → j < stmtCount T → 1 ≤ occurs x (roots T j) → UsedIn T x (getD l x 0)
   pub operands-have : (x m : ℕ) → x < nodeCount T → n ≤ m → m < nodeCount T → 1 ≤ occurs x (entryUses T 5 m) → UsedIn T x (getD l x 0)
-  pub fit : (x : ℕ) → n ≤ x → x < nodeCount T → (b : ℕ) → UsedIn T x b → fits T x b ≡ true
+  pub fit : (x : ℕ) → n ≤ x → x < nodeCount T → (b : ℕ) → UsedIn T x b → nodeVisible T x b ≡ true
 
 module _ (T : Table) where
   pub down-first : (n : ℕ) (l : List ℕ) → Stays T true l → n ≡ nodeCount T → Downward T n l
@@ -236,14 +236,14 @@ module _ (T : Table) where
       has-block : UsedIn T (n - 1) (getD l (n - 1) 0)
       has-block = has-user (user T used (n - 1) (omega arith))
 
-      module _ (r : Bool) (hr : r ≡ fits T (n - 1) (getD l (n - 1) 0)) where
+      module _ (r : Bool) (hr : r ≡ nodeVisible T (n - 1) (getD l (n - 1) 0)) where
         pub down-fail : r ≡ false → false ≡ scoped T
         down-fail e =
             cases (scoped T)
             (λ h. no-true (sym (sym hr ∙ e) ∙ scoped-fits T (getD l (n - 1) 0) (n - 1) (used-scoped T h (n - 1) (getD l (n - 1) 0) has-block)))
             (λ h. sym h)
 
-        pub down-next : (m : List ℕ) → r ≡ true → m ≡ given (getD l (n - 1) 0) (entryUses T 5 (n - 1)) l → Downward T (n - 1) m
+        pub down-next : (m : List ℕ) → r ≡ true → m ≡ withBlock (getD l (n - 1) 0) (entryUses T 5 (n - 1)) l → Downward T (n - 1) m
         down-next m e g =
             rw g
             (record {

@@ -17,7 +17,7 @@ use Rattle.table.specs.Table.{Table}
 use Rattle.table.specs.Entries.{owner, firstVar, vars, argNode, nodeKind, nodeP, nodeQ, stmtKind, stmtA, stmtB, stmtC, stmtD, stmtCount}
 use Rattle.nesting.specs.Nest.{blockStep}
 use Rattle.table.specs.Kinds.{names, rows, rowOf, held, eachField, isCall}
-use Rattle.scopes.specs.Scopes.{among, visible, fieldScoped, nodeScope, nodeScoped, argumentScoped, argumentsScoped, staysIn, stmtScoped, scoped}
+use Rattle.scopes.specs.Scopes.{ofBlock, inScope, fieldScoped, nodeScope, nodeScoped, argumentScoped, argumentsScoped, staysIn, stmtScoped, scoped}
 use Rattle.scopes.specs.Parts.{fieldsScoped}
 use Rattle.scopes.proofs.Rows.{node-scope, stmt-scope}
 
@@ -35,21 +35,21 @@ pub next : (c d : Bool) → pick c d false ≡ true → d ≡ true
 next true d h = h
 next false d h = no-true h
 
-pub is-among : (T : Table) (b x : ℕ) → among T b x ≡ true → Among T b x
-unfolding among
+pub is-among : (T : Table) (b x : ℕ) → ofBlock T b x ≡ true → Among T b x
+unfolding ofBlock
 is-among T b x h = record { low = leb-true (firstVar T b) x (first _ _ h); high = ltb-true x (firstVar T b + vars T b) (next (leb (firstVar T b) x) _ h) }
 
 -- nodes
 module _ (T : Table) (b n : ℕ) (h : nodeScoped T b n ≡ true) where
-  pub visible-whole : nodeKind T n ≡ 1 → visible T b (nodeP T n) ≡ true
+  pub visible-whole : nodeKind T n ≡ 1 → inScope T b (nodeP T n) ≡ true
   visible-whole k = rw (node-scope, k) at h
 
   -- a whole variable is the block's or its owner's
   pub whole : nodeKind T n ≡ 1 → Among T b (nodeP T n) ⊎ Among T (owner T b) (nodeP T n)
-  unfolding visible
+  unfolding inScope
   whole k =
-      let v : pick (among T b (nodeP T n)) true (among T (owner T b) (nodeP T n)) ≡ true = visible-whole k in
-      cases (among T b (nodeP T n))
+      let v : pick (ofBlock T b (nodeP T n)) true (ofBlock T (owner T b) (nodeP T n)) ≡ true = visible-whole k in
+      cases (ofBlock T b (nodeP T n))
       (λ e. inl (is-among T b (nodeP T n) e))
       (λ e. inr (is-among T (owner T b) (nodeP T n) (rw e at v)))
 

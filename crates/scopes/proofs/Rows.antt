@@ -15,7 +15,7 @@ use Rattle.table.specs.Kinds.{names, rows, rowOf, held, eachField, isCall}
 use Rattle.table.proofs.EachKind.{node-kinds, stmt-kinds}
 use Rattle.table.proofs.EachField.{alone, all-four, all-six}
 use Rattle.uses.specs.Uses.{fieldUses, entryUses}
-use Rattle.scopes.specs.Scopes.{visible, fieldScoped, nodeScope, nodeScoped}
+use Rattle.scopes.specs.Scopes.{inScope, fieldScoped, nodeScope, nodeScoped}
 use Rattle.scopes.specs.Parts.{fieldsScoped}
 
 module _ (T : Table) (n : ℕ) where
@@ -60,7 +60,7 @@ module _ (T : Table) (n : ℕ) where
     tested : Bool
     tested =
         pick (eqb (nodeKind T n) 0) true
-        (pick (eqb (nodeKind T n) 1) (visible T b (nodeP T n))
+        (pick (eqb (nodeKind T n) 1) (inScope T b (nodeP T n))
         (pick (leb (nodeKind T n) 7) (pick (r (nodeP T n)) (pick (names 5 (held T 5 n 2)) (r (nodeQ T n)) true) false) true))
 
     node-at : (k : ℕ) → nodeKind T n ≡ k → nodeScope T b n r ≡ tested
@@ -68,7 +68,7 @@ module _ (T : Table) (n : ℕ) where
     node-at =
         node-kinds (λ k. nodeKind T n ≡ k → nodeScope T b n r ≡ tested)
         (λ e. rw (fields, e))
-        (λ e. rw (fields, e) (alone (visible T b (nodeP T n))))
+        (λ e. rw (fields, e) (alone (inScope T b (nodeP T n))))
         (λ e. rw (fields, e))
         (λ e. rw (fields, e) (ap (both (r (nodeP T n))) (alone (r (nodeQ T n)))))
         (λ e. rw (fields, e))
@@ -83,7 +83,7 @@ module _ (T : Table) (n : ℕ) where
   pub node-scope :
       (b : ℕ) → nodeScoped T b n
       ≡ pick (eqb (nodeKind T n) 0) true
-      (pick (eqb (nodeKind T n) 1) (visible T b (nodeP T n))
+      (pick (eqb (nodeKind T n) 1) (inScope T b (nodeP T n))
       (pick (leb (nodeKind T n) 7)
       (pick (upto false (nodeScope T b) n (nodeP T n)) (pick (names 5 (held T 5 n 2)) (upto false (nodeScope T b) n (nodeQ T n)) true) false) true))
   unfolding nodeScoped course tested

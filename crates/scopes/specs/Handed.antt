@@ -15,12 +15,12 @@ use Rattle.table.specs.Entries.{argNode, nodeKind, nodeP, nodeCount, stmtC, stm
 use Rattle.table.specs.Kinds.{isCall}
 use Rattle.table.specs.Parts.{argumentIn}
 use Rattle.uses.specs.Uses.{entryUses}
-use Rattle.scopes.specs.Scopes.{visible, staysIn, scoped}
+use Rattle.scopes.specs.Scopes.{inScope, staysIn, scoped}
 
 -- block b is handed to each node of a list, the last first
-unfoldable pub given : ℕ → List ℕ → List ℕ → List ℕ
-given b [] l = l
-given b (x ∷ xs) l = set (given b xs l) x b
+unfoldable pub withBlock : ℕ → List ℕ → List ℕ → List ℕ
+withBlock b [] l = l
+withBlock b (x ∷ xs) l = set (withBlock b xs l) x b
 
 -- argument k of a call, in its part of the table and in the section, where the arguments of the call begin at c
 unfoldable pub partNode : List ℕ → ℕ → ℕ → List ℕ
@@ -37,8 +37,8 @@ unfoldable pub roots : Table → ℕ → List ℕ
 roots T i = argNodes T i ++ entryUses T 6 i
 
 -- node n itself, in block b: a whole variable is visible; the other kinds have their operands' variables
-unfoldable pub fits : Table → ℕ → ℕ → Bool
-fits T n b = pick (eqb (nodeKind T n) 1) (visible T b (nodeP T n)) true
+unfoldable pub nodeVisible : Table → ℕ → ℕ → Bool
+nodeVisible T n b = pick (eqb (nodeKind T n) 1) (inScope T b (nodeP T n)) true
 
 -- node x is used in block b: by a statement of b, or by a node that is
 pub data UsedIn (T : Table) : ℕ → ℕ → Type 0 where

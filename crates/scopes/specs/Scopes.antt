@@ -12,16 +12,16 @@ use Rattle.table.specs.Entries.{owner, firstVar, vars, argNode, stmtKind, stmtA
 use Rattle.table.specs.Kinds.{Content, names, isCall, eachField}
 
 -- variable x is one of block b's
-unfoldable pub among : Table → ℕ → ℕ → Bool
-among T b x = pick (leb (firstVar T b) x) (ltb x (firstVar T b + vars T b)) false
+unfoldable pub ofBlock : Table → ℕ → ℕ → Bool
+ofBlock T b x = pick (leb (firstVar T b) x) (ltb x (firstVar T b + vars T b)) false
 
 -- or one of its owner's: a procedure's module, or block 0, else the block itself (report 4.1)
-unfoldable pub visible : Table → ℕ → ℕ → Bool
-visible T b x = pick (among T b x) true (among T (owner T b) x)
+unfoldable pub inScope : Table → ℕ → ℕ → Bool
+inScope T b x = pick (ofBlock T b x) true (ofBlock T (owner T b) x)
 
 -- a field of an entry in block b, where r says which nodes are in scope: a node is one of these, a variable is visible
 unfoldable pub fieldScoped : Table → ℕ → (ℕ → Bool) → Content → ℕ → Bool
-fieldScoped T b r h x = pick (names 5 h) (r x) (pick (names 2 h) (visible T b x) true)
+fieldScoped T b r h x = pick (names 5 h) (r x) (pick (names 2 h) (inScope T b x) true)
 
 -- node n, where r says so of the nodes before it
 unfoldable pub nodeScope : Table → ℕ → ℕ → (ℕ → Bool) → Bool

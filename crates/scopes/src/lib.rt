@@ -12,11 +12,11 @@ ghost use Rattle.nesting.specs.Nest.{blockStep};
 ghost use Rattle.table.specs.Kinds.{names, held, isCall};
 ghost use Rattle.numbers.specs.Ranges.{inRange};
 ghost use Rattle.uses.specs.Uses.{entryUses, usedOnce};
-ghost use Rattle.scopes.specs.Scopes.{among, visible, staysIn, scoped};
-ghost use Rattle.scopes.specs.Handed.{given, partNode, argNodes, roots, fits, Stays};
+ghost use Rattle.scopes.specs.Scopes.{ofBlock, inScope, staysIn, scoped};
+ghost use Rattle.scopes.specs.Handed.{withBlock, partNode, argNodes, roots, nodeVisible, Stays};
 
 fn is_among(c: &code::Slots, b: usize, x: usize) -> bool
-    ensures { λ r. ⌜ r ≡ among (decoded (now (c .entry))) b x ⌝ }
+    ensures { λ r. ⌜ r ≡ ofBlock (decoded (now (c .entry))) b x ⌝ }
 {
     let first = code::first_var(c, b);
     if first <= x {
@@ -26,7 +26,7 @@ fn is_among(c: &code::Slots, b: usize, x: usize) -> bool
 }
 
 fn is_visible(c: &code::Slots, b: usize, x: usize) -> bool
-    ensures { λ r. ⌜ r ≡ visible (decoded (now (c .entry))) b x ⌝ }
+    ensures { λ r. ⌜ r ≡ inScope (decoded (now (c .entry))) b x ⌝ }
 {
     if is_among(c, b, x) {
         return true;
@@ -126,7 +126,7 @@ fn hand(blocks: &mut [u16], n: usize, b: u16)
 // The first `count` arguments that a part of a table with numbers of w bytes holds.
 fn hand_part(blocks: &mut [u16], b: u16, part: &[u8], w: usize, count: usize)
     requires { ⌜ (1 ≤ w) × (w ≤ 2) × (count < 65536) ⌝ }
-    ensures { λ _. ⌜ now (blocks .exit) ≡ given b (gather (partNode (now (part .entry)) w) count) (now (blocks .entry)) ⌝ }
+    ensures { λ _. ⌜ now (blocks .exit) ≡ withBlock b (gather (partNode (now (part .entry)) w) count) (now (blocks .entry)) ⌝ }
 {
     let mut k = 0;
     while k < count {
@@ -144,7 +144,7 @@ fn hand_arguments(
     i: usize,
 )
     requires { ⌜ Decodes (now t) s (now c) ⌝ }
-    ensures { λ _. ⌜ now (blocks .exit) ≡ given b (argNodes (decoded (now (c .entry))) i) (now (blocks .entry)) ⌝ }
+    ensures { λ _. ⌜ now (blocks .exit) ≡ withBlock b (argNodes (decoded (now (c .entry))) i) (now (blocks .entry)) ⌝ }
 {
     if has_arguments(c, i) {
         let count = code::stmt_d(c, i);
@@ -155,7 +155,7 @@ fn hand_arguments(
 
 // The nodes that the fields of statement i name.
 fn hand_fields(c: &code::Slots, blocks: &mut [u16], b: u16, i: usize)
-    ensures { λ _. ⌜ now (blocks .exit) ≡ given b (entryUses (decoded (now (c .entry))) 6 i) (now (blocks .entry)) ⌝ }
+    ensures { λ _. ⌜ now (blocks .exit) ≡ withBlock b (entryUses (decoded (now (c .entry))) 6 i) (now (blocks .entry)) ⌝ }
 {
     if names_a(c, i) {
         hand(blocks, code::stmt_a(c, i), b);
@@ -167,7 +167,7 @@ fn hand_fields(c: &code::Slots, blocks: &mut [u16], b: u16, i: usize)
 
 fn hand_stmt(t: &[u8], s: table::Sections, c: &code::Slots, blocks: &mut [u16], b: u16, i: usize)
     requires { ⌜ Decodes (now t) s (now c) ⌝ }
-    ensures { λ _. ⌜ now (blocks .exit) ≡ given b (roots (decoded (now (c .entry))) i) (now (blocks .entry)) ⌝ }
+    ensures { λ _. ⌜ now (blocks .exit) ≡ withBlock b (roots (decoded (now (c .entry))) i) (now (blocks .entry)) ⌝ }
 {
     hand_fields(c, blocks, b, i);
     hand_arguments(t, s, c, blocks, b, i);
@@ -218,7 +218,7 @@ fn hand_stmts(t: &[u8], s: table::Sections, c: &code::Slots, blocks: &mut [u16])
 }
 
 fn hand_operands(c: &code::Slots, blocks: &mut [u16], b: u16, n: usize)
-    ensures { λ _. ⌜ now (blocks .exit) ≡ given b (entryUses (decoded (now (c .entry))) 5 n) (now (blocks .entry)) ⌝ }
+    ensures { λ _. ⌜ now (blocks .exit) ≡ withBlock b (entryUses (decoded (now (c .entry))) 5 n) (now (blocks .entry)) ⌝ }
 {
     if has_first(c, n) {
         hand(blocks, code::node_p(c, n), b);
@@ -231,8 +231,8 @@ fn hand_operands(c: &code::Slots, blocks: &mut [u16], b: u16, n: usize)
 // Node n, in the block that it was handed, which it hands on.
 fn node_scoped(c: &code::Slots, blocks: &mut [u16], n: usize) -> bool
     requires { ⌜ n < length (now blocks) ⌝ }
-    ensures fits { λ r. ⌜ r ≡ fits (decoded (now (c .entry))) n (getD (now (blocks .entry)) n 0) ⌝ }
-    ensures hands { λ r. ⌜ now (blocks .exit) ≡ given (getD (now (blocks .entry)) n 0) (entryUses (decoded (now (c .entry))) 5 n) (now (blocks .entry)) ⌝ }
+    ensures fits { λ r. ⌜ r ≡ nodeVisible (decoded (now (c .entry))) n (getD (now (blocks .entry)) n 0) ⌝ }
+    ensures hands { λ r. ⌜ now (blocks .exit) ≡ withBlock (getD (now (blocks .entry)) n 0) (entryUses (decoded (now (c .entry))) 5 n) (now (blocks .entry)) ⌝ }
 {
     let b = blocks[n];
     if code::node_kind(c, n) == kinds::WHOLE {

@@ -15,7 +15,7 @@ use Rattle.table.specs.Table.{Table, tableAt, cellAt, countAt}
 use Rattle.table.specs.Entries.{declared, typeCount, typeKind, typeP, typeQ, typeLow, typeHigh, fieldType}
 use Rattle.types.specs.Match.{offset, span, elements}
 use Rattle.sizes.specs.Sizes.{sumBelow, fieldsWords, typeWords, wordsOf, partWords, offsetIn}
-use Rattle.sizes.specs.Kept.{kept, Known, Room, Sizes}
+use Rattle.sizes.specs.Kept.{kept, Known, SizeRoom, Sizes}
 use Rattle.sizes.proofs.Sums.{sum-more, sum-up, cap-add, cap-mul}
 
 -- the words of a type, by its kind
@@ -147,7 +147,7 @@ module _ (T : Table) (l : List ℕ) where
   sizes-more n w v h k e f = holds-more (kept T) l n v h k (e ∙ f)
 
   module _ (c : ℕ) (e : c ≡ typeCount T) where
-    pub sizes-all : (l₀ : List ℕ) (n : ℕ) → Room T l₀ → Holds (kept T) n l → n ≤ 3 + c → 3 + c ≤ n → Sizes T l
+    pub sizes-all : (l₀ : List ℕ) (n : ℕ) → SizeRoom T l₀ → Holds (kept T) n l → n ≤ 3 + c → 3 + c ≤ n → Sizes T l
     sizes-all l₀ n g h a b = let q : n ≡ 3 + typeCount T = omega arith in record { holds = rw q at h; beyond = g .beyond }
 
     module _ (h : Sizes T l) where

@@ -25,7 +25,7 @@ pub record Known (T : Table) (l : List ℕ) : Type 0 where
 
 -- an array that has room for the words of all types, the standard ones too; one that holds them. A number beyond is of no type:
 -- the slots of a decoded table do not say so of themselves, the bytes do
-pub record Room (T : Table) (l : List ℕ) : Type 0 where
+pub record SizeRoom (T : Table) (l : List ℕ) : Type 0 where
   pub room : 3 + typeCount T ≤ length l
   pub beyond : (τ : ℕ) → 3 + typeCount T ≤ τ → typeKind T τ ≡ 0
 

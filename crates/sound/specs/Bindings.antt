@@ -7,7 +7,7 @@ use Rattle.table.specs.Entries.{varMode, firstVar, vars}
 use Rattle.machine.specs.Memory.{Memory}
 use Rattle.machine.specs.Layout.{location, calledBlock}
 use Rattle.machine.specs.Variables.{offsetOf}
-use Rattle.sound.specs.InUse.{Call}
+use Rattle.sound.specs.InUse.{CallAt}
 
 -- word j of the area of process p is a link of the frame at f, or the word of a var parameter there
 pub data FrameWord (T : Table) (m : Memory) (p f : ℕ) : ℕ → Type 0 where
@@ -17,4 +17,4 @@ pub data FrameWord (T : Table) (m : Memory) (p f : ℕ) : ℕ → Type 0 where
 
 -- from state m to state s, no call that has not ended in m has its links or var parameters changed
 pub record BindingsKept (T : Table) (m s : Memory) : Type 0 where
-  pub kept : (p d f j : ℕ) → Call T m p d f → FrameWord T m p f j → s (location p j) ≡ m (location p j)
+  pub kept : (p d f j : ℕ) → CallAt T m p d f → FrameWord T m p f j → s (location p j) ≡ m (location p j)

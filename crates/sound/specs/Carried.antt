@@ -50,7 +50,7 @@ module _ (T : Table) (m page : Memory) (x : Context) where
         → Passes k (v + 1) (i + 1) ws → Passes (suc k) v i (a ∷ ws)
 
   -- d arguments from c on, one for each parameter of block b, pass the words ws
-  pub record Passed (b c d : ℕ) (ws : List ℕ) : Type 0 where
+  pub record ArgumentsPass (b c d : ℕ) (ws : List ℕ) : Type 0 where
     pub each : d ≡ params T b
     pub words : Passes d (firstVar T b) c ws
 
@@ -78,18 +78,18 @@ module _ (T : Table) (m page : Memory) (x : Context) where
     assigns : {a b i τ : ℕ} {κ : NodeType} {ws : List ℕ} → Selects T m page x a i τ → Gives T m page x b κ ws → matching T (numbered τ) κ ≡ equal
         → Carries (assign a b) (goingOn (mark (store m i ws) i (length ws))) page
     -- 11.3: a local call passes its arguments and enters the procedure; what it works on stays
-    callsLocal : {q c d : ℕ} {ws : List ℕ} → Passed q c d ws → (SpaceFull T m page x q → ⊥) → (AreaFull T m page x q → ⊥)
+    callsLocal : {q c d : ℕ} {ws : List ℕ} → ArgumentsPass q c d ws → (SpaceFull T m page x q → ⊥) → (AreaFull T m page x q → ⊥)
         → Carries (localCall q c d) (frameMarked T m page x (pushed T m page x m q (x .works) ws) q ws) page
     -- 11.3, 13: a process call also holds the variables of the process that its variable refers to, and works on them
     callsProcess : {a q c d i τ : ℕ} {ws : List ℕ} → Selects T m page x a i τ → typeAt T τ ≡ processType (owner T q) → Refers T m page x i
-        → Serves T m page x (m i) → Passed q c d ws → (AreaFull T m page x q → ⊥)
+        → Serves T m page x (m i) → ArgumentsPass q c d ws → (AreaFull T m page x q → ⊥)
         → Carries (processCall a q c d) (frameMarked T m page x (pushed T m page x (update m (holderAt (m i)) (x .process)) q (m i) ws) q ws) page
     -- 11.4: create makes the next number a process of the module that the variable's type names, its area too, and the variable refer to it
     creates : {a i τ μ : ℕ} → Selects T m page x a i τ → typeAt T τ ≡ processType μ → (m createdAt ≡ 64 → ⊥)
         → Carries (create a) (goingOn (mark (fresh (update (created m (m createdAt + 1) μ) i (m createdAt + 1)) (location (m createdAt + 1) 0) 256) i 1)) page
     -- 11.5: start passes its arguments to the process that the variable refers to, which stands at its first statement then
     starts : {a c d i τ μ : ℕ} {ws : List ℕ} → Selects T m page x a i τ → typeAt T τ ≡ processType μ → Refers T m page x i
-        → m (statusAt (m i)) ≡ 1 → Passed μ c d ws → Carries (start a c d) (goingOn (mark (started T m (m i) μ ws) (location (m i) 0) (length ws))) page
+        → m (statusAt (m i)) ≡ 1 → ArgumentsPass μ c d ws → Carries (start a c d) (goingOn (mark (started T m (m i) μ ws) (location (m i) 0) (length ws))) page
     -- 11.7 to 11.10: an opener enters the first arm whose guard is true; a when or cycle holds the variables worked on again
     enters : {k : Opener} {j : ℕ} → FirstTrue (x .statement + 1) j
         → Carries (opener k) (goingTo (pick (waits k) (update m (holderAt (x .works)) (x .process)) m) (j + 1)) page

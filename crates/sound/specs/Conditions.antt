@@ -10,7 +10,7 @@ use mathlib.Core.List.{List}
 use lib.ListN.{length}
 use lib.IntN.{ℤ, pos, negsuc, negℤ, _+ℤ_, _-ℤ_, _*ℤ_}
 use lib.Signed.{quotZ, remZ}
-use Rattle.words.specs.Numbers.{intOf, between}
+use Rattle.words.specs.Numbers.{intOf, betweenZ}
 use Rattle.words.specs.Types.{inType}
 use Rattle.words.specs.Devices.{isDevice}
 use Rattle.table.specs.Table.{Table}
@@ -33,7 +33,7 @@ use Rattle.machine.specs.Calls.{argument, arguments}
 
 -- z is no integer from -32768 to 32767
 abbrev pub OutOfRange : ℤ → Type 0
-OutOfRange z = between (negsuc 32767) (pos 32767) z ≡ false
+OutOfRange z = betweenZ (negsuc 32767) (pos 32767) z ≡ false
 
 -- z is the result of an integer operator at the words u and v, whatever its range
 pub data Exact : Binary → ℕ → ℕ → ℤ → Type 0 where

@@ -63,38 +63,38 @@ pub record Scoping (T : Table) (b : ℕ) (scope : ℕ → Type 0) : Type 0 where
 
 -- the words of k arguments for the parameters from v on, one after the other: a value of the parameter's type, or the location of a live
 -- variable of it
-pub data Bound (T : Table) (m : Memory) (p : ℕ) : ℕ → ℕ → List ℕ → Type 0 where
-  unbound : {v : ℕ} → Bound T m p 0 v []
-  by-value : {k v : ℕ} (us : List ℕ) {ws : List ℕ} → (varMode T v ≡ 2 → ⊥) → IsValue T m (varType T v) us → SmallWords us → Bound T m p k (v + 1) ws → Bound T m p (suc k) v (us ++ ws)
-  by-place : {k v : ℕ} (a : ℕ) {ws : List ℕ} → varMode T v ≡ 2 → Live T m p (varType T v) a → Bound T m p k (v + 1) ws → Bound T m p (suc k) v (a ∷ ws)
+pub data ParameterWords (T : Table) (m : Memory) (p : ℕ) : ℕ → ℕ → List ℕ → Type 0 where
+  unbound : {v : ℕ} → ParameterWords T m p 0 v []
+  by-value : {k v : ℕ} (us : List ℕ) {ws : List ℕ} → (varMode T v ≡ 2 → ⊥) → IsValue T m (varType T v) us → SmallWords us → ParameterWords T m p k (v + 1) ws → ParameterWords T m p (suc k) v (us ++ ws)
+  by-place : {k v : ℕ} (a : ℕ) {ws : List ℕ} → varMode T v ≡ 2 → Live T m p (varType T v) a → ParameterWords T m p k (v + 1) ws → ParameterWords T m p (suc k) v (a ∷ ws)
 
 -- what the arguments of a call come to
 pub data GoodArguments (T : Table) (m : Memory) (p k v : ℕ) : Outcome (List ℕ) → Type 0 where
-  the-words : (ws : List ℕ) → Bound T m p k v ws → GoodArguments T m p k v (ok ws)
+  the-words : (ws : List ℕ) → ParameterWords T m p k v ws → GoodArguments T m p k v (ok ws)
   no-words : (n : ℕ) → isFailure n ≡ true → GoodArguments T m p k v (fail n)
 
 -- the statement of process p calls procedure q, and a frame of q with the argument words ws fits the area of p
 pub record Pushable (T : Table) (m page : Memory) (p q : ℕ) (ws : List ℕ) : Type 0 where
   pub there : q < blockCount T
   pub procedure : blockKind T q ≡ 2
-  pub bound : Bound T m p (params T q) (firstVar T q) ws
+  pub bound : ParameterWords T m p (params T q) (firstVar T q) ws
   pub long : length ws ≤ frameWords T q
   pub room : topAfter T m page (contextOf m p) q ≤ 256
   pub deep : m (depthAt p) < 64
   pub calling : state.calls q (stmtAt T (m (statementAt p))) ≡ true
 
 -- process p stands at no when or cycle
-abbrev pub Passing : Table → Memory → ℕ → Type 0
-Passing T m p = state.mayWait (stmtAt T (m (statementAt p))) ≡ false
+abbrev pub CannotWait : Table → Memory → ℕ → Type 0
+CannotWait T m p = state.mayWait (stmtAt T (m (statementAt p))) ≡ false
 
 -- what the statement of a started process p comes to: one constructor for each way to go on, or a listed failure
 pub data Performed (T : Table) (m page : Memory) (p : ℕ) : Outcome Effect → Type 0 where
   -- it goes on at another statement of its block, and holds the variables that it works on, or gives them up and waits
-  goes : (c : ℕ) → Passing T m p → state.liesIn T (blockOf m p) c ≡ true → Performed T m page p (ok (effect 0 (update m (statementAt p) c) page))
+  goes : (c : ℕ) → CannotWait T m p → state.liesIn T (blockOf m p) c ≡ true → Performed T m page p (ok (effect 0 (update m (statementAt p) c) page))
   holds-on : (c : ℕ) → state.liesIn T (blockOf m p) c ≡ true → Performed T m page p (ok (effect 0 (update (update m (holderAt (m (worksAt p))) p) (statementAt p) c) page))
   gives-up : state.mayWait (stmtAt T (m (statementAt p))) ≡ true → Performed T m page p (ok (effect 1 (update m (holderAt (m (worksAt p))) 0) page))
   -- an assignment
-  assigns : (τ a : ℕ) (ws : List ℕ) → Passing T m p → state.liesIn T (blockOf m p) (m (statementAt p) + 1) ≡ true → Live T m p τ a → IsValue T m τ ws → SmallWords ws
+  assigns : (τ a : ℕ) (ws : List ℕ) → CannotWait T m p → state.liesIn T (blockOf m p) (m (statementAt p) + 1) ≡ true → Live T m p τ a → IsValue T m τ ws → SmallWords ws
       → Performed T m page p (ok (effect 0 (update (mark (store m a ws) a (length ws)) (statementAt p) (m (statementAt p) + 1)) page))
   -- a local call; a process call that is served, or waits
   calls : (q : ℕ) (ws : List ℕ) {c n : ℕ} → stmtAt T (m (statementAt p)) ≡ localCall q c n → owner T q ≡ owner T (blockOf m p) → Pushable T m page p q ws
@@ -103,16 +103,16 @@ pub data Performed (T : Table) (m page : Memory) (p : ℕ) : Outcome Effect → 
       → Performed T m page p (ok (effect 0 (frameMarked T m page (contextOf m p) (pushed T m page (contextOf m p) (update m (holderAt r) p) q r ws) q ws) page))
   waits : Performed T m page p (ok (effect 1 m page))
   -- a creation, a start, a write
-  creates : (τ a : ℕ) → Passing T m p → state.liesIn T (blockOf m p) (m (statementAt p) + 1) ≡ true → Live T m p τ a → typeKind T τ ≡ 3 → m createdAt < 64
+  creates : (τ a : ℕ) → CannotWait T m p → state.liesIn T (blockOf m p) (m (statementAt p) + 1) ≡ true → Live T m p τ a → typeKind T τ ≡ 3 → m createdAt < 64
       → Performed T m page p (ok (effect 0 (update (mark (fresh (update (created m (m createdAt + 1) (typeP T τ)) a (m createdAt + 1)) (location (m createdAt + 1) 0) 256) a 1) (statementAt p) (m (statementAt p) + 1)) page))
-  starts : (r μ : ℕ) (ws : List ℕ) → Passing T m p → state.liesIn T (blockOf m p) (m (statementAt p) + 1) ≡ true → refers m μ r ≡ true → m (statusAt r) ≡ 1 → μ < blockCount T → blockKind T μ ≡ 1
-      → Bound T m p (params T μ) (firstVar T μ) ws → length ws ≤ 256
+  starts : (r μ : ℕ) (ws : List ℕ) → CannotWait T m p → state.liesIn T (blockOf m p) (m (statementAt p) + 1) ≡ true → refers m μ r ≡ true → m (statusAt r) ≡ 1 → μ < blockCount T → blockKind T μ ≡ 1
+      → ParameterWords T m p (params T μ) (firstVar T μ) ws → length ws ≤ 256
       → Performed T m page p (ok (effect 0 (update (mark (started T m r μ ws) (location r 0) (length ws)) (statementAt p) (m (statementAt p) + 1)) page))
-  writes : (a v : ℕ) → Passing T m p → state.liesIn T (blockOf m p) (m (statementAt p) + 1) ≡ true → a < 65536 → v < 65536 → isDevice (intOf a) ≡ true
+  writes : (a v : ℕ) → CannotWait T m p → state.liesIn T (blockOf m p) (m (statementAt p) + 1) ≡ true → a < 65536 → v < 65536 → isDevice (intOf a) ≡ true
       → Performed T m page p (ok (effect 0 (update m (statementAt p) (m (statementAt p) + 1)) (update page (deviceWord a) v)))
   -- the end of its own block, and of a call
-  ends : Passing T m p → m (depthAt p) ≡ 0 → Performed T m page p (ok (effect 2 (update (update m (statusAt p) 3) (holderAt p) 0) page))
-  returns : (n : Memory) → Passing T m p → (m (depthAt p) ≡ 0 → ⊥) → return T m page (contextOf m p) ≡ ok n → Small n → Performed T m page p (ok (effect 0 n page))
+  ends : CannotWait T m p → m (depthAt p) ≡ 0 → Performed T m page p (ok (effect 2 (update (update m (statusAt p) 3) (holderAt p) 0) page))
+  returns : (n : Memory) → CannotWait T m p → (m (depthAt p) ≡ 0 → ⊥) → return T m page (contextOf m p) ≡ ok n → Small n → Performed T m page p (ok (effect 0 n page))
   fails : (n : ℕ) → isFailure n ≡ true → Performed T m page p (fail n)
 
 -- what the statements of block b use is in scope, by their kinds

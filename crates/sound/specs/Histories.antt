@@ -180,13 +180,13 @@ module _ (verdict : ℕ → List ℕ → ℕ) (w : ℕ) where
   stateAfter s (x ∷ xs) = stateAfter (stateLeft (callOf s x)) xs
 
   -- a call that is not refused has the table t; the page lent is one of bytes
-  pub record Fits (t s : List ℕ) (x : Ask) : Type 0 where
+  pub record AskFits (t s : List ℕ) (x : Ask) : Type 0 where
     pub same : refused s x ≡ false → x .table ≡ t
     pub bytes : Bytes (x .page)
 
   unfoldable pub Calls : List ℕ → List ℕ → List Ask → Type 0
   Calls t s [] = Unit
-  Calls t s (x ∷ xs) = Fits t s x × Calls t (stateLeft (callOf s x)) xs
+  Calls t s (x ∷ xs) = AskFits t s x × Calls t (stateLeft (callOf s x)) xs
 
   -- the state that begin leaves in the slice that it is lent
   unfoldable pub begunWith : List ℕ → List ℕ → ℕ → List ℕ

@@ -18,7 +18,7 @@ use Rattle.machine.specs.Layout.{location, statusAt, frameAt, topAt, depthAt, c
 use Rattle.machine.specs.Entries.{Statement, skip, assign, localCall, processCall, create, start, opener, arm, endArms, write, blockEnd, noStatement, stmtAt}
 use Rattle.machine.specs.Variables.{offsetOf}
 use Rattle.machine.specs.Context.{contextOf}
-use Rattle.sound.specs.InUse.{Of, Call}
+use Rattle.sound.specs.InUse.{VariableOf, CallAt}
 use Rattle.sound.specs.Conditions.{Selects, Gives}
 use Rattle.sound.specs.Rows.{next}
 use Rattle.sound.specs.Histories.{Seen}
@@ -48,8 +48,8 @@ pub data Among (c : OpenCall) : ℕ → List OpenCall → Type 0 where
 -- the variables in use (InUse) are those of these calls: process p has a call with its frame at f, and d calls outside it, exactly if it is
 -- one of them
 pub record CallsListed (T : Table) (m : Memory) : Type 0 where
-  pub listed : (p d f : ℕ) → Call T m p d f → Among (record { procedure = calledBlock m p f; frame = f }) d (openCalls m p)
-  pub in-use : (p d q f : ℕ) → Among (record { procedure = q; frame = f }) d (openCalls m p) → Call T m p d f × (calledBlock m p f ≡ q)
+  pub listed : (p d f : ℕ) → CallAt T m p d f → Among (record { procedure = calledBlock m p f; frame = f }) d (openCalls m p)
+  pub in-use : (p d q f : ℕ) → Among (record { procedure = q; frame = f }) d (openCalls m p) → CallAt T m p d f × (calledBlock m p f ≡ q)
 
 -- ---- as a run has made them
 
@@ -101,7 +101,7 @@ module _ (T : Table) (m page : Memory) (p n : ℕ) (s : Memory) where
   -- the call of procedure q with its frame at f: each parameter gets its argument, from c on; each local is 0
   pub record Enters (f q c : ℕ) : Type 0 where
     pub parameters : (i : ℕ) → i < params T q → Gets (variableAt f q (firstVar T q + i)) (firstVar T q + i) (c + i)
-    pub locals : (v k : ℕ) → Of T q v → varMode T v ≡ 0 → k < wordsOf T (varType T v) → s (variableAt f q v + k) ≡ 0
+    pub locals : (v k : ℕ) → VariableOf T q v → varMode T v ≡ 0 → k < wordsOf T (varType T v) → s (variableAt f q v + k) ≡ 0
 
   pub record CallsKept : Type 0 where
     -- the calls of each process are those that the step makes of them

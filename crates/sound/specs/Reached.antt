@@ -13,23 +13,23 @@ use Rattle.sound.specs.Bindings.{BindingsKept}
 use Rattle.sound.specs.Answers.{Small, Sound}
 
 -- the words from n on are 0
-pub record Sized (n : ℕ) (m : Memory) : Type 0 where
+pub record ZeroFrom (n : ℕ) (m : Memory) : Type 0 where
   pub beyond : (i : ℕ) → n ≤ i → m i ≡ 0
 
 -- a state that meets the rule, of 18,688 words; a page of 4,096 words
 pub record Reached (T : Table) (m : Memory) : Type 0 where
   pub ruled : rule T m ≡ true
   pub words : Small m
-  pub sized : Sized stateWords m
+  pub sized : ZeroFrom stateWords m
 
 pub record Page (page : Memory) : Type 0 where
   pub words : Small page
-  pub sized : Sized pageWords page
+  pub sized : ZeroFrom pageWords page
 
 -- a step writes inside the state and the page only
-pub record Kept (s d : Memory) : Type 0 where
-  pub state : Sized stateWords s
-  pub page : Sized pageWords d
+pub record WithinSizes (s d : Memory) : Type 0 where
+  pub state : ZeroFrom stateWords s
+  pub page : ZeroFrom pageWords d
 
 -- each number of the table is a word, so that a state can hold it
 pub record WordTable (T : Table) : Type 0 where

@@ -26,7 +26,7 @@ module _ (T : Table) (m page : Memory) (p : ℕ) where
   holder = m (holderAt (m (worksAt p)))
 
   -- it is started, and no other process holds the variables that it works on
-  pub record Ready : Type 0 where
+  pub record CanStep : Type 0 where
     pub exists : Created m p
     pub started : m (statusAt p) ≡ 2
     pub free : (holder ≡ 0) ⊎ (holder ≡ p)
@@ -35,12 +35,12 @@ module _ (T : Table) (m page : Memory) (p : ℕ) where
   pub data Waiting : Type 0 where
     unstarted : Created m p → m (statusAt p) ≡ 1 → Waiting
     held : Created m p → m (statusAt p) ≡ 2 → (holder ≡ 0 → ⊥) → (holder ≡ p → ⊥) → Waiting
-    waiting : Ready → StatementWaits T m page (contextOf m p) next → Waiting
+    waiting : CanStep → StatementWaits T m page (contextOf m p) next → Waiting
 
   -- 2: its own block has ended, before or in this step
   pub data Ended : Type 0 where
     before : Created m p → m (statusAt p) ≡ 3 → Ended
-    now : Ready → StatementEnds T m page (contextOf m p) next → Ended
+    now : CanStep → StatementEnds T m page (contextOf m p) next → Ended
 
   -- 3: no such process
   pub record Absent : Type 0 where
@@ -48,12 +48,12 @@ module _ (T : Table) (m page : Memory) (p : ℕ) where
 
   -- the number of a failure: the first one met in evaluation order is this one
   pub record Failing (n : ℕ) : Type 0 where
-    pub ready : Ready
+    pub ready : CanStep
     pub fails : StatementFails T m page (contextOf m p) n next
 
   -- 0: one statement was carried out, with state s and device words d left
   pub record CarriedOut (s d : Memory) : Type 0 where
-    pub ready : Ready
+    pub ready : CanStep
     pub carries : Carries T m page (contextOf m p) next s d
 
   -- ROW n
@@ -66,7 +66,7 @@ module _ (T : Table) (m page : Memory) (p : ℕ) where
 
   -- it stands, free to go on, at a when or cycle every guard of which was evaluated and is false
   pub data Blocked : Type 0 where
-    atGuards : {k : Opener} → Ready → next ≡ opener k → waits k ≡ true → GuardsFalse T m page (contextOf m p) (contextOf m p .statement + 1) → Blocked
+    atGuards : {k : Opener} → CanStep → next ≡ opener k → waits k ≡ true → GuardsFalse T m page (contextOf m p) (contextOf m p .statement + 1) → Blocked
 
   -- what a step changes: a failing one the run's failure mark only, a waiting one nothing but the holder that a blocked when or cycle gives
   -- up, one that ends the process's own block its status and the holder of its variables, one that is carried out what its statement says
@@ -75,7 +75,7 @@ module _ (T : Table) (m page : Memory) (p : ℕ) where
     nothing : (Blocked → ⊥) → Changes 1 m page
     givesUp : Blocked → Changes 1 (update m (holderAt (m (worksAt p))) 0) page
     endedBefore : Created m p → m (statusAt p) ≡ 3 → Changes 2 m page
-    endsNow : Ready → StatementEnds T m page (contextOf m p) next → Changes 2 (update (update m (statusAt p) 3) (holderAt p) 0) page
+    endsNow : CanStep → StatementEnds T m page (contextOf m p) next → Changes 2 (update (update m (statusAt p) 3) (holderAt p) 0) page
     absent : Changes 3 m page
     carried : {s d : Memory} → CarriedOut s d → Changes 0 s d
 

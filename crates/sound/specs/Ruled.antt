@@ -48,9 +48,9 @@ pub record Framed (T : Table) (m : Memory) (p d f w c top q : ℕ) : Type 0 wher
   pub by : worksBy T m p d f w (stmtAt T (callStatement m p f)) ≡ true
 
 -- the d calls of process p that have not ended, the innermost first; below them its own block
-pub data Chained (T : Table) (m : Memory) (p : ℕ) : ℕ → ℕ → ℕ → ℕ → ℕ → Type 0 where
-  bottom : {f w c top : ℕ} → Bottom T m p f w c top → Chained T m p 0 f w c top
-  called : {d f w c top : ℕ} → Framed T m p d f w c top (calledBlock m p f) → Chained T m p d (callerFrame m p f) (callerWorks m p f) (callStatement m p f) f → Chained T m p (suc d) f w c top
+pub data CallChain (T : Table) (m : Memory) (p : ℕ) : ℕ → ℕ → ℕ → ℕ → ℕ → Type 0 where
+  bottom : {f w c top : ℕ} → Bottom T m p f w c top → CallChain T m p 0 f w c top
+  called : {d f w c top : ℕ} → Framed T m p d f w c top (calledBlock m p f) → CallChain T m p d (callerFrame m p f) (callerWorks m p f) (callStatement m p f) f → CallChain T m p (suc d) f w c top
 
 -- process p holds the variables of process r, or stands at a when or cycle and may have given up those that it works on
 pub data Held (T : Table) (m : Memory) (p r : ℕ) : Type 0 where
@@ -71,7 +71,7 @@ pub record Process (T : Table) (m : Memory) (p : ℕ) : Type 0 where
   pub kind : (p ≡ 1 → ⊥) → blockKind T (m (moduleAt p)) ≡ 1
   pub holder : m (holderAt p) ≤ m createdAt
   pub variables : (i : ℕ) → i < vars T (m (moduleAt p)) → holds T m (varType T (firstVar T (m (moduleAt p)) + i)) (location p (offsetOf T (m (moduleAt p)) (firstVar T (m (moduleAt p)) + i))) ≡ true
-  pub chain : m (statusAt p) ≡ 2 → Chained T m p (m (depthAt p)) (m (frameAt p)) (m (worksAt p)) (m (statementAt p)) (m (topAt p))
+  pub chain : m (statusAt p) ≡ 2 → CallChain T m p (m (depthAt p)) (m (frameAt p)) (m (worksAt p)) (m (statementAt p)) (m (topAt p))
   pub holding : m (statusAt p) ≡ 2 → (r : ℕ) → Worked T m p r → Held T m p r
 
 pub record Ruled (T : Table) (m : Memory) : Type 0 where
@@ -82,7 +82,7 @@ pub record Ruled (T : Table) (m : Memory) : Type 0 where
   pub process : (p : ℕ) → 1 ≤ p → p ≤ m createdAt → Process T m p
 
 -- the context of a started process: its block exists, and is one of the module of the process that it works on
-pub record Standing (T : Table) (m : Memory) (p : ℕ) : Type 0 where
+pub record BlockOwned (T : Table) (m : Memory) (p : ℕ) : Type 0 where
   pub there : blockOf m p < blockCount T
   pub owned : m (moduleAt (m (worksAt p))) ≡ owner T (blockOf m p)
   pub some-works : 1 ≤ m (worksAt p)
@@ -92,7 +92,7 @@ pub record Standing (T : Table) (m : Memory) (p : ℕ) : Type 0 where
   pub room : (m (depthAt p) ≡ 0 → ⊥) → m (frameAt p) + 4 ≤ 256
 
 -- the processes of m are processes of n, of the same modules, and started ones stay so
-pub record Carries (m n : Memory) : Type 0 where
+pub record ProcessesStay (m n : Memory) : Type 0 where
   pub grows : m createdAt ≤ n createdAt
   pub modules : (p : ℕ) → 1 ≤ p → p ≤ m createdAt → n (moduleAt p) ≡ m (moduleAt p)
   pub begun : (p : ℕ) → 1 ≤ p → p ≤ m createdAt → (m (statusAt p) ≡ 1 → ⊥) → n (statusAt p) ≡ 1 → ⊥
@@ -105,6 +105,6 @@ pub record Fills (T : Table) (m : Memory) (p b : ℕ) (ws : List ℕ) : Type 0 w
   pub places : (i : ℕ) → i < params T b → varMode T (firstVar T b + i) ≡ 2 → lives T m p (m (depthAt p)) (m (frameAt p)) (m (worksAt p)) (varType T (firstVar T b + i)) (getD ws (firstWords T b i) 0) ≡ true
 
 -- what a call comes to: a state that meets the rule, or the failure of a frame that does not fit
-pub data Calling (T : Table) : Outcome Memory → Type 0 where
-  enters : (s : Memory) → rule T s ≡ true → Calling T (ok s)
-  full : Calling T (fail 22)
+pub data CallOutcome (T : Table) : Outcome Memory → Type 0 where
+  enters : (s : Memory) → rule T s ≡ true → CallOutcome T (ok s)
+  full : CallOutcome T (fail 22)

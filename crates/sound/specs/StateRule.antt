@@ -14,7 +14,7 @@ use Rattle.machine.specs.Step.{done, step}
 use Rattle.machine.specs.Run.{begin}
 use Rattle.machine.specs.Rule.{mayWait, rule}
 use Rattle.sound.specs.Answers.{Small, Sound}
-use Rattle.sound.specs.InUse.{Created, Call, ValuesHold}
+use Rattle.sound.specs.InUse.{Created, CallAt, ValuesHold}
 
 -- a state that begin and steps reach, of any processes and on any pages
 pub data Reachable (T : Table) : Memory → Type 0 where
@@ -37,7 +37,7 @@ pub record StateRule (T : Table) : Type 0 where
   -- two started processes that stand at no when or cycle work on different variables
   pub apart : (m : Memory) → rule T m ≡ true → (p q : ℕ) → NotWaiting T m p → NotWaiting T m q → m (worksAt p) ≡ m (worksAt q) → p ≡ q
   -- a process that works on its own variables is in calls of its own module's procedures only
-  pub own : (m : Memory) → rule T m ≡ true → (p : ℕ) → m (worksAt p) ≡ p → (d f : ℕ) → Call T m p d f → owner T (calledBlock m p f) ≡ m (moduleAt p)
+  pub own : (m : Memory) → rule T m ≡ true → (p : ℕ) → m (worksAt p) ≡ p → (d f : ℕ) → CallAt T m p d f → owner T (calledBlock m p f) ≡ m (moduleAt p)
   -- of a started one, all calls are its own: its first free word tells what they take (13; 02, i)
   pub frames : (m : Memory) → rule T m ≡ true → (p : ℕ) → Created m p → m (statusAt p) ≡ 2 → m (worksAt p) ≡ p
       → m (topAt p) ≡ moduleWords T (m (moduleAt p)) + ownWords T m p (m (depthAt p)) (m (frameAt p))

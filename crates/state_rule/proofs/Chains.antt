@@ -24,7 +24,7 @@ use Rattle.machine.proofs.Entries.{statement-cases}
 use Rattle.machine.specs.Variables.{varWords, firstWords, frameWords, isModule, isProcedure}
 use Rattle.machine.specs.Rule.{liesIn, calls, mayWait, isCreated, worked, holdsOn, worksBy, modulesHold, framesHold, frameOk, chain, moduleOk, startedOk, processOk, failureOk, runOk, rule}
 use Rattle.machine.specs.Outcomes.{isFailure}
-use Rattle.values.specs.Walks.{Words}
+use Rattle.values.specs.Walks.{WordCount}
 use Rattle.state_rule.specs.Chains.{Sum, Summed, startedOf, frameFits, calledOk, callMade, callOk, baseOk, Left, runningOk, processRow, processesHold}
 use Rattle.values.proofs.Parts.{first-none, first-more}
 
@@ -149,7 +149,7 @@ module _ (begin : ℕ → ℕ) where
   summed-more : (i k w : ℕ) → Summed begin i k → w ≤ 200 → begin (i + 1) ≡ begin i + w → Summed begin (i + 1) (k + w)
   summed-more i k w h l e = let u = h .is in let v = h .small in record { is = omega arith; small = omega arith }
 
-  pub summed-fits : (i k n v w : ℕ) → Summed begin i k → i < n → n < 65536 → Words v w → Fits w64 (k + w)
+  pub summed-fits : (i k n v w : ℕ) → Summed begin i k → i < n → n < 65536 → WordCount v w → Fits w64 (k + w)
   summed-fits i k n v w h l g x = let u = h .small in let z = x .small in record { fits = omega arith }
 
   summed-all : (i k n : ℕ) → Summed begin i k → i ≤ n → n ≤ i → n < 65536 → Sum (begin n) k
@@ -163,10 +163,10 @@ module _ (T : Table) (b : ℕ) where
   module-none = summed-none (varOffset T b) (var-none T b)
 
   module _ (i k first : ℕ) (hp : first ≡ firstVar T b) where
-    pub frame-more : (w : ℕ) → Summed (firstWords T b) i k → Words (varWords T (first + i)) w → Summed (firstWords T b) (i + 1) (k + w)
+    pub frame-more : (w : ℕ) → Summed (firstWords T b) i k → WordCount (varWords T (first + i)) w → Summed (firstWords T b) (i + 1) (k + w)
     frame-more w h x = summed-more (firstWords T b) i k w h (x .small) (first-more T b i ∙ rw (← hp, ← x .is))
 
-    pub module-more : (y w : ℕ) → Summed (varOffset T b) i k → y ≡ varType T (first + i) → Words (wordsOf T y) w → Summed (varOffset T b) (i + 1) (k + w)
+    pub module-more : (y w : ℕ) → Summed (varOffset T b) i k → y ≡ varType T (first + i) → WordCount (wordsOf T y) w → Summed (varOffset T b) (i + 1) (k + w)
     module-more y w h g x = summed-more (varOffset T b) i k w h (x .small) (var-more T b i ∙ rw (← hp, ← g, ← x .is))
 
   module _ (i k n : ℕ) (e : n ≡ vars T b) (l : i ≤ n) (g : n ≤ i) (z : n < 65536) where

@@ -17,14 +17,14 @@ use Rattle.machine.specs.Layout.{location, linkAt, moduleAt}
 use Rattle.machine.specs.Variables.{varWords, firstWords}
 use Rattle.machine.specs.Values.{holds, partOfBlock}
 use Rattle.machine.specs.Rule.{owns, worked, lives, moduleHolds, modulesHold, frameHolds, framesHold}
-use Rattle.values.specs.Walks.{Ready, Near, Words, Walked}
+use Rattle.values.specs.Walks.{SmallSizes, Near, WordCount, Walked}
 use Rattle.values.specs.Heads.{Head}
-use Rattle.state_rule.specs.Frames.{variableRow, variableHolds, livesInModule, ownedIn, frameVariable}
+use Rattle.state_rule.specs.Frames.{variableRow, variableHolds, livesInModule, ownedIn, frameVariableOk}
 use Rattle.values.proofs.Values.{all-same}
 use Rattle.values.proofs.Heading.{v-free}
 use Rattle.values.proofs.Parts.{first-none, first-more, offset-first}
 
-pub near-any : (T : Table) (l : List ℕ) (x a : ℕ) → Ready T l → a ≤ 15000000 → Near T x a
+pub near-any : (T : Table) (l : List ℕ) (x a : ℕ) → SmallSizes T l → a ≤ 15000000 → Near T x a
 near-any T l x a h g = let u = any-small T l (h .sizes) (h .sized) x in record { near = omega arith }
 
 pub variable-is : (T : Table) (m : Memory) (p v a x l : ℕ) (r : Bool) → x ≡ varType T v → l ≡ location p a → r ≡ holds T m x l → r ≡ variableHolds T m p v a
@@ -53,7 +53,7 @@ module _ (T : Table) (b : ℕ) (test : ℕ → ℕ → Bool) where
     unfolding variableRow
     row-is = rw (← hp, ← h .is) e
 
-    pub walked-more : (w : ℕ) → r ≡ true → Words (varWords T (first + i)) w → Walked (firstWords T b) (variableRow T b test) (i + 1) (k + w)
+    pub walked-more : (w : ℕ) → r ≡ true → WordCount (varWords T (first + i)) w → Walked (firstWords T b) (variableRow T b test) (i + 1) (k + w)
     walked-more w g x =
         let u = h .is in
         let v = h .small in
@@ -73,8 +73,8 @@ pub modules-is : (T : Table) (m : Memory) (p b : ℕ) → allBelow (vars T b) (v
 unfolding modulesHold moduleHolds variableRow variableHolds
 modules-is T m p b = all-same (vars T b) _ _ (λ i. rw (offset-first T b i))
 
-pub frames-is : (T : Table) (m : Memory) (p d f q : ℕ) → allBelow (vars T q) (variableRow T q (frameVariable T m p d f)) ≡ framesHold T m p d f q
-unfolding framesHold frameHolds variableRow frameVariable variableHolds
+pub frames-is : (T : Table) (m : Memory) (p d f q : ℕ) → allBelow (vars T q) (variableRow T q (frameVariableOk T m p d f)) ≡ framesHold T m p d f q
+unfolding framesHold frameHolds variableRow frameVariableOk variableHolds
 frames-is T m p d f q = all-same (vars T q) _ _ (λ i. rw (offset-first T q i))
 
 pub ruleset walking = (walked-none, walked-fail, walked-all, modules-is, frames-is)
@@ -157,10 +157,10 @@ module _ (T : Table) (m : Memory) (p τ k : ℕ) where
 pub ruleset owning = (owns-begin, owns-found, owns-next, owns-none)
 
 module _ (T : Table) (m : Memory) (p d f v a mode : ℕ) (hm : mode ≡ varMode T v) (r : Bool) where
-  pub frame-bound : (x y g w : ℕ) → mode ≡ 2 → x ≡ varType T v → y ≡ m (location p (f + 4 + a)) → g ≡ m (location p f) → w ≡ m (location p (f + 2)) → r ≡ lives T m p d g w x y → r ≡ frameVariable T m p d f v a
-  unfolding frameVariable linkAt
+  pub frame-bound : (x y g w : ℕ) → mode ≡ 2 → x ≡ varType T v → y ≡ m (location p (f + 4 + a)) → g ≡ m (location p f) → w ≡ m (location p (f + 2)) → r ≡ lives T m p d g w x y → r ≡ frameVariableOk T m p d f v a
+  unfolding frameVariableOk linkAt
   frame-bound x y g w e hx hy hg hw h = rw (← hm, eq-eqb mode 2 e, ← hx, ← hy, add-zero f, ← hg, ← hw) h
 
-  pub frame-value : (mode ≡ 2 → ⊥) → r ≡ variableHolds T m p v (f + 4 + a) → r ≡ frameVariable T m p d f v a
-  unfolding frameVariable
+  pub frame-value : (mode ≡ 2 → ⊥) → r ≡ variableHolds T m p v (f + 4 + a) → r ≡ frameVariableOk T m p d f v a
+  unfolding frameVariableOk
   frame-value e h = rw (← hm, ne-eqb mode 2 e) h

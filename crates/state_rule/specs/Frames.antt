@@ -15,22 +15,22 @@ use Rattle.machine.specs.Values.{holds, partOfBlock}
 use Rattle.machine.specs.Rule.{worked, lives}
 use Rattle.values.specs.Heads.{Heads}
 use Rattle.values.specs.Jumps.{Jumps}
-use Rattle.values.specs.Walks.{Ready}
+use Rattle.values.specs.Walks.{SmallSizes}
 
 -- what a test of a state goes by beside the table: the words of the types
 pub record StateTest (T : Table) (ws s : List ℕ) : Type 0 where
-  pub ready : Ready T ws
+  pub ready : SmallSizes T ws
   pub state : State s
 
 -- what a search for a live variable goes by: their jumps too
 pub record LiveSearch (T : Table) (ws js s : List ℕ) : Type 0 where
-  pub ready : Ready T ws
+  pub ready : SmallSizes T ws
   pub jumps : Jumps T js
   pub state : State s
 
 -- what the test of the state rule goes by: their heads and jumps too
 pub record RuleTest (T : Table) (ws hs js s : List ℕ) : Type 0 where
-  pub ready : Ready T ws
+  pub ready : SmallSizes T ws
   pub heads : Heads T hs
   pub jumps : Jumps T js
   pub state : State s
@@ -52,8 +52,8 @@ module _ (T : Table) (m : Memory) where
   ownedIn p f τ k = both (leb (f + 4) k) (partOfBlock T (calledBlock m p f) τ (k - (f + 4)))
 
   -- variable v at word a of the variables of the frame at f
-  unfoldable pub frameVariable : ℕ → ℕ → ℕ → ℕ → ℕ → Bool
-  frameVariable p d f v a =
+  unfoldable pub frameVariableOk : ℕ → ℕ → ℕ → ℕ → ℕ → Bool
+  frameVariableOk p d f v a =
       pick (eqb (varMode T v) 2)
       (lives T m p d (callerFrame m p f) (callerWorks m p f) (varType T v) (m (location p (f + 4 + a))))
       (variableHolds p v (f + 4 + a))

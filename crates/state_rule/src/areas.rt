@@ -14,7 +14,7 @@ ghost use Rattle.machine.specs.Memory.{memoryOf};
 ghost use Rattle.machine.specs.Layout.{location};
 ghost use Rattle.machine.specs.Rule.{owns, lives, modulesHold, framesHold};
 ghost use Rattle.values.specs.Heads.{ValueTest};
-ghost use Rattle.state_rule.specs.Frames.{LiveSearch, RuleTest, variableHolds, livesInModule, ownedIn, frameVariable};
+ghost use Rattle.state_rule.specs.Frames.{LiveSearch, RuleTest, variableHolds, livesInModule, ownedIn, frameVariableOk};
 
 // Where word k from the beginning of the area of process p stands.
 fn location_at(p: usize, k: usize) -> usize
@@ -194,7 +194,7 @@ fn frame_variable_holds(
 ) -> bool
     requires { ⌜ RuleTest (decoded (now c)) (now sizes) (now heads) (now jumps) (now state) ⌝ }
     requires { ⌜ (1 ≤ p) × ((p ≤ 64) × ((f < 65536) × (at ≤ 13900000))) ⌝ }
-    ensures { λ r. ⌜ r ≡ frameVariable (decoded (now (c .entry))) (memoryOf (now (state .entry))) p d f v at ⌝ }
+    ensures { λ r. ⌜ r ≡ frameVariableOk (decoded (now (c .entry))) (memoryOf (now (state .entry))) p d f v at ⌝ }
 {
     if code::var_mode(c, v) == kinds::VAR_PARAMETER {
         let a = area_word(state, p, f + 4 + at);

@@ -22,7 +22,7 @@ ghost use Rattle.machine.specs.Variables.{frameWords, isModule, isProcedure};
 ghost use Rattle.machine.specs.Rule.{liesIn, frameOk, startedOk};
 ghost use Rattle.state_rule.specs.Frames.{StateTest, RuleTest};
 ghost use Rattle.state_rule.specs.Chains.{Sum, startedOf, frameFits, calledOk, callOk, baseOk};
-ghost use Rattle.values.specs.Walks.{Ready};
+ghost use Rattle.values.specs.Walks.{SmallSizes};
 
 // Where the statements of block b end: at the first of the next block, or at the end of all.
 fn next_first(c: &code::Slots, b: usize) -> usize
@@ -66,7 +66,7 @@ pub fn is_module(c: &code::Slots, b: usize) -> bool
 
 // The words of a procedure's variables in its frame.
 fn frame_words(c: &code::Slots, sizes: &[u16], q: usize) -> usize
-    requires { ⌜ Ready (decoded (now c)) (now sizes) ⌝ }
+    requires { ⌜ SmallSizes (decoded (now c)) (now sizes) ⌝ }
     ensures { λ r. ⌜ Sum (frameWords (decoded (now (c .entry))) q) r ⌝ }
 {
     let first = code::first_var(c, q);
@@ -82,7 +82,7 @@ fn frame_words(c: &code::Slots, sizes: &[u16], q: usize) -> usize
 
 // The words of the variables of a module or of block 0.
 fn module_words(c: &code::Slots, sizes: &[u16], b: usize) -> usize
-    requires { ⌜ Ready (decoded (now c)) (now sizes) ⌝ }
+    requires { ⌜ SmallSizes (decoded (now c)) (now sizes) ⌝ }
     ensures { λ r. ⌜ Sum (moduleWords (decoded (now (c .entry))) b) r ⌝ }
 {
     let first = code::first_var(c, b);
@@ -127,7 +127,7 @@ fn called_ok(c: &code::Slots, state: &[u8], w: usize, q: usize) -> bool
 
 // The frame of procedure q at f ends at the top, within the area. The words are added up only where the frame can fit.
 fn frame_fits(c: &code::Slots, sizes: &[u16], f: usize, top: usize, q: usize) -> bool
-    requires { ⌜ Ready (decoded (now c)) (now sizes) ⌝ }
+    requires { ⌜ SmallSizes (decoded (now c)) (now sizes) ⌝ }
     requires { ⌜ f < 65536 ⌝ }
     ensures { λ r. ⌜ r ≡ frameFits (decoded (now (c .entry))) f top q ⌝ }
 {

@@ -22,7 +22,7 @@ ghost use Rattle.machine.specs.Lent.{State};
 ghost use Rattle.machine.specs.Rule.{moduleOk, processOk, failureOk, runOk, rule};
 ghost use Rattle.state_rule.specs.Frames.{StateTest, RuleTest};
 ghost use Rattle.state_rule.specs.Chains.{runningOk, processesHold};
-ghost use Rattle.values.specs.Walks.{Ready};
+ghost use Rattle.values.specs.Walks.{SmallSizes};
 
 // Process 1 is started and runs block 0; the others are created, of a process module.
 fn module_ok(c: &code::Slots, state: &[u8], p: usize) -> bool
@@ -206,7 +206,7 @@ fn all_hold(c: &code::Slots, sizes: &[u16], state: &[u8]) -> bool
 
 // THE STATE RULE: the lent state is one that a run of the table can be in, as far as its words show.
 pub fn rule_holds(c: &code::Slots, sizes: &[u16], state: &[u8]) -> bool
-    requires { ⌜ Ready (decoded (now c)) (now sizes) ⌝ }
+    requires { ⌜ SmallSizes (decoded (now c)) (now sizes) ⌝ }
     requires { ⌜ State (now state) ⌝ }
     ensures { λ r. ⌜ r ≡ rule (decoded (now (c .entry))) (memoryOf (now (state .entry))) ⌝ }
 {

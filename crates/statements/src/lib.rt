@@ -5,13 +5,13 @@ ghost use mathlib.Core.Path.{_≡_};
 ghost use Prim.Native.Nat.{_≤_, _<_};
 ghost use Rattle.table.specs.Entries.{stmtKind};
 ghost use Rattle.code.specs.Code.{decoded};
-ghost use Rattle.effects.specs.Effects.{CarriedOut, Standing};
+ghost use Rattle.effects.specs.Effects.{StatementLeaves, Standing};
 
 // Calls, create and start: kinds 2 to 5.
 fn perform_call(c: &code::Slots, state: &mut [u8], page: &[u8], x: Context, k: usize) -> u8
     requires { ⌜ Standing (now c) (now state) (now page) x ⌝ }
     requires { ⌜ (stmtKind (decoded (now c)) (x .statement) ≡ k) × ((2 ≤ k) × (k ≤ 5)) ⌝ }
-    ensures { λ r. ⌜ CarriedOut (now (c .entry)) (now (state .entry)) (now (page .entry)) x r (now (state .exit)) (now (page .entry)) ⌝ }
+    ensures { λ r. ⌜ StatementLeaves (now (c .entry)) (now (state .entry)) (now (page .entry)) x r (now (state .exit)) (now (page .entry)) ⌝ }
 {
     if k == kinds::LOCAL_CALL {
         return calls::procedures::local_call(c, state, page, x);
@@ -29,7 +29,7 @@ fn perform_call(c: &code::Slots, state: &mut [u8], page: &[u8], x: Context, k: u
 pub fn perform_other(c: &code::Slots, state: &mut [u8], page: &[u8], x: Context, k: usize) -> u8
     requires { ⌜ Standing (now c) (now state) (now page) x ⌝ }
     requires { ⌜ (stmtKind (decoded (now c)) (x .statement) ≡ k) × ((k ≡ 1 → ⊥) × (5 < k → 12 < k)) ⌝ }
-    ensures { λ r. ⌜ CarriedOut (now (c .entry)) (now (state .entry)) (now (page .entry)) x r (now (state .exit)) (now (page .entry)) ⌝ }
+    ensures { λ r. ⌜ StatementLeaves (now (c .entry)) (now (state .entry)) (now (page .entry)) x r (now (state .exit)) (now (page .entry)) ⌝ }
 {
     if k == kinds::SKIP {
         return guards::skip(c, state, page, x);
@@ -40,10 +40,10 @@ pub fn perform_other(c: &code::Slots, state: &mut [u8], page: &[u8], x: Context,
     calls::procedures::block_end(c, state, page, x)
 }
 
-// The statement where its process stands: the answer, the state and the page are those of `carried`.
+// The statement where its process stands: the answer, the state and the page are those of `statementStep`.
 pub fn perform(c: &code::Slots, state: &mut [u8], page: &mut [u8], x: Context) -> u8
     requires { ⌜ Standing (now c) (now state) (now page) x ⌝ }
-    ensures { λ r. ⌜ CarriedOut (now (c .entry)) (now (state .entry)) (now (page .entry)) x r (now (state .exit)) (now (page .exit)) ⌝ }
+    ensures { λ r. ⌜ StatementLeaves (now (c .entry)) (now (state .entry)) (now (page .entry)) x r (now (state .exit)) (now (page .exit)) ⌝ }
 {
     let k = code::stmt_kind(c, x.statement);
     if k == kinds::ASSIGN {

@@ -23,13 +23,13 @@ use Rattle.sizes.proofs.Promise.{types-pass, module-most, var-exact}
 use Rattle.numbers.proofs.BlockPromise.{program-there, program-kind}
 use Rattle.verdict.specs.Verdict.{verdict}
 use Rattle.verdict.specs.Accepted.{Accepted}
-use Rattle.verdict.specs.Checked.{Checked}
+use Rattle.verdict.specs.Checked.{CheckLeaves}
 use Rattle.verdict.proofs.Promise.{promise}
 use Rattle.machine.specs.Memory.{Memory, update, within, fill, zeros, memoryOf, bytesOf}
-use Rattle.machine.specs.Lent.{Lent, Changed, State, Becomes}
+use Rattle.machine.specs.Lent.{WordSlice, Changed, State, Becomes}
 use Rattle.machine.specs.Layout.{statusAt, statementAt, frameAt, topAt, worksAt, holderAt, depthAt, createdAt, numberAt, plainWords, markWords, stateWords, stateSize}
 use Rattle.machine.specs.Calls.{standing}
-use Rattle.machine.specs.Run.{first, begin}
+use Rattle.machine.specs.Run.{initialState, begin}
 use Rattle.machine.specs.Public.{begun, beginCall, beginRefusal}
 use Rattle.machine.proofs.Memories.{within-yes, within-from, within-to, bytes-memory}
 use Rattle.states.specs.Parts.{Cleared, firstMade}
@@ -50,7 +50,7 @@ cleared-more s₀ s i c h =
           (λ e. let d : j ≡ i → ⊥ = eqb-false j i e in getD-set-other s i j 0 0 d ∙ c .is j (omega arith));
     }
 
-pub cleared-all : (n : ℕ) (s₀ s : List ℕ) (i k : ℕ) → Lent n s₀ → Cleared s₀ s i → k ≡ length s₀ → k ≤ i → Changed n s zeros
+pub cleared-all : (n : ℕ) (s₀ s : List ℕ) (i k : ℕ) → WordSlice n s₀ → Cleared s₀ s i → k ≡ length s₀ → k ≤ i → Changed n s zeros
 unfolding memoryOf zeros
 cleared-all n s₀ s i k l c e h = record { long = c .same ∙ l .long; is = fun-ext (λ j. rw (at (j * 2), at (j * 2 + 1))) }
   where
@@ -159,7 +159,7 @@ pub begin-bytes : (T : Table) (n : ℕ) (s₁ s₂ s₃ s₄ : List ℕ) (c t w 
     → Becomes s₄ (fill (memoryOf s₃) plainWords markWords w)
     → Bytes s₄
     → s₄ ≡ bytesOf stateWords (begin T n)
-unfolding begin first firstMade
+unfolding begin initialState firstMade
 begin-bytes T n s₁ s₂ s₃ s₄ c t w hc ht hw a b d f bytes =
     sym (bytes-memory stateWords s₄ bytes (f .long)) ∙ ap (bytesOf stateWords) (f .is ∙ rw (d .is, b .is, a .is, hc, ht, hw))
 
@@ -169,7 +169,7 @@ pub lent-bytes : (s : List ℕ) → length s ≡ stateSize → State s
 lent-bytes s e = record { long = e }
 
 -- what a check with verdict 0 leaves
-module _ (w : ℕ) (t c y z : List ℕ) (v : ℕ) (h : Checked w t v c y z) (o : v ≡ 0) where
+module _ (w : ℕ) (t c y z : List ℕ) (v : ℕ) (h : CheckLeaves w t v c y z) (o : v ≡ 0) where
   pub check-accepted : Accepted (decoded c)
   check-accepted = rw (h .table o) (promise w t (sym (h .is) ∙ o))
 
@@ -188,7 +188,7 @@ module _ (s : List ℕ) (n : ℕ) (b : Bool) (l : b ≡ both (eqb (length s) sta
   pub begun-word : b ≡ true → n < 65536
   begun-word g = let h = leb-true n 1 (both-r _ _ (sym l ∙ g)) in omega arith
 
-  pub begun-refused : (w : ℕ) (t c y z : List ℕ) (v : ℕ) → b ≡ true → Checked w t v c y z → (v ≡ 0 → ⊥) → begun v s ≡ beginCall verdict w t s n
+  pub begun-refused : (w : ℕ) (t c y z : List ℕ) (v : ℕ) → b ≡ true → CheckLeaves w t v c y z → (v ≡ 0 → ⊥) → begun v s ≡ beginCall verdict w t s n
   unfolding beginCall beginRefusal
   begun-refused w t c y z v g h d = rw (← l, g, ← (h .is), ne-eqb v 0 d)
 

@@ -27,7 +27,7 @@ use Rattle.machine.specs.Marks.{marked}
 use Rattle.machine.specs.Variables.{varWords, firstWords, offsetOf, belongs, isModule}
 use Rattle.machine.specs.Rule.{moduleOk, processOk, rule}
 use Rattle.machine.specs.Public.{refusal, visible, wordThere, look, lookRefusal, lookCall}
-use Rattle.states.specs.Parts.{shown, lookJudged}
+use Rattle.states.specs.Parts.{startedOrEnded, lookJudged}
 
 -- ---- what the state rule says of a created process
 
@@ -64,24 +64,24 @@ module _ (T : Table) (m : Memory) (h : rule T m ≡ true) where
 -- ---- a started or ended process
 
 module _ (m : Memory) (p : ℕ) where
-  pub shown-none : p < 1 → false ≡ shown m p
-  unfolding shown
+  pub shown-none : p < 1 → false ≡ startedOrEnded m p
+  unfolding startedOrEnded
   shown-none l = rw (lt-leb 1 p l)
 
   module _ (l : 1 ≤ p) (x y : ℕ) (ex : x ≡ m createdAt) (ey : y ≡ x) where
-    pub shown-above : y < p → false ≡ shown m p
-    unfolding shown
+    pub shown-above : y < p → false ≡ startedOrEnded m p
+    unfolding startedOrEnded
     shown-above g = let u : m createdAt < p = omega arith in rw (le-leb 1 p l, lt-leb p (m createdAt) u)
 
     module _ (g : p ≤ y) (st : ℕ) (es : st ≡ m (statusAt p)) where
-      pub shown-before : st < 2 → false ≡ shown m p
-      unfolding shown
+      pub shown-before : st < 2 → false ≡ startedOrEnded m p
+      unfolding startedOrEnded
       shown-before f =
           let u : p ≤ m createdAt = omega arith in
           rw (le-leb 1 p l, le-leb p (m createdAt) u, ← es, lt-leb 2 st f)
 
-      pub shown-status : 2 ≤ st → leb st 3 ≡ shown m p
-      unfolding shown
+      pub shown-status : 2 ≤ st → leb st 3 ≡ startedOrEnded m p
+      unfolding startedOrEnded
       shown-status f =
           let u : p ≤ m createdAt = omega arith in
           rw (le-leb 1 p l, le-leb p (m createdAt) u, ← es, le-leb 2 st f)
@@ -173,8 +173,8 @@ chosen true true false d e f = refl
 chosen true true true false e f = refl
 chosen true true true true e f = refl
 
-visible-is : (T : Table) (m : Memory) (p v k : ℕ) → visible T m p v k ≡ pick (shown m p) (pick (belongs T (m (moduleAt p)) v) (ltb k (wordsOf T (varType T v))) false) false
-unfolding visible between shown
+visible-is : (T : Table) (m : Memory) (p v k : ℕ) → visible T m p v k ≡ pick (startedOrEnded m p) (pick (belongs T (m (moduleAt p)) v) (ltb k (wordsOf T (varType T v))) false) false
+unfolding visible between startedOrEnded
 visible-is T m p v k = chosen _ _ _ _ _ _
 
 first : (a b : Bool) → pick a b false ≡ true → a ≡ true
@@ -185,18 +185,18 @@ next : (a b : Bool) → pick a b false ≡ true → b ≡ true
 next true b e = e
 next false b e = no-true e
 
-shown-in : (m : Memory) (p : ℕ) → shown m p ≡ true → (1 ≤ p) × (p ≤ m createdAt)
-unfolding shown
+shown-in : (m : Memory) (p : ℕ) → startedOrEnded m p ≡ true → (1 ≤ p) × (p ≤ m createdAt)
+unfolding startedOrEnded
 shown-in m p h = (leb-true 1 p (first (leb 1 p) _ h), leb-true p (m createdAt) (first (leb p (m createdAt)) _ (next (leb 1 p) _ h)))
 
 -- a process that is shown has a record
-pub shown-record : (T : Table) (m : Memory) (p : ℕ) → rule T m ≡ true → (c : Bool) → c ≡ shown m p → c ≡ true → (1 ≤ p) × ((p ≤ 64) × (1 < 20))
+pub shown-record : (T : Table) (m : Memory) (p : ℕ) → rule T m ≡ true → (c : Bool) → c ≡ startedOrEnded m p → c ≡ true → (1 ≤ p) × ((p ≤ 64) × (1 < 20))
 shown-record T m p h c e z =
     let x = shown-in m p (sym e ∙ z) in
     let y = created-most T m h in
     (x .0, (omega (arith, x .1), omega arith))
 
-module _ (T : Table) (m : Memory) (p v k : ℕ) (c : Bool) (ec : c ≡ shown m p) where
+module _ (T : Table) (m : Memory) (p v k : ℕ) (c : Bool) (ec : c ≡ startedOrEnded m p) where
   pub visible-hidden : c ≡ false → false ≡ visible T m p v k
   visible-hidden z = rw (visible-is T m p v k, ← ec, z)
 

@@ -24,8 +24,8 @@ unfoldable pub firstMade : Memory → ℕ → Memory
 firstMade m number = update (update (update (update m (statusAt 1) 2) (holderAt 1) 1) createdAt 1) numberAt number
 
 -- process p is created, and is started or ended
-unfoldable pub shown : Memory → ℕ → Bool
-shown m p =
+unfoldable pub startedOrEnded : Memory → ℕ → Bool
+startedOrEnded m p =
     pick (leb 1 p)
     (pick (leb p (m createdAt))
     (pick (leb 2 (m (statusAt p))) (leb (m (statusAt p)) 3) false)

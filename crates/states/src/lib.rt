@@ -20,7 +20,7 @@ ghost use Rattle.machine.specs.Variables.{offsetOf, belongs};
 ghost use Rattle.machine.specs.Run as runs;
 ghost use Rattle.machine.specs.Rule.{rule};
 ghost use Rattle.machine.specs.Public.{visible, wordThere, look, begun, beginCall};
-ghost use Rattle.states.specs.Parts.{firstMade, shown, lookJudged};
+ghost use Rattle.states.specs.Parts.{firstMade, startedOrEnded, lookJudged};
 
 // Makes every word 0.
 fn clear_all(state: &mut [u8])
@@ -108,7 +108,7 @@ pub fn begin_state(c: &code::Slots, sizes: &[u16], state: &mut [u8], number: u16
 fn is_shown(state: &[u8], p: usize) -> bool
     requires { ⌜ State (now state) ⌝ }
     requires { ⌜ memoryOf (now state) createdAt ≤ 64 ⌝ }
-    ensures { λ r. ⌜ r ≡ shown (memoryOf (now (state .entry))) p ⌝ }
+    ensures { λ r. ⌜ r ≡ startedOrEnded (memoryOf (now (state .entry))) p ⌝ }
 {
     if 1 <= p {
         if p <= wide(machine::record_word(state, 1, machine::CREATED)) {

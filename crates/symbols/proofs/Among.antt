@@ -7,10 +7,10 @@ use borrow.Author.Tests.{eqb-true}
 use Rattle.basics.specs.Choice.{both, either}
 use Rattle.basics.specs.Cases.{cases}
 use Rattle.basics.proofs.Bools.{both-l, both-r, no-true}
-use Rattle.symbols.specs.Vocabulary.{same, among}
+use Rattle.symbols.specs.Vocabulary.{sameBytes, among}
 
-pub same-is : (s u : List ℕ) → same s u ≡ true → s ≡ u
-unfolding same
+pub same-is : (s u : List ℕ) → sameBytes s u ≡ true → s ≡ u
+unfolding sameBytes
 same-is [] [] e = refl
 same-is [] (y ∷ u) e = no-true e
 same-is (x ∷ s) [] e = no-true e
@@ -24,6 +24,6 @@ pub among-each : (f : List ℕ → Bool) (ss : List (List ℕ)) (s : List ℕ) �
 unfolding among either each
 among-each f [] s a e = no-true e
 among-each f (u ∷ ss) s a e =
-    cases (same s u)
+    cases (sameBytes s u)
     (λ q. rw (same-is s u q) (both-l (f u) (each f ss) a))
     (λ q. among-each f ss s (both-r (f u) (each f ss) a) (rw q at e))

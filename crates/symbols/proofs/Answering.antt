@@ -16,8 +16,8 @@ use Rattle.basics.specs.Cases.{cases}
 use Rattle.basics.proofs.Bools.{no-true, both-i, both-false-r}
 use Rattle.symbols.specs.Runs.{newLines}
 use Rattle.symbols.specs.Symbols.{symbolLength, symbolKind, commentLength, Symbol, Reading, fault, found, more, symbolsFrom, symbolsOf}
-use Rattle.symbols.specs.Steps.{Stands, PassesTo, Begins, Found, Room, isFound}
-use Rattle.symbols.specs.Answer.{symbolBytes, allBytes, answerTo, bytesOf, fits, symbolsAnswer, laid, symbolsOut}
+use Rattle.symbols.specs.Steps.{Stands, PassesTo, Begins, WritableText, SymbolRoom, isFound}
+use Rattle.symbols.specs.Answer.{symbolBytes, allBytes, answerTo, readingBytes, textFits, symbolsAnswer, laid, symbolsOut}
 use Rattle.symbols.proofs.Going.{drop-end}
 use Rattle.symbols.proofs.Scanning.{symbol-length, symbol-of, symbol-next, no-symbol}
 
@@ -109,8 +109,8 @@ unfolding isFound more
 found-more s fault e = e
 found-more s (found l) e = refl
 
-bytes-more : (s : Symbol) (r : Reading) → isFound r ≡ true → bytesOf (more s r) ≡ symbolBytes s ++ bytesOf r
-unfolding isFound more bytesOf allBytes
+bytes-more : (s : Symbol) (r : Reading) → isFound r ≡ true → readingBytes (more s r) ≡ symbolBytes s ++ readingBytes r
+unfolding isFound more readingBytes allBytes
 bytes-more s fault e = no-true e
 bytes-more s (found l) e = refl
 
@@ -119,16 +119,16 @@ unfolding symbolBytes
 seven-bytes s = refl
 
 -- each symbol takes a byte of text at least
-few-more : (n : ℕ) (s : Symbol) (r : Reading) → length (bytesOf r) ≤ 7 * n → length (bytesOf (more s r)) ≤ 7 * suc n
-unfolding more bytesOf allBytes symbolBytes
+few-more : (n : ℕ) (s : Symbol) (r : Reading) → length (readingBytes r) ≤ 7 * n → length (readingBytes (more s r)) ≤ 7 * suc n
+unfolding more readingBytes allBytes symbolBytes
 few-more n s fault h = omega arith
 few-more n s (found l) h = omega arith
 
 grow : (n m : ℕ) → n ≤ 7 * m → n ≤ 7 * suc m
 grow n m h = omega arith
 
-few-bytes : (line at k : ℕ) (l : List ℕ) → length (bytesOf (symbolsFrom line at k l)) ≤ 7 * length l
-unfolding symbolsFrom bytesOf allBytes
+few-bytes : (line at k : ℕ) (l : List ℕ) → length (readingBytes (symbolsFrom line at k l)) ≤ 7 * length l
+unfolding symbolsFrom readingBytes allBytes
 few-bytes line at k [] = omega arith
 few-bytes line at (suc k) (x ∷ l) = let i = few-bytes line (at + 1) k l in omega arith
 few-bytes line at zero (x ∷ l) =
@@ -144,9 +144,9 @@ pub record Laid (text out₀ out : List ℕ) (to at line : ℕ) : Type 0 where
   pub read : isFound (symbolsFrom line at 0 (drop at text)) ≡ true
   pub same : length out ≡ length out₀
   pub low : to ≤ 7 * at
-  pub is : sets out to (bytesOf (symbolsFrom line at 0 (drop at text))) ≡ sets out₀ 0 (bytesOf (symbolsOf text))
+  pub is : sets out to (readingBytes (symbolsFrom line at 0 (drop at text))) ≡ sets out₀ 0 (readingBytes (symbolsOf text))
 
-module _ (text out₀ : List ℕ) (f : Found text out₀) where
+module _ (text out₀ : List ℕ) (f : WritableText text out₀) where
   pub laid-none : (at line : ℕ) → PassesTo text 0 1 at line → Laid text out₀ out₀ 0 at line
   unfolding symbolsOf
   laid-none at line p = record { stands = p .stands; ends = p .ends; read = rw (p .keeps) (f .read); same = refl; low = omega arith; is = rw (p .keeps) }
@@ -164,7 +164,7 @@ module _ (text out₀ : List ℕ) (f : Found text out₀) where
         pub laid-begins : Begins text at end
         laid-begins = let n : end ≡ at → ⊥ = begun in record { inside = h; some = omega arith; is = e }
 
-        pub laid-room : Room out to line at (end - at)
+        pub laid-room : SymbolRoom out to line at (end - at)
         laid-room =
             let b = g .stands in
             record {
@@ -185,7 +185,7 @@ module _ (text out₀ : List ℕ) (f : Found text out₀) where
           unfolding symbol-of
           the-symbol = let z : end - at ≡ symbolLength (drop at text) = omega arith in rw (k, z)
 
-          the-bytes : bytesOf (symbolsFrom line at 0 (drop at text)) ≡ symbolBytes (symbol-of line at (drop at text)) ++ bytesOf (symbolsFrom line end 0 (drop end text))
+          the-bytes : readingBytes (symbolsFrom line at 0 (drop at text)) ≡ symbolBytes (symbol-of line at (drop at text)) ++ readingBytes (symbolsFrom line end 0 (drop end text))
           the-bytes = rw next (bytes-more (symbol-of line at (drop at text)) (symbolsFrom line end 0 (drop end text)) going-on)
 
           pub laid-more : Laid text out₀ out′ (to + 7) to′ m
@@ -196,7 +196,7 @@ module _ (text out₀ : List ℕ) (f : Found text out₀) where
                 read = rw (p .keeps) going-on;
                 same = rw w (length-sets out to (symbolBytes (record { kind = kind; line = line; place = at; size = end - at })) ∙ g .same);
                 low = let n = laid-begins .some in omega (arith, g .low, p .rises);
-                is = rw (p .keeps, w, the-symbol) (sym (rw (the-bytes, sets-join out to (symbolBytes (symbol-of line at (drop at text))) (bytesOf (symbolsFrom line end 0 (drop end text))), seven-bytes (symbol-of line at (drop at text)))) ∙ g .is);
+                is = rw (p .keeps, w, the-symbol) (sym (rw (the-bytes, sets-join out to (symbolBytes (symbol-of line at (drop at text))) (readingBytes (symbolsFrom line end 0 (drop end text))), seven-bytes (symbol-of line at (drop at text)))) ∙ g .is);
               }
 
           pub laid-less : length text - to′ < length text - at
@@ -205,20 +205,20 @@ module _ (text out₀ : List ℕ) (f : Found text out₀) where
     pub laid-same : length out ≡ length out₀
     laid-same = g .same
 
-    pub laid-end : length text ≤ at → out ≡ laid (bytesOf (symbolsOf text)) out₀
-    unfolding laid bytesOf allBytes symbolsOf
+    pub laid-end : length text ≤ at → out ≡ laid (readingBytes (symbolsOf text)) out₀
+    unfolding laid readingBytes allBytes symbolsOf
     laid-end h =
-        let q : sets out to (bytesOf (found [])) ≡ sets out₀ 0 (bytesOf (symbolsOf text)) = rw (none-left text at line h) at (g .is) in
-        let b : length (bytesOf (symbolsFrom 1 0 0 text)) ≤ length out₀ = omega (arith, few-bytes 1 0 0 text, f .room) in
-        q ∙ sets-eq (bytesOf (symbolsFrom 1 0 0 text)) out₀ 0 (rw (zero-add (length (bytesOf (symbolsFrom 1 0 0 text)))) b) ∙ rw (zero-add (length (bytesOf (symbolsFrom 1 0 0 text))))
+        let q : sets out to (readingBytes (found [])) ≡ sets out₀ 0 (readingBytes (symbolsOf text)) = rw (none-left text at line h) at (g .is) in
+        let b : length (readingBytes (symbolsFrom 1 0 0 text)) ≤ length out₀ = omega (arith, few-bytes 1 0 0 text, f .room) in
+        q ∙ sets-eq (readingBytes (symbolsFrom 1 0 0 text)) out₀ 0 (rw (zero-add (length (readingBytes (symbolsFrom 1 0 0 text)))) b) ∙ rw (zero-add (length (readingBytes (symbolsFrom 1 0 0 text))))
 
 pub ruleset layings = (stands-first, laid-none, laid-stands, laid-begins, laid-room, laid-more, laid-less, laid-same, laid-end, needs)
 
 -- ---- the call
 
 -- 25 is answered to a fault only
-by-fault : (out : List ℕ) (r : Reading) → answerTo r ≡ 25 → out ≡ laid (bytesOf r) out
-unfolding answerTo bytesOf laid
+by-fault : (out : List ℕ) (r : Reading) → answerTo r ≡ 25 → out ≡ laid (readingBytes r) out
+unfolding answerTo readingBytes laid
 by-fault out fault e = refl
 by-fault out (found l) e = absurd (omega arith)
 
@@ -228,16 +228,16 @@ reads fault n = absurd (n refl)
 reads (found l) n = refl
 
 module _ (text out : List ℕ) where
-  refused-long : 65535 < length text → fits text out ≡ false
-  unfolding fits both
+  refused-long : 65535 < length text → textFits text out ≡ false
+  unfolding textFits both
   refused-long h = rw (lt-leb (length text) 65535 h)
 
-  refused-room : length out < 7 * length text → fits text out ≡ false
-  unfolding fits
+  refused-room : length out < 7 * length text → textFits text out ≡ false
+  unfolding textFits
   refused-room h = both-false-r _ _ (lt-leb (7 * length text) (length out) h)
 
-  it-fits : length text ≤ 65535 → 7 * length text ≤ length out → fits text out ≡ true
-  unfolding fits
+  it-fits : length text ≤ 65535 → 7 * length text ≤ length out → textFits text out ≡ true
+  unfolding textFits
   it-fits h g = both-i _ _ (le-leb (length text) 65535 h) (le-leb (7 * length text) (length out) g)
 
   pub long-answer : 65535 < length text → 1 ≡ symbolsAnswer text out
@@ -267,14 +267,14 @@ module _ (text out : List ℕ) where
       fault-out = rw (it-fits h g) (by-fault out (symbolsOf text) (sym e ∙ z))
 
     module _ (z : answer ≡ 25 → ⊥) where
-      pub found-asks : Found text out
+      pub found-asks : WritableText text out
       found-asks = record { read = reads (symbolsOf text) (λ q. z (e ∙ q)); short = omega arith; room = g }
 
       pub found-answer : answer ≡ symbolsAnswer text out
       unfolding symbolsAnswer
       found-answer = rw (it-fits h g) e
 
-      pub found-out : (out′ : List ℕ) → out′ ≡ laid (bytesOf (symbolsOf text)) out → out′ ≡ symbolsOut text out
+      pub found-out : (out′ : List ℕ) → out′ ≡ laid (readingBytes (symbolsOf text)) out → out′ ≡ symbolsOut text out
       unfolding symbolsOut
       found-out out′ q = rw (it-fits h g) q
 

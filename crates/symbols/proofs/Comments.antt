@@ -14,7 +14,7 @@ use borrow.Author.Tests.{eq-eqb, ne-eqb}
 use Rattle.basics.specs.Choice.{pick}
 use Rattle.basics.specs.Cases.{cases}
 use Rattle.symbols.specs.Characters.{inComment}
-use Rattle.symbols.specs.Runs.{run, newLines}
+use Rattle.symbols.specs.Runs.{spanLength, newLines}
 use Rattle.symbols.specs.Symbols.{commentLength}
 use Rattle.symbols.specs.Steps.{Stands, Past}
 use Rattle.symbols.proofs.Going.{Going, drop-end, run-more, run-stop, run-end, going-none, going-more, going-stop, going-end}
@@ -24,7 +24,7 @@ use Rattle.symbols.proofs.Lengths.{run-length, getD-past}
 
 -- the new lines that are still to come among them
 pub coming : List ℕ → ℕ → ℕ
-coming text at = newLines (run inComment (drop at text)) (drop at text)
+coming text at = newLines (spanLength inComment (drop at text)) (drop at text)
 
 module _ (text : List ℕ) (at : ℕ) where
   module _ (h : at < length text) where
@@ -77,7 +77,7 @@ module _ (text : List ℕ) (from line : ℕ) where
             counted = omega (arith, g .counted);
           }
 
-      pub counting-stop : r ≡ false → Past text from line (run inComment (drop from text)) at n
+      pub counting-stop : r ≡ false → Past text from line (spanLength inComment (drop from text)) at n
       unfolding coming
       counting-stop e =
           record {
@@ -85,7 +85,7 @@ module _ (text : List ℕ) (from line : ℕ) where
             line-is = omega (arith, g .lines, coming-stop text at h (rw l at e));
           }
 
-    pub counting-end : length text ≤ at → Past text from line (run inComment (drop from text)) at n
+    pub counting-end : length text ≤ at → Past text from line (spanLength inComment (drop from text)) at n
     unfolding coming
     counting-end h = record { place-is = going-end inComment text from at (g .going) h; line-is = omega (arith, g .lines, coming-end text at h) }
 
@@ -125,13 +125,13 @@ module _ (text : List ℕ) (at line : ℕ) (h : at < length text) where
   unfolding commentLength
   past-none a b d = none (rw (drop-cons text at 0 h, ne-eqb (getD text at 0) 32 a, ne-eqb (getD text at 0) 10 b, ne-eqb (getD text at 0) 34 d))
 
-  module _ (b : getD text at 0 ≡ 34) (end n : ℕ) (p : Past text (at + 1) line (run inComment (drop (at + 1) text)) end n) where
+  module _ (b : getD text at 0 ≡ 34) (end n : ℕ) (p : Past text (at + 1) line (spanLength inComment (drop (at + 1) text)) end n) where
     inside : ℕ
-    inside = run inComment (drop (at + 1) text)
+    inside = spanLength inComment (drop (at + 1) text)
 
     quoted : commentLength (drop at text) ≡ pick (eqb (getD text end 0) 34) (inside + 2) 0
     unfolding commentLength inside
-    quoted = rw (p .place-is, ← getD-drop (at + 1) text (run inComment (drop (at + 1) text)) 0, add-one at, drop-cons text at 0 h, b)
+    quoted = rw (p .place-is, ← getD-drop (at + 1) text (spanLength inComment (drop (at + 1) text)) 0, add-one at, drop-cons text at 0 h, b)
 
     pub past-quoted : getD text end 0 ≡ 34 → Past text at line (commentLength (drop at text)) (end + 1) n
     unfolding inside

@@ -8,7 +8,7 @@ use native.Mathlib.Omega.{arith}
 use lib.ListN.{length, getD, drop, drop-of-length-le}
 use lib.Seq.{drop-cons}
 use borrow.Author.Needs.{needs}
-use Rattle.symbols.specs.Runs.{run}
+use Rattle.symbols.specs.Runs.{spanLength}
 
 -- the rest of a text at its end
 pub drop-end : (text : List ℕ) (at : ℕ) → length text ≤ at → drop at text ≡ []
@@ -16,22 +16,22 @@ drop-end text at h = drop-of-length-le text h
 
 module _ (f : ℕ → Bool) (text : List ℕ) (at : ℕ) where
   module _ (h : at < length text) where
-    pub run-more : f (getD text at 0) ≡ true → run f (drop at text) ≡ suc (run f (drop (at + 1) text))
-    unfolding run
+    pub run-more : f (getD text at 0) ≡ true → spanLength f (drop at text) ≡ suc (spanLength f (drop (at + 1) text))
+    unfolding spanLength
     run-more e = rw (add-one at, drop-cons text at 0 h, e)
 
-    pub run-stop : f (getD text at 0) ≡ false → run f (drop at text) ≡ 0
-    unfolding run
+    pub run-stop : f (getD text at 0) ≡ false → spanLength f (drop at text) ≡ 0
+    unfolding spanLength
     run-stop e = rw (drop-cons text at 0 h, e)
 
-  pub run-end : length text ≤ at → run f (drop at text) ≡ 0
-  unfolding run
+  pub run-end : length text ≤ at → spanLength f (drop at text) ≡ 0
+  unfolding spanLength
   run-end h = rw (drop-end text at h)
 
 -- what the loop has found so far
 pub record Going (f : ℕ → Bool) (text : List ℕ) (from at : ℕ) : Type 0 where
   pub upto : at ≤ length text
-  pub is : at + run f (drop at text) ≡ from + run f (drop from text)
+  pub is : at + spanLength f (drop at text) ≡ from + spanLength f (drop from text)
 
 module _ (f : ℕ → Bool) (text : List ℕ) (from : ℕ) where
   pub going-none : from ≤ length text → Going f text from from
@@ -42,10 +42,10 @@ module _ (f : ℕ → Bool) (text : List ℕ) (from : ℕ) where
       pub going-more : r ≡ true → Going f text from (at + 1)
       going-more e = record { upto = omega arith; is = omega (arith, g .is, run-more f text at h (rw l at e)) }
 
-      pub going-stop : r ≡ false → at ≡ from + run f (drop from text)
+      pub going-stop : r ≡ false → at ≡ from + spanLength f (drop from text)
       going-stop e = omega (arith, g .is, run-stop f text at h (rw l at e))
 
-    pub going-end : length text ≤ at → at ≡ from + run f (drop from text)
+    pub going-end : length text ≤ at → at ≡ from + spanLength f (drop from text)
     going-end h = omega (arith, g .is, run-end f text at h)
 
 pub ruleset goings = (going-none, going-more, going-stop, going-end, needs)

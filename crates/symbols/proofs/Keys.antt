@@ -16,8 +16,8 @@ use Rattle.basics.specs.Cases.{cases}
 use Rattle.symbols.specs.Steps.{oneOf, packed}
 use Rattle.basics.proofs.Bools.{both-l, both-r, both-i, between-true, no-true}
 use Rattle.symbols.specs.Characters.{letter, digit, inName, small}
-use Rattle.symbols.specs.Runs.{run}
-use Rattle.symbols.specs.Vocabulary.{nameLength, wordSymbols, same, among, isWord}
+use Rattle.symbols.specs.Runs.{spanLength}
+use Rattle.symbols.specs.Vocabulary.{nameLength, wordSymbols, sameBytes, among, isWord}
 use Rattle.symbols.proofs.Among.{each, among-each}
 use Rattle.symbols.proofs.Lengths.{run-length}
 
@@ -101,8 +101,8 @@ fine-byte x e = (leb-true 1 x (both-l _ _ e), let h = leb-true x 127 (both-r _ _
 fine-mod : (x : ℕ) → fineByte x ≡ true → x % 128 ≡ x
 fine-mod x e = mod-eq-of-lt (fine-byte x e .1)
 
-pack-same : (s t : List ℕ) → fine s ≡ true → fine t ≡ true → same s t ≡ eqb (packed s) (packed t)
-unfolding same packed both fine
+pack-same : (s t : List ℕ) → fine s ≡ true → fine t ≡ true → sameBytes s t ≡ eqb (packed s) (packed t)
+unfolding sameBytes packed both fine
 pack-same [] [] f g = refl
 pack-same [] (y ∷ t) f g =
     let e = fine-mod y (both-l (fineByte y) (fine t) g) in let h = fine-byte y (both-l (fineByte y) (fine t) g) in
@@ -146,21 +146,21 @@ name-byte x e =
     (λ u. let g = between-true 65 90 x u in rw u (both-i _ _ (le-leb 1 (x + 32) (omega arith)) (le-leb (x + 32) 127 (omega arith))))
     (λ u. let g = between-true 97 122 x (either-l _ _ l u) in rw u (both-i _ _ (le-leb 1 x (omega arith)) (le-leb x 127 (omega arith)))))
 
-name-fine : (n : ℕ) (l : List ℕ) → n ≤ run inName l → fine (map small (take n l)) ≡ true
-unfolding run fine
+name-fine : (n : ℕ) (l : List ℕ) → n ≤ spanLength inName l → fine (map small (take n l)) ≡ true
+unfolding spanLength fine
 name-fine zero l h = refl
 name-fine (suc n) [] h = refl
 name-fine (suc n) (x ∷ l) h =
     cases (inName x)
-    (λ e. let g : suc n ≤ suc (run inName l) = rw e at h in both-i _ _ (name-byte x e) (name-fine n l (omega arith)))
+    (λ e. let g : suc n ≤ suc (spanLength inName l) = rw e at h in both-i _ _ (name-byte x e) (name-fine n l (omega arith)))
     (λ e. let g : suc n ≤ 0 = rw e at h in absurd (not-suc-le-zero g))
 
 letter-name : (x : ℕ) → letter x ≡ true → inName x ≡ true
 unfolding inName either
 letter-name x e = rw e
 
-name-run : (l : List ℕ) → nameLength l ≤ run inName l
-unfolding nameLength run
+name-run : (l : List ℕ) → nameLength l ≤ spanLength inName l
+unfolding nameLength spanLength
 name-run [] = omega arith
 name-run (x ∷ l) = cases (letter x) (λ e. rw (e, letter-name x e) (omega arith)) (λ e. rw e (omega arith))
 
@@ -188,7 +188,7 @@ module _ (text : List ℕ) (from to : ℕ) (g : from ≤ length text) (e : to �
   pub word-key : (k : ℕ) (r : Bool) → k ≡ packed (map small (take (to - from) (drop from text))) → r ≡ oneOf k (map packed wordSymbols) → r ≡ isWord (take (to - from) (drop from text))
   unfolding isWord wordSymbols each fine fineByte both
   word-key k r p q =
-      let b : to - from ≤ run inName (drop from text) = omega (arith, name-run (drop from text)) in
+      let b : to - from ≤ spanLength inName (drop from text) = omega (arith, name-run (drop from text)) in
       q ∙ rw (p, among-packed (map small (take (to - from) (drop from text))) wordSymbols (name-fine (to - from) (drop from text) b) refl)
 
   pub word-nine : to - from ≤ 9 → to ≤ from + 9
@@ -202,7 +202,7 @@ pub ruleset words = (word-long, word-key, word-nine, word-inside, needs)
 -- ---- where a name ends
 
 module _ (text : List ℕ) (at : ℕ) (h : at < length text) (r : Bool) (l : r ≡ letter (getD text at 0)) where
-  pub name-yes : (end : ℕ) → r ≡ true → end ≡ at + 1 + run inName (drop (at + 1) text) → end ≡ at + nameLength (drop at text)
+  pub name-yes : (end : ℕ) → r ≡ true → end ≡ at + 1 + spanLength inName (drop (at + 1) text) → end ≡ at + nameLength (drop at text)
   unfolding nameLength
   name-yes end e q = rw (drop-cons text at 0 h, ← l, e) (omega (arith, rw (add-one at) at q))
 

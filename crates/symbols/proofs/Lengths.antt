@@ -13,8 +13,8 @@ use Rattle.basics.specs.Choice.{pick}
 use Rattle.basics.specs.Cases.{cases}
 use borrow.Author.Needs.{needs}
 use borrow.Author.Tests.{eq-eqb, ne-eqb, eqb-true, ltb-true, ltb-false}
-use Rattle.symbols.specs.Characters.{digit, octalDigit, standing}
-use Rattle.symbols.specs.Runs.{run}
+use Rattle.symbols.specs.Characters.{digit, octalDigit, plainGraphic}
+use Rattle.symbols.specs.Runs.{spanLength}
 use Rattle.symbols.specs.Constants.{signed, numeralLength, characterLength, charactersLength, constantLength}
 use Rattle.symbols.proofs.Going.{drop-end, run-end}
 
@@ -37,7 +37,7 @@ module _ (text : List ℕ) (at : ℕ) where
   character-past h = rw (drop-end text at h) (omega arith)
 
   module _ (h : at < length text) where
-    octal-at : getD text at 0 ≡ 35 → numeralLength (drop at text) ≡ signed (run octalDigit (drop (at + 1) text))
+    octal-at : getD text at 0 ≡ 35 → numeralLength (drop at text) ≡ signed (spanLength octalDigit (drop (at + 1) text))
     unfolding numeralLength
     octal-at b = rw (add-one at, drop-cons text at 0 h, eq-eqb (getD text at 0) 35 b)
 
@@ -46,13 +46,13 @@ module _ (text : List ℕ) (at : ℕ) where
     escape-at b = rw (add-one at, drop-cons text at 0 h, eq-eqb (getD text at 0) 64 b)
 
     module _ (end : ℕ) where
-      pub octal-none : getD text at 0 ≡ 35 → end ≡ at + 1 + run octalDigit (drop (at + 1) text) → end ≡ at + 1 → at ≡ at + numeralLength (drop at text)
-      octal-none b e z = omega (arith, octal-at b, signed-none (run octalDigit (drop (at + 1) text)) (omega arith))
+      pub octal-none : getD text at 0 ≡ 35 → end ≡ at + 1 + spanLength octalDigit (drop (at + 1) text) → end ≡ at + 1 → at ≡ at + numeralLength (drop at text)
+      octal-none b e z = omega (arith, octal-at b, signed-none (spanLength octalDigit (drop (at + 1) text)) (omega arith))
 
-      pub octal-some : getD text at 0 ≡ 35 → end ≡ at + 1 + run octalDigit (drop (at + 1) text) → (end ≡ at + 1 → ⊥) → end ≡ at + numeralLength (drop at text)
-      octal-some b e z = omega (arith, octal-at b, signed-some (run octalDigit (drop (at + 1) text)) (λ q. z (omega arith)))
+      pub octal-some : getD text at 0 ≡ 35 → end ≡ at + 1 + spanLength octalDigit (drop (at + 1) text) → (end ≡ at + 1 → ⊥) → end ≡ at + numeralLength (drop at text)
+      octal-some b e z = omega (arith, octal-at b, signed-some (spanLength octalDigit (drop (at + 1) text)) (λ q. z (omega arith)))
 
-      pub decimal-at : (getD text at 0 ≡ 35 → ⊥) → end ≡ at + run digit (drop at text) → end ≡ at + numeralLength (drop at text)
+      pub decimal-at : (getD text at 0 ≡ 35 → ⊥) → end ≡ at + spanLength digit (drop at text) → end ≡ at + numeralLength (drop at text)
       unfolding numeralLength
       decimal-at b e = rw (drop-cons text at 0 h, ne-eqb (getD text at 0) 35 b) (rw (drop-cons text at 0 h) at e)
 
@@ -62,7 +62,7 @@ module _ (text : List ℕ) (at : ℕ) where
       pub escape-some : getD text at 0 ≡ 64 → end ≡ at + 1 + numeralLength (drop (at + 1) text) → (end ≡ at + 1 → ⊥) → end ≡ at + characterLength (drop at text)
       escape-some b e z = omega (arith, escape-at b, signed-some (numeralLength (drop (at + 1) text)) (λ q. z (omega arith)))
 
-    module _ (b : getD text at 0 ≡ 64 → ⊥) (r : Bool) (l : r ≡ standing (getD text at 0)) where
+    module _ (b : getD text at 0 ≡ 64 → ⊥) (r : Bool) (l : r ≡ plainGraphic (getD text at 0)) where
       pub standing-one : r ≡ true → at + 1 ≡ at + characterLength (drop at text)
       unfolding characterLength
       standing-one e = rw (drop-cons text at 0 h, ne-eqb (getD text at 0) 64 b, ← l, e)
@@ -73,8 +73,8 @@ module _ (text : List ℕ) (at : ℕ) where
 
 -- ---- nothing reaches past the text
 
-pub run-length : (f : ℕ → Bool) (l : List ℕ) → run f l ≤ length l
-unfolding run
+pub run-length : (f : ℕ → Bool) (l : List ℕ) → spanLength f l ≤ length l
+unfolding spanLength
 run-length f [] = omega arith
 run-length f (x ∷ l) = cases (f x) (λ e. rw e (let i = run-length f l in omega arith)) (λ e. rw e (omega arith))
 
@@ -88,7 +88,7 @@ unfolding numeralLength
 numeral-length [] = omega arith
 numeral-length (x ∷ l) =
     cases (eqb x 35)
-    (λ e. rw e (signed-length (run octalDigit l) (length l) (run-length octalDigit l)))
+    (λ e. rw e (signed-length (spanLength octalDigit l) (length l) (run-length octalDigit l)))
     (λ e. rw e (run-length digit (x ∷ l)))
 
 pub character-length : (l : List ℕ) → characterLength l ≤ length l
@@ -97,7 +97,7 @@ character-length [] = omega arith
 character-length (x ∷ l) =
     cases (eqb x 64)
     (λ e. rw e (signed-length (numeralLength l) (length l) (numeral-length l)))
-    (λ e. rw e (cases (standing x) (λ q. rw q (omega arith)) (λ q. rw q (omega arith))))
+    (λ e. rw e (cases (plainGraphic x) (λ q. rw q (omega arith)) (λ q. rw q (omega arith))))
 
 character-nil : characterLength [] ≡ 0
 unfolding characterLength

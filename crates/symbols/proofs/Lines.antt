@@ -10,7 +10,7 @@ use borrow.Author.Tests.{eqb-true, ne-eqb}
 use Rattle.basics.specs.Choice.{both, either, between}
 use Rattle.basics.specs.Cases.{cases}
 use Rattle.basics.proofs.Bools.{both-l, both-r, no-true}
-use Rattle.symbols.specs.Characters.{letter, digit, octalDigit, inName, standing, graphic}
+use Rattle.symbols.specs.Characters.{letter, digit, octalDigit, inName, plainGraphic, graphic}
 use Rattle.symbols.specs.Runs.{newLines}
 use Rattle.symbols.specs.Vocabulary.{specialSymbols}
 use Rattle.symbols.specs.Symbols.{Symbol, found, symbolsOf}
@@ -58,8 +58,8 @@ octal-line : octalDigit 10 ≡ false
 unfolding octalDigit between both
 octal-line = refl
 
-standing-line : standing 10 ≡ false
-unfolding standing graphic between both
+standing-line : plainGraphic 10 ≡ false
+unfolding plainGraphic graphic between both
 standing-line = refl
 
 not-line : (f : ℕ → Bool) (x : ℕ) → f 10 ≡ false → f x ≡ true → x ≡ 10 → ⊥
@@ -73,7 +73,7 @@ numeral-count s (decimal x r e) = count-all digit digit-line (x ∷ r) e
 numeral-count s (octal x r e) = count-cons 35 (x ∷ r) (λ z. omega arith) ∙ count-all octalDigit octal-line (x ∷ r) e
 
 character-count : (s t : List ℕ) → Character s t → count s ≡ 0
-character-count s t (plain x w e) = count-cons x [] (not-line standing x standing-line e) ∙ count-none
+character-count s t (plain x w e) = count-cons x [] (not-line plainGraphic x standing-line e) ∙ count-none
 character-count s t (coded r w n q) = count-cons 64 r (λ z. omega arith) ∙ numeral-count r n
 
 characters-count : (n : ℕ) (s : List ℕ) → Characters n s → count s ≡ 0

@@ -11,10 +11,10 @@ use borrow.Author.Tests.{eq-eqb, ne-eqb, eqb-true, eqb-false, leb-true, leb-fals
 use Rattle.basics.specs.Choice.{pick, both, either, between}
 use Rattle.basics.specs.Cases.{cases}
 use Rattle.basics.proofs.Bools.{both-l, both-r, both-i, between-true, no-true}
-use Rattle.symbols.specs.Characters.{letter, digit, octalDigit, inName, standing}
-use Rattle.symbols.specs.Runs.{run}
+use Rattle.symbols.specs.Characters.{letter, digit, octalDigit, inName, plainGraphic}
+use Rattle.symbols.specs.Runs.{spanLength}
 use Rattle.symbols.specs.Constants.{signed, numeralLength, characterLength, charactersLength, constantLength}
-use Rattle.symbols.specs.Vocabulary.{nameLength, specialSymbols, begins, longest, specialLength, same, among, isWord}
+use Rattle.symbols.specs.Vocabulary.{nameLength, specialSymbols, beginsWith, longest, specialLength, sameBytes, among, isWord}
 use Rattle.symbols.specs.Symbols.{orElse, symbolLength, nameKind, constantKind, symbolKind}
 use Rattle.symbols.proofs.Among.{same-is, each, among-each}
 use Rattle.symbols.proofs.Lengths.{getD-past, characters-next, characters-stop, numeral-length as numeral-within, character-length, characters-length}
@@ -24,14 +24,14 @@ use Rattle.symbols.specs.Grammar.{all, Name, name, Numeral, decimal, oct
 
 -- ---- runs of a class
 
-pub all-front : (f : ℕ → Bool) (l : List ℕ) → all f (take (run f l) l) ≡ true
-unfolding all run
+pub all-front : (f : ℕ → Bool) (l : List ℕ) → all f (take (spanLength f l) l) ≡ true
+unfolding all spanLength
 all-front f [] = refl
 all-front f (x ∷ l) = cases (f x) (λ e. rw e (both-i _ _ e (all-front f l))) (λ e. rw e)
 
 -- a run goes on after bytes of the class
-pub run-on : (f : ℕ → Bool) (s t : List ℕ) → all f s ≡ true → run f (s ++ t) ≡ length s + run f t
-unfolding all run
+pub run-on : (f : ℕ → Bool) (s t : List ℕ) → all f s ≡ true → spanLength f (s ++ t) ≡ length s + spanLength f t
+unfolding all spanLength
 run-on f [] t e = omega arith
 run-on f (x ∷ s) t e = let i = run-on f s t (both-r _ _ e) in rw (both-l _ _ e) (omega arith)
 
@@ -44,7 +44,7 @@ name-longest s t (name x r e q) = let i = run-on inName r t q in rw e (omega ari
 name-found : (l : List ℕ) → (nameLength l ≡ 0 → ⊥) → Name (take (nameLength l) l)
 unfolding nameLength
 name-found [] n = absurd (n refl)
-name-found (x ∷ l) n = cases (letter x) (λ e. rw e (name x (take (run inName l) l) e (all-front inName l))) (λ e. absurd (n (rw e)))
+name-found (x ∷ l) n = cases (letter x) (λ e. rw e (name x (take (spanLength inName l) l) e (all-front inName l))) (λ e. absurd (n (rw e)))
 
 -- ---- numerals
 
@@ -61,53 +61,53 @@ unfolding signed
 signed-zero = refl
 
 -- a numeral's length, by what follows it
-decimal-is : (x : ℕ) (r t : List ℕ) → all digit (x ∷ r) ≡ true → numeralLength ((x ∷ r) ++ t) ≡ length (x ∷ r) + run digit t
+decimal-is : (x : ℕ) (r t : List ℕ) → all digit (x ∷ r) ≡ true → numeralLength ((x ∷ r) ++ t) ≡ length (x ∷ r) + spanLength digit t
 unfolding numeralLength all
 decimal-is x r t e = rw (digit-sign x (both-l (digit x) (all digit r) e)) (run-on digit (x ∷ r) t e)
 
-octal-view : (l : List ℕ) → numeralLength (35 ∷ l) ≡ signed (run octalDigit l)
+octal-view : (l : List ℕ) → numeralLength (35 ∷ l) ≡ signed (spanLength octalDigit l)
 unfolding numeralLength
 octal-view l = refl
 
-octal-is : (x : ℕ) (r t : List ℕ) → all octalDigit (x ∷ r) ≡ true → numeralLength ((35 ∷ x ∷ r) ++ t) ≡ length (35 ∷ x ∷ r) + run octalDigit t
+octal-is : (x : ℕ) (r t : List ℕ) → all octalDigit (x ∷ r) ≡ true → numeralLength ((35 ∷ x ∷ r) ++ t) ≡ length (35 ∷ x ∷ r) + spanLength octalDigit t
 octal-is x r t e =
     let i = run-on octalDigit (x ∷ r) t e in
-    let j : run octalDigit (x ∷ (r ++ t)) ≡ suc (length r + run octalDigit t) = omega arith in
-    let k : suc (suc (length r + run octalDigit t)) ≡ length (35 ∷ x ∷ r) + run octalDigit t = omega arith in
-    octal-view (x ∷ (r ++ t)) ∙ ap signed j ∙ signed-some (length r + run octalDigit t) ∙ k
+    let j : spanLength octalDigit (x ∷ (r ++ t)) ≡ suc (length r + spanLength octalDigit t) = omega arith in
+    let k : suc (suc (length r + spanLength octalDigit t)) ≡ length (35 ∷ x ∷ r) + spanLength octalDigit t = omega arith in
+    octal-view (x ∷ (r ++ t)) ∙ ap signed j ∙ signed-some (length r + spanLength octalDigit t) ∙ k
 
 numeral-longest : (s t : List ℕ) → Numeral s → length s ≤ numeralLength (s ++ t)
 numeral-longest s t (decimal x r e) = let i = decimal-is x r t e in omega arith
 numeral-longest s t (octal x r e) = let i = octal-is x r t e in omega arith
 
 -- where nothing after it belongs to a numeral, another text after it that is no better leaves it so
-numeral-stays : (s t u : List ℕ) → Numeral s → (run digit t ≡ 0 → run digit u ≡ 0) → (run octalDigit t ≡ 0 → run octalDigit u ≡ 0) → numeralLength (s ++ t) ≡ length s → numeralLength (s ++ u) ≡ length s
+numeral-stays : (s t u : List ℕ) → Numeral s → (spanLength digit t ≡ 0 → spanLength digit u ≡ 0) → (spanLength octalDigit t ≡ 0 → spanLength octalDigit u ≡ 0) → numeralLength (s ++ t) ≡ length s → numeralLength (s ++ u) ≡ length s
 numeral-stays s t u (decimal x r e) f g q = let i = decimal-is x r t e in let k = f (omega arith) in let j = decimal-is x r u e in omega arith
 numeral-stays s t u (octal x r e) f g q = let i = octal-is x r t e in let k = g (omega arith) in let j = octal-is x r u e in omega arith
 
-run-nil : (f : ℕ → Bool) → run f [] ≡ 0
-unfolding run
+run-nil : (f : ℕ → Bool) → spanLength f [] ≡ 0
+unfolding spanLength
 run-nil f = refl
 
-run-one : (f : ℕ → Bool) (x n : ℕ) (l : List ℕ) → run f (x ∷ l) ≡ suc n → (f x ≡ true) × (run f l ≡ n)
-unfolding run
-run-one f x n l e = cases (f x) (λ q. (q, let z : suc (run f l) ≡ suc n = rw q at e in omega arith)) (λ q. let z : 0 ≡ suc n = rw q at e in absurd (omega arith))
+run-one : (f : ℕ → Bool) (x n : ℕ) (l : List ℕ) → spanLength f (x ∷ l) ≡ suc n → (f x ≡ true) × (spanLength f l ≡ n)
+unfolding spanLength
+run-one f x n l e = cases (f x) (λ q. (q, let z : suc (spanLength f l) ≡ suc n = rw q at e in omega arith)) (λ q. let z : 0 ≡ suc n = rw q at e in absurd (omega arith))
 
-decimal-found : (x : ℕ) (l : List ℕ) → (run digit (x ∷ l) ≡ 0 → ⊥) → Numeral (take (run digit (x ∷ l)) (x ∷ l))
-decimal-found x l n = go (run digit (x ∷ l)) refl
+decimal-found : (x : ℕ) (l : List ℕ) → (spanLength digit (x ∷ l) ≡ 0 → ⊥) → Numeral (take (spanLength digit (x ∷ l)) (x ∷ l))
+decimal-found x l n = go (spanLength digit (x ∷ l)) refl
   where
-    go : (k : ℕ) → run digit (x ∷ l) ≡ k → Numeral (take (run digit (x ∷ l)) (x ∷ l))
+    go : (k : ℕ) → spanLength digit (x ∷ l) ≡ k → Numeral (take (spanLength digit (x ∷ l)) (x ∷ l))
     go zero e = absurd (n e)
     go (suc k) e = rw e (decimal x (take k l) (rw e at (all-front digit (x ∷ l))))
 
-octal-found : (x : ℕ) (l : List ℕ) → x ≡ 35 → (run octalDigit l ≡ 0 → ⊥) → Numeral (take (signed (run octalDigit l)) (x ∷ l))
+octal-found : (x : ℕ) (l : List ℕ) → x ≡ 35 → (spanLength octalDigit l ≡ 0 → ⊥) → Numeral (take (signed (spanLength octalDigit l)) (x ∷ l))
 octal-found x l e n = go l n
   where
-    go : (l : List ℕ) → (run octalDigit l ≡ 0 → ⊥) → Numeral (take (signed (run octalDigit l)) (x ∷ l))
+    go : (l : List ℕ) → (spanLength octalDigit l ≡ 0 → ⊥) → Numeral (take (signed (spanLength octalDigit l)) (x ∷ l))
     go [] n = absurd (n (run-nil octalDigit))
-    go (y ∷ l) n = at-some y l (run octalDigit (y ∷ l)) refl n
+    go (y ∷ l) n = at-some y l (spanLength octalDigit (y ∷ l)) refl n
       where
-        at-some : (y : ℕ) (l : List ℕ) (k : ℕ) → run octalDigit (y ∷ l) ≡ k → (run octalDigit (y ∷ l) ≡ 0 → ⊥) → Numeral (take (signed (run octalDigit (y ∷ l))) (x ∷ y ∷ l))
+        at-some : (y : ℕ) (l : List ℕ) (k : ℕ) → spanLength octalDigit (y ∷ l) ≡ k → (spanLength octalDigit (y ∷ l) ≡ 0 → ⊥) → Numeral (take (signed (spanLength octalDigit (y ∷ l))) (x ∷ y ∷ l))
         at-some y l zero q n = absurd (n q)
         at-some y l (suc k) q n = rw (q, signed-some k, e) (octal y (take k l) (rw q at (all-front octalDigit (y ∷ l))))
 
@@ -150,18 +150,18 @@ numeral-most s t k u w e n =
 
 -- ---- special symbols
 
-same-self : (s : List ℕ) → same s s ≡ true
-unfolding same
+same-self : (s : List ℕ) → sameBytes s s ≡ true
+unfolding sameBytes
 same-self [] = refl
 same-self (x ∷ s) = both-i _ _ (eq-eqb x x refl) (same-self s)
 
-begins-self : (s t : List ℕ) → begins s (s ++ t) ≡ true
-unfolding begins
+begins-self : (s t : List ℕ) → beginsWith s (s ++ t) ≡ true
+unfolding beginsWith
 begins-self [] t = refl
 begins-self (x ∷ s) t = both-i _ _ (eq-eqb x x refl) (begins-self s t)
 
-begins-take : (s l : List ℕ) → begins s l ≡ true → take (length s) l ≡ s
-unfolding begins
+begins-take : (s l : List ℕ) → beginsWith s l ≡ true → take (length s) l ≡ s
+unfolding beginsWith
 begins-take [] l e = refl
 begins-take (x ∷ s) [] e = no-true e
 begins-take (x ∷ s) (y ∷ l) e = let a = eqb-true x y (both-l _ _ e) in let b = begins-take s l (both-r _ _ e) in cc
@@ -170,7 +170,7 @@ longest-of : (ss : List (List ℕ)) (s t : List ℕ) → among s ss ≡ true →
 unfolding longest among either
 longest-of [] s t e = no-true e
 longest-of (u ∷ ss) s t e =
-    cases (same s u)
+    cases (sameBytes s u)
     (λ q. let z : u ≡ s = sym (same-is s u q) in rw (z, begins-self s t) (omega arith))
     (λ q. let i = longest-of ss s t (rw q at e) in omega arith)
 
@@ -183,11 +183,11 @@ longest-found : (ss : List (List ℕ)) (l : List ℕ) → (longest ss l ≡ 0 �
 unfolding longest among either
 longest-found [] l n = absurd (n refl)
 longest-found (u ∷ ss) l n =
-    cases (begins u l)
+    cases (beginsWith u l)
     (λ b. cases (leb (longest ss l) (length u))
     (λ h. let g = leb-true (longest ss l) (length u) h in let m : max (length u) (longest ss l) ≡ length u = omega arith in rw (b, m, begins-take u l b, same-self u))
-    (λ h. let g = leb-false (longest ss l) (length u) h in let m : max (length u) (longest ss l) ≡ longest ss l = omega arith in rw (b, m) (either-any (same (take (longest ss l) l) u) (among (take (longest ss l) l) ss) (longest-found ss l (λ z. omega arith)))))
-    (λ b. let m : max 0 (longest ss l) ≡ longest ss l = omega arith in rw (b, m) (either-any (same (take (longest ss l) l) u) (among (take (longest ss l) l) ss) (longest-found ss l (λ z. n (rw b (omega arith))))))
+    (λ h. let g = leb-false (longest ss l) (length u) h in let m : max (length u) (longest ss l) ≡ longest ss l = omega arith in rw (b, m) (either-any (sameBytes (take (longest ss l) l) u) (among (take (longest ss l) l) ss) (longest-found ss l (λ z. omega arith)))))
+    (λ b. let m : max 0 (longest ss l) ≡ longest ss l = omega arith in rw (b, m) (either-any (sameBytes (take (longest ss l) l) u) (among (take (longest ss l) l) ss) (longest-found ss l (λ z. n (rw b (omega arith))))))
 
 -- ---- symbols of different sorts begin differently
 
@@ -196,7 +196,7 @@ unfolding nameLength
 no-name x l e = rw e
 
 no-numeral : (x : ℕ) (l : List ℕ) → digit x ≡ false → eqb x 35 ≡ false → numeralLength (x ∷ l) ≡ 0
-unfolding numeralLength run
+unfolding numeralLength spanLength
 no-numeral x l e q = rw (q, e)
 
 no-constant : (x : ℕ) (l : List ℕ) → eqb x 39 ≡ false → constantLength (x ∷ l) ≡ 0
@@ -246,19 +246,19 @@ numeral-some s (decimal x r e) = (length r, refl)
 numeral-some s (octal x r e) = (suc (length r), refl)
 
 -- a run that does not begin does not begin before an apostrophe, nor in a part
-quiet : (f : ℕ → Bool) → f 39 ≡ false → (t u : List ℕ) → run f t ≡ 0 → run f (t ++ 39 ∷ u) ≡ 0
-unfolding run
+quiet : (f : ℕ → Bool) → f 39 ≡ false → (t u : List ℕ) → spanLength f t ≡ 0 → spanLength f (t ++ 39 ∷ u) ≡ 0
+unfolding spanLength
 quiet f q [] u e = rw q
-quiet f q (y ∷ t) u e = cases (f y) (λ z. let o : suc (run f t) ≡ 0 = rw z at e in absurd (omega arith)) (λ z. rw z)
+quiet f q (y ∷ t) u e = cases (f y) (λ z. let o : suc (spanLength f t) ≡ 0 = rw z at e in absurd (omega arith)) (λ z. rw z)
 
-quiet-part : (f : ℕ → Bool) (m : ℕ) (t : List ℕ) → run f t ≡ 0 → run f (take m t) ≡ 0
-unfolding run
+quiet-part : (f : ℕ → Bool) (m : ℕ) (t : List ℕ) → spanLength f t ≡ 0 → spanLength f (take m t) ≡ 0
+unfolding spanLength
 quiet-part f zero t e = refl
 quiet-part f (suc m) [] e = refl
-quiet-part f (suc m) (y ∷ t) e = cases (f y) (λ z. let o : suc (run f t) ≡ 0 = rw z at e in absurd (omega arith)) (λ z. rw z)
+quiet-part f (suc m) (y ∷ t) e = cases (f y) (λ z. let o : suc (spanLength f t) ≡ 0 = rw z at e in absurd (omega arith)) (λ z. rw z)
 
-at-not-standing : standing 64 ≡ false
-unfolding standing
+at-not-standing : plainGraphic 64 ≡ false
+unfolding plainGraphic
 at-not-standing = refl
 
 apostrophe-digit : digit 39 ≡ false
@@ -274,10 +274,10 @@ unfolding letter between both either
 sign-letter = refl
 
 apostrophe-none : (u : List ℕ) → charactersLength 0 (39 ∷ u) ≡ 0
-unfolding charactersLength characterLength standing
+unfolding charactersLength characterLength plainGraphic
 apostrophe-none u = refl
 
-standing-at : (x : ℕ) → standing x ≡ true → eqb x 64 ≡ false
+standing-at : (x : ℕ) → plainGraphic x ≡ true → eqb x 64 ≡ false
 standing-at x e = cases (eqb x 64) (λ q. let z : x ≡ 64 = eqb-true x 64 q in no-true (sym at-not-standing ∙ rw z at e)) (λ q. q)
 
 pub character-is : (s t u : List ℕ) → Character s t → (characterLength (s ++ (t ++ 39 ∷ u)) ≡ length s) × ((length s ≡ 0) → ⊥)
@@ -369,7 +369,7 @@ character-found [] m n = absurd (n refl)
 character-found (x ∷ l) m n =
     cases (eqb x 64)
     (λ e. let k = signed-size (numeralLength l) (λ z. n (rw e z)) in rw (e, k .1, eqb-true x 64 e) (part-numeral l m (k .0)))
-    (λ e. cases (standing x) (λ q. rw (e, q) (plain x _ q)) (λ q. absurd (n (rw (e, q)))))
+    (λ e. cases (plainGraphic x) (λ q. rw (e, q) (plain x _ q)) (λ q. absurd (n (rw (e, q)))))
 
 characters-found : (f : ℕ) (l : List ℕ) → length l ≤ f → (n : ℕ) × Characters n (take (charactersLength 0 l) l)
 characters-found zero l h = (0, let b = character-length l in rw (characters-stop l (omega arith)) none)
@@ -432,12 +432,12 @@ same-symbol k j n m l p q s = rw (p, q) s
 -- ---- THE THEOREM: what is found is a symbol of its kind
 
 sign-only : (l : List ℕ) → symbolLength (35 ∷ l) ≡ numeralLength (35 ∷ l)
-unfolding symbolLength orElse nameLength letter between both either constantLength specialLength specialSymbols longest begins
+unfolding symbolLength orElse nameLength letter between both either constantLength specialLength specialSymbols longest beginsWith
 sign-only l = cases (eqb (numeralLength (35 ∷ l)) 0) (λ e. rw e (sym (eqb-true (numeralLength (35 ∷ l)) 0 e))) (λ e. rw e)
 
 digit-some : (x : ℕ) (l : List ℕ) → digit x ≡ true → numeralLength (x ∷ l) ≡ 0 → ⊥
-unfolding numeralLength run
-digit-some x l e z = let o : suc (run digit l) ≡ 0 = rw (digit-sign x e, e) at z in omega arith
+unfolding numeralLength spanLength
+digit-some x l e z = let o : suc (spanLength digit l) ≡ 0 = rw (digit-sign x e, e) at z in omega arith
 
 pub is-symbol : (l : List ℕ) → (symbolLength l ≡ 0 → ⊥) → IsSymbol (symbolKind l) (take (symbolLength l) l)
 unfolding symbolKind specialLength

@@ -14,7 +14,7 @@ use borrow.Author.Tests.{eq-eqb, ne-eqb, eqb-true, eqb-false, ltb-true, ltb-fals
 use Rattle.basics.specs.Choice.{pick}
 use Rattle.basics.specs.Cases.{cases}
 use Rattle.symbols.specs.Characters.{letter, digit, inName, inComment}
-use Rattle.symbols.specs.Runs.{run, newLines}
+use Rattle.symbols.specs.Runs.{spanLength, newLines}
 use Rattle.symbols.specs.Constants.{numeralLength, characterLength, charactersLength, constantLength}
 use Rattle.symbols.specs.Vocabulary.{nameLength, specialLength, isWord}
 use Rattle.symbols.specs.Symbols.{orElse, symbolLength, nameKind, constantKind, symbolKind, commentLength, Symbol, Reading, fault, more, symbolsFrom, symbolsOf}
@@ -26,11 +26,11 @@ use Rattle.symbols.proofs.Specials.{special-length}
 
 -- ---- lengths stay within the text
 
-quote-within : (l : List ℕ) → eqb (getD l (run inComment l) 0) 34 ≡ true → run inComment l < length l
+quote-within : (l : List ℕ) → eqb (getD l (spanLength inComment l) 0) 34 ≡ true → spanLength inComment l < length l
 quote-within l e =
-    cases (ltb (run inComment l) (length l))
+    cases (ltb (spanLength inComment l) (length l))
     (λ h. ltb-true _ _ h)
-    (λ h. let a = getD-past l (run inComment l) (ltb-false _ _ h) in let b = eqb-true (getD l (run inComment l) 0) 34 e in absurd (omega arith))
+    (λ h. let a = getD-past l (spanLength inComment l) (ltb-false _ _ h) in let b = eqb-true (getD l (spanLength inComment l) 0) 34 e in absurd (omega arith))
 
 pub comment-length : (l : List ℕ) → commentLength l ≤ length l
 unfolding commentLength
@@ -39,7 +39,7 @@ comment-length (x ∷ l) =
     cases (eqb x 32) (λ e. rw e (omega arith)) (λ a.
     cases (eqb x 10) (λ e. rw (a, e) (omega arith)) (λ b.
     cases (eqb x 34)
-    (λ e. cases (eqb (getD l (run inComment l) 0) 34)
+    (λ e. cases (eqb (getD l (spanLength inComment l) 0) 34)
     (λ q. rw (a, b, e, q) (let z = quote-within l q in omega arith))
     (λ q. rw (a, b, e, q) (omega arith)))
     (λ e. rw (a, b, e) (omega arith))))

@@ -12,7 +12,7 @@ use Rattle.basics.specs.Choice.{pick, both, either, between}
 use Rattle.basics.specs.Cases.{cases}
 use Rattle.basics.proofs.Bools.{both-l, between-true, no-true}
 use Rattle.symbols.specs.Characters.{letter, digit, inName, inComment}
-use Rattle.symbols.specs.Runs.{run, newLines}
+use Rattle.symbols.specs.Runs.{spanLength, newLines}
 use Rattle.symbols.specs.Constants.{characterLength, charactersLength}
 use Rattle.symbols.specs.Vocabulary.{nameLength, specialSymbols, isWord}
 use Rattle.symbols.specs.Symbols.{symbolLength, nameKind, constantKind, symbolKind, commentLength, Symbol, Reading, fault, found, more as moreOf, symbolsFrom, symbolsOf}
@@ -30,12 +30,12 @@ unfolding inComment
 quote-out = refl
 
 comment-is : (s rest : List ℕ) → Comment s → commentLength (s ++ rest) ≡ length s
-unfolding commentLength run
+unfolding commentLength spanLength
 comment-is s rest space = refl
 comment-is s rest newLine = refl
 comment-is s rest (quoted t e) =
     let a : (t ++ 34 ∷ []) ++ rest ≡ t ++ 34 ∷ rest = append-assoc t (34 ∷ []) rest in
-    let r : run inComment (t ++ 34 ∷ rest) ≡ length t = run-on inComment t (34 ∷ rest) e ∙ rw quote-out (omega arith) in
+    let r : spanLength inComment (t ++ 34 ∷ rest) ≡ length t = run-on inComment t (34 ∷ rest) e ∙ rw quote-out (omega arith) in
     let g : getD (t ++ 34 ∷ rest) (length t) 0 ≡ 34 = getD-at t 34 rest 0 (length t) refl in
     rw (a, r, g) (omega (arith, length-append t (34 ∷ [])))
 
@@ -44,11 +44,11 @@ comment-some s space z = omega arith
 comment-some s newLine z = omega arith
 comment-some s (quoted t e) z = omega arith
 
-closed : (x : ℕ) (l : List ℕ) → x ≡ 34 → getD l (run inComment l) 0 ≡ 34 → Comment (take (run inComment l + 2) (x ∷ l))
+closed : (x : ℕ) (l : List ℕ) → x ≡ 34 → getD l (spanLength inComment l) 0 ≡ 34 → Comment (take (spanLength inComment l + 2) (x ∷ l))
 closed x l e q =
-    let k : run inComment l + 2 ≡ suc (suc (run inComment l)) = omega arith in
-    let h : run inComment l < length l = cases (leb (length l) (run inComment l)) (λ z. let o = getD-past l (run inComment l) (leb-true (length l) (run inComment l) z) in absurd (omega arith)) (λ z. let o = leb-false (length l) (run inComment l) z in omega arith) in
-    rw (k, take-suc l (run inComment l) 0 h, e, q) (quoted (take (run inComment l) l) (all-front inComment l))
+    let k : spanLength inComment l + 2 ≡ suc (suc (spanLength inComment l)) = omega arith in
+    let h : spanLength inComment l < length l = cases (leb (length l) (spanLength inComment l)) (λ z. let o = getD-past l (spanLength inComment l) (leb-true (length l) (spanLength inComment l) z) in absurd (omega arith)) (λ z. let o = leb-false (length l) (spanLength inComment l) z in omega arith) in
+    rw (k, take-suc l (spanLength inComment l) 0 h, e, q) (quoted (take (spanLength inComment l) l) (all-front inComment l))
 
 comment-found : (l : List ℕ) → (commentLength l ≡ 0 → ⊥) → Comment (take (commentLength l) l)
 unfolding commentLength
@@ -57,8 +57,8 @@ comment-found (x ∷ l) n =
     cases (eqb x 32) (λ a. rw (a, eqb-true x 32 a) space) (λ a.
     cases (eqb x 10) (λ b. rw (a, b, eqb-true x 10 b) newLine) (λ b.
     cases (eqb x 34)
-    (λ c. cases (eqb (getD l (run inComment l) 0) 34)
-    (λ d. rw (a, b, c, d) (closed x l (eqb-true x 34 c) (eqb-true (getD l (run inComment l) 0) 34 d)))
+    (λ c. cases (eqb (getD l (spanLength inComment l) 0) 34)
+    (λ d. rw (a, b, c, d) (closed x l (eqb-true x 34 c) (eqb-true (getD l (spanLength inComment l) 0) 34 d)))
     (λ d. absurd (n (rw (a, b, c, d)))))
     (λ c. absurd (n (rw (a, b, c))))))
 
@@ -137,7 +137,7 @@ name-kind x l e = rw e
 
 name-size : (x : ℕ) (l : List ℕ) → letter x ≡ true → symbolLength (x ∷ l) ≡ nameLength (x ∷ l)
 unfolding nameLength
-name-size x l e = symbol-name (x ∷ l) (λ z. let q : suc (run inName l) ≡ 0 = rw e at z in omega arith)
+name-size x l e = symbol-name (x ∷ l) (λ z. let q : suc (spanLength inName l) ≡ 0 = rw e at z in omega arith)
 
 name-begun : (k : ℕ) (s rest : List ℕ) → Name s → pick (isWord s) 2 3 ≡ k → Begun k s rest
 unfolding nameKind

@@ -13,9 +13,9 @@ use borrow.Author.Tests.{eq-eqb, ne-eqb, eqb-true, eqb-false}
 use Rattle.basics.specs.Choice.{pick, both, either, between}
 use Rattle.basics.specs.Cases.{cases}
 use Rattle.symbols.specs.Characters.{letter, digit}
-use Rattle.symbols.specs.Runs.{run}
+use Rattle.symbols.specs.Runs.{spanLength}
 use Rattle.symbols.specs.Constants.{numeralLength, characterLength, charactersLength, constantLength}
-use Rattle.symbols.specs.Vocabulary.{nameLength, specialSymbols, begins, longest, specialLength, isWord}
+use Rattle.symbols.specs.Vocabulary.{nameLength, specialSymbols, beginsWith, longest, specialLength, isWord}
 use Rattle.symbols.specs.Symbols.{orElse, symbolLength, nameKind, constantKind, symbolKind}
 
 pub or-first : (a b : ℕ) → (a ≡ 0 → ⊥) → orElse a b ≡ a
@@ -54,11 +54,11 @@ pub ruleset ends = (end-name, end-numeral, end-constant, end-special, needs)
 
 pub name-some : (x : ℕ) (l : List ℕ) → letter x ≡ true → nameLength (x ∷ l) ≡ 0 → ⊥
 unfolding nameLength
-name-some x l e z = let q : suc (run _ l) ≡ 0 = rw e at z in omega arith
+name-some x l e z = let q : suc (spanLength _ l) ≡ 0 = rw e at z in omega arith
 
 -- after an apostrophe only a constant begins
 pub constant-symbol : (l : List ℕ) → symbolLength (39 ∷ l) ≡ constantLength (39 ∷ l)
-unfolding symbolLength orElse nameLength numeralLength run letter digit between both either specialLength specialSymbols longest begins
+unfolding symbolLength orElse nameLength numeralLength spanLength letter digit between both either specialLength specialSymbols longest beginsWith
 constant-symbol l = cases (eqb (constantLength (39 ∷ l)) 0) (λ e. rw e (sym (eqb-true _ _ e))) (λ e. rw e)
 
 pub constant-size : (l : List ℕ) → (constantLength (39 ∷ l) ≡ 0 → ⊥) → constantLength (39 ∷ l) ≡ charactersLength 0 l + 2

@@ -26,20 +26,20 @@ unfoldable pub answerTo : Reading → ℕ
 answerTo fault = 25
 answerTo (found l) = 65536 + length l
 
-unfoldable pub bytesOf : Reading → List ℕ
-bytesOf fault = []
-bytesOf (found l) = allBytes l
+unfoldable pub readingBytes : Reading → List ℕ
+readingBytes fault = []
+readingBytes (found l) = allBytes l
 
 -- at most 65,535 bytes of text, and seven bytes of slice for each
-unfoldable pub fits : List ℕ → List ℕ → Bool
-fits text out = both (leb (length text) 65535) (leb (7 * length text) (length out))
+unfoldable pub textFits : List ℕ → List ℕ → Bool
+textFits text out = both (leb (length text) 65535) (leb (7 * length text) (length out))
 
 unfoldable pub symbolsAnswer : List ℕ → List ℕ → ℕ
-symbolsAnswer text out = pick (fits text out) (answerTo (symbolsOf text)) 1
+symbolsAnswer text out = pick (textFits text out) (answerTo (symbolsOf text)) 1
 
 -- some bytes in place of the first ones
 unfoldable pub laid : List ℕ → List ℕ → List ℕ
 laid bytes out = bytes ++ drop (length bytes) out
 
 unfoldable pub symbolsOut : List ℕ → List ℕ → List ℕ
-symbolsOut text out = pick (fits text out) (laid (bytesOf (symbolsOf text)) out) out
+symbolsOut text out = pick (textFits text out) (laid (readingBytes (symbolsOf text)) out) out

@@ -27,8 +27,8 @@ unfoldable pub inComment : ℕ → Bool
 inComment x = pick (eqb x 34) false (pick (eqb x 10) true (graphic x))
 
 -- 6.2, 02: a graphic that stands for itself in a constant, so neither the apostrophe nor @
-unfoldable pub standing : ℕ → Bool
-standing x = pick (eqb x 39) false (pick (eqb x 64) false (graphic x))
+unfoldable pub plainGraphic : ℕ → Bool
+plainGraphic x = pick (eqb x 39) false (pick (eqb x 64) false (graphic x))
 
 -- a capital as its small letter
 unfoldable pub small : ℕ → ℕ

@@ -5,8 +5,8 @@ use mathlib.Core.List.{List, [], _∷_}
 use lib.ListN.{getD}
 use lib.Dec.{eqb}
 use Rattle.basics.specs.Choice.{pick}
-use Rattle.symbols.specs.Characters.{digit, octalDigit, standing}
-use Rattle.symbols.specs.Runs.{run}
+use Rattle.symbols.specs.Characters.{digit, octalDigit, plainGraphic}
+use Rattle.symbols.specs.Runs.{spanLength}
 
 -- the bytes of a sign with the n that follow it; 0 where none does, for a sign alone is nothing
 unfoldable pub signed : ℕ → ℕ
@@ -16,12 +16,12 @@ signed (suc n) = suc (suc n)
 -- 6.1: decimal digits, or the number sign and octal digits
 unfoldable pub numeralLength : List ℕ → ℕ
 numeralLength [] = 0
-numeralLength (x ∷ l) = pick (eqb x 35) (signed (run octalDigit l)) (run digit (x ∷ l))
+numeralLength (x ∷ l) = pick (eqb x 35) (signed (spanLength octalDigit l)) (spanLength digit (x ∷ l))
 
 -- 6.2, 02: a graphic other than the apostrophe and @, or @ and a numeral, as long as possible
 unfoldable pub characterLength : List ℕ → ℕ
 characterLength [] = 0
-characterLength (x ∷ l) = pick (eqb x 64) (signed (numeralLength l)) (pick (standing x) 1 0)
+characterLength (x ∷ l) = pick (eqb x 64) (signed (numeralLength l)) (pick (plainGraphic x) 1 0)
 
 -- 6.3: the bytes of the character symbols at the front; k bytes of one that has begun come first
 unfoldable pub charactersLength : ℕ → List ℕ → ℕ

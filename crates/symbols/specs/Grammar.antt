@@ -6,7 +6,7 @@ use mathlib.Core.Bool.{Bool, true, false}
 use mathlib.Core.List.{List, [], _∷_, _++_}
 use lib.ListN.{length}
 use Rattle.basics.specs.Choice.{both}
-use Rattle.symbols.specs.Characters.{letter, digit, octalDigit, inName, inComment, standing}
+use Rattle.symbols.specs.Characters.{letter, digit, octalDigit, inName, inComment, plainGraphic}
 use Rattle.symbols.specs.Runs.{newLines}
 use Rattle.symbols.specs.Vocabulary.{specialSymbols, among, isWord}
 use Rattle.symbols.specs.Symbols.{Symbol}
@@ -27,7 +27,7 @@ pub data Numeral : List ℕ → Type 0 where
 
 -- 6.2, 02: a character symbol, and the bytes that follow it in its constant: its numeral is as long as possible
 pub data Character : List ℕ → List ℕ → Type 0 where
-  plain : (x : ℕ) (t : List ℕ) → standing x ≡ true → Character (x ∷ []) t
+  plain : (x : ℕ) (t : List ℕ) → plainGraphic x ≡ true → Character (x ∷ []) t
   coded : (s t : List ℕ) → Numeral s → ((u w : List ℕ) → t ≡ u ++ w → Numeral (s ++ u) → u ≡ []) → Character (64 ∷ s) t
 
 -- 6.3: so many of them

@@ -7,9 +7,9 @@ use lib.Dec.{eqb}
 use Rattle.basics.specs.Choice.{pick}
 
 -- how many bytes at the front are of a class
-unfoldable pub run : (ℕ → Bool) → List ℕ → ℕ
-run f [] = 0
-run f (x ∷ l) = pick (f x) (suc (run f l)) 0
+unfoldable pub spanLength : (ℕ → Bool) → List ℕ → ℕ
+spanLength f [] = 0
+spanLength f (x ∷ l) = pick (f x) (suc (spanLength f l)) 0
 
 -- how many of the first k bytes are new lines
 unfoldable pub newLines : ℕ → List ℕ → ℕ

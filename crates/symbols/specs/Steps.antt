@@ -43,7 +43,7 @@ oneOf k [] = false
 oneOf k (x ∷ l) = either (eqb k x) (oneOf k l)
 
 -- there is room for the bytes of a symbol, and each of its numbers is a word
-pub record Room (out : List ℕ) (at line place size : ℕ) : Type 0 where
+pub record SymbolRoom (out : List ℕ) (at line place size : ℕ) : Type 0 where
   pub room : at + 7 ≤ length out
   pub line-word : line < 65536
   pub place-word : place < 65536
@@ -54,7 +54,7 @@ isFound fault = false
 isFound (found l) = true
 
 -- a text whose symbols may be written
-pub record Found (text out : List ℕ) : Type 0 where
+pub record WritableText (text out : List ℕ) : Type 0 where
   pub read : isFound (symbolsOf text) ≡ true
   pub short : length text < 65536
   pub room : 7 * length text ≤ length out

@@ -7,7 +7,7 @@ use lib.ListN.{getD, take}
 use lib.Dec.{eqb}
 use Rattle.basics.specs.Choice.{pick}
 use Rattle.symbols.specs.Characters.{letter, digit, inComment}
-use Rattle.symbols.specs.Runs.{run, newLines}
+use Rattle.symbols.specs.Runs.{spanLength, newLines}
 use Rattle.symbols.specs.Constants.{numeralLength, characterLength, charactersLength, constantLength}
 use Rattle.symbols.specs.Vocabulary.{nameLength, specialLength, isWord}
 
@@ -42,7 +42,7 @@ commentLength [] = 0
 commentLength (x ∷ l) =
     pick (eqb x 32) 1
     (pick (eqb x 10) 1
-    (pick (eqb x 34) (pick (eqb (getD l (run inComment l) 0) 34) (run inComment l + 2) 0) 0))
+    (pick (eqb x 34) (pick (eqb (getD l (spanLength inComment l) 0) 34) (spanLength inComment l + 2) 0) 0))
 
 pub record Symbol : Type 0 where
   pub kind : ℕ

@@ -7,12 +7,12 @@ use lib.ListN.{length, take}
 use lib.Dec.{eqb}
 use Rattle.basics.specs.Choice.{pick, both, either}
 use Rattle.symbols.specs.Characters.{letter, inName, small}
-use Rattle.symbols.specs.Runs.{run}
+use Rattle.symbols.specs.Runs.{spanLength}
 
 -- 3.3: a letter, then letters and digits
 unfoldable pub nameLength : List ℕ → ℕ
 nameLength [] = 0
-nameLength (x ∷ l) = pick (letter x) (suc (run inName l)) 0
+nameLength (x ∷ l) = pick (letter x) (suc (spanLength inName l)) 0
 
 -- 3.2, with <>
 unfoldable pub specialSymbols : List (List ℕ)
@@ -40,15 +40,15 @@ specialSymbols =
     []
 
 -- the text begins with these bytes
-unfoldable pub begins : List ℕ → List ℕ → Bool
-begins [] l = true
-begins (x ∷ s) [] = false
-begins (x ∷ s) (y ∷ l) = both (eqb x y) (begins s l)
+unfoldable pub beginsWith : List ℕ → List ℕ → Bool
+beginsWith [] l = true
+beginsWith (x ∷ s) [] = false
+beginsWith (x ∷ s) (y ∷ l) = both (eqb x y) (beginsWith s l)
 
 -- the length of the longest of some symbols with which the text begins, 0 where there is none
 unfoldable pub longest : List (List ℕ) → List ℕ → ℕ
 longest [] l = 0
-longest (s ∷ ss) l = max (pick (begins s l) (length s) 0) (longest ss l)
+longest (s ∷ ss) l = max (pick (beginsWith s l) (length s) 0) (longest ss l)
 
 unfoldable pub specialLength : List ℕ → ℕ
 specialLength l = longest specialSymbols l
@@ -83,15 +83,15 @@ wordSymbols =
     (119 ∷ 104 ∷ 105 ∷ 108 ∷ 101 ∷ []) ∷  -- while
     []
 
-unfoldable pub same : List ℕ → List ℕ → Bool
-same [] [] = true
-same [] (y ∷ t) = false
-same (x ∷ s) [] = false
-same (x ∷ s) (y ∷ t) = both (eqb x y) (same s t)
+unfoldable pub sameBytes : List ℕ → List ℕ → Bool
+sameBytes [] [] = true
+sameBytes [] (y ∷ t) = false
+sameBytes (x ∷ s) [] = false
+sameBytes (x ∷ s) (y ∷ t) = both (eqb x y) (sameBytes s t)
 
 unfoldable pub among : List ℕ → List (List ℕ) → Bool
 among s [] = false
-among s (t ∷ ts) = either (same s t) (among s ts)
+among s (t ∷ ts) = either (sameBytes s t) (among s ts)
 
 -- 3.1: capitals count as small letters
 unfoldable pub isWord : List ℕ → Bool

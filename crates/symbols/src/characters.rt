@@ -1,7 +1,7 @@
 // Characters (3.1): graphics are bytes 32..126, new line is 10 (02).
 ghost use mathlib.Core.Path.{_≡_};
 ghost use Rattle.basics.specs.Choice.{between};
-ghost use Rattle.symbols.specs.Characters.{letter, digit, octalDigit, inName, inComment, standing, small};
+ghost use Rattle.symbols.specs.Characters.{letter, digit, octalDigit, inName, inComment, plainGraphic, small};
 
 fn is_from(low: u8, high: u8, b: u8) -> bool
     ensures { λ r. ⌜ r ≡ between low high b ⌝ }
@@ -58,7 +58,7 @@ pub fn in_comment(b: u8) -> bool
 
 // A graphic that stands for itself in a constant.
 pub fn is_standing(b: u8) -> bool
-    ensures { λ r. ⌜ r ≡ standing b ⌝ }
+    ensures { λ r. ⌜ r ≡ plainGraphic b ⌝ }
 {
     if b == b'\'' {
         return false;

@@ -6,12 +6,12 @@ ghost use mathlib.Core.Path.{_≡_};
 ghost use Prim.Native.Nat.{_+_, _<_, _≤_};
 ghost use lib.ListN.{length, drop};
 ghost use Rattle.symbols.specs.Characters.{digit, octalDigit};
-ghost use Rattle.symbols.specs.Runs.{run};
+ghost use Rattle.symbols.specs.Runs.{spanLength};
 ghost use Rattle.symbols.specs.Constants.{numeralLength, characterLength, charactersLength, constantLength};
 
 fn digits_end(text: &[u8], from: usize) -> usize
     requires { ⌜ from ≤ length (now text) ⌝ }
-    ensures { λ r. ⌜ r ≡ from + run digit (drop from (now (text .entry))) ⌝ }
+    ensures { λ r. ⌜ r ≡ from + spanLength digit (drop from (now (text .entry))) ⌝ }
 {
     let mut at = from;
     while at < text.len() {
@@ -26,7 +26,7 @@ fn digits_end(text: &[u8], from: usize) -> usize
 
 fn octals_end(text: &[u8], from: usize) -> usize
     requires { ⌜ from ≤ length (now text) ⌝ }
-    ensures { λ r. ⌜ r ≡ from + run octalDigit (drop from (now (text .entry))) ⌝ }
+    ensures { λ r. ⌜ r ≡ from + spanLength octalDigit (drop from (now (text .entry))) ⌝ }
 {
     let mut at = from;
     while at < text.len() {

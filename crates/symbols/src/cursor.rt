@@ -4,7 +4,7 @@ ghost use mathlib.Core.Path.{_≡_};
 ghost use Prim.Native.Nat.{_+_, _<_, _≤_};
 ghost use lib.ListN.{length, drop};
 ghost use Rattle.symbols.specs.Characters.{inComment};
-ghost use Rattle.symbols.specs.Runs.{run};
+ghost use Rattle.symbols.specs.Runs.{spanLength};
 ghost use Rattle.symbols.specs.Symbols.{commentLength};
 ghost use Rattle.symbols.specs.Steps.{Stands, Past, PassesTo};
 
@@ -17,7 +17,7 @@ pub struct Cursor {
 // Past the characters of a comment, to the first byte that is none.
 fn past_characters(text: &[u8], from: usize, line: usize) -> Cursor
     requires { ⌜ Stands (now text) from line ⌝ }
-    ensures { λ r. ⌜ Past (now (text .entry)) from line (run inComment (drop from (now (text .entry)))) (r .place) (r .line) ⌝ }
+    ensures { λ r. ⌜ Past (now (text .entry)) from line (spanLength inComment (drop from (now (text .entry)))) (r .place) (r .line) ⌝ }
 {
     let mut at = from;
     let mut n = line;

@@ -18,8 +18,8 @@ ghost use Prim.Native.Nat.{_+_, _/_, _%_, _<_};
 ghost use lib.ListN.{length, drop};
 ghost use lib.Seq.{sets};
 ghost use Rattle.symbols.specs.Symbols.{symbolLength, symbolKind, symbolsOf};
-ghost use Rattle.symbols.specs.Steps.{Begins, Found, Room};
-ghost use Rattle.symbols.specs.Answer.{symbolBytes, answerTo, bytesOf, laid, symbolsAnswer, symbolsOut};
+ghost use Rattle.symbols.specs.Steps.{Begins, WritableText, SymbolRoom};
+ghost use Rattle.symbols.specs.Answer.{symbolBytes, answerTo, readingBytes, laid, symbolsAnswer, symbolsOut};
 
 // Where the symbol that begins here ends: here, where none begins.
 fn symbol_end(text: &[u8], at: usize) -> usize
@@ -83,7 +83,7 @@ fn high_byte(w: usize) -> u8
 
 // The seven bytes of a symbol.
 fn put_symbol(out: &mut [u8], at: usize, kind: u8, line: usize, place: usize, size: usize)
-    requires { ⌜ Room (now out) at line place size ⌝ }
+    requires { ⌜ SymbolRoom (now out) at line place size ⌝ }
     ensures { λ r. ⌜ now (out .exit) ≡ sets (now (out .entry)) at (symbolBytes (record { kind = kind; line = line; place = place; size = size })) ⌝ }
 {
     out[at] = kind;
@@ -116,8 +116,8 @@ fn count(text: &[u8]) -> u32
 
 // The second pass: the symbols are written.
 fn write(text: &[u8], out: &mut [u8])
-    requires { ⌜ Found (now text) (now out) ⌝ }
-    ensures { λ r. ⌜ now (out .exit) ≡ laid (bytesOf (symbolsOf (now (text .entry)))) (now (out .entry)) ⌝ }
+    requires { ⌜ WritableText (now text) (now out) ⌝ }
+    ensures { λ r. ⌜ now (out .exit) ≡ laid (readingBytes (symbolsOf (now (text .entry)))) (now (out .entry)) ⌝ }
 {
     let mut to = 0;
     let mut c = passed(text, 0, 1);

@@ -8,12 +8,12 @@ ghost use Prim.Native.Nat.{_+_, _-_, _*_, _<_, _≤_, _%_};
 ghost use lib.ListN.{length, take, drop};
 ghost use Rattle.symbols.specs.Characters.{inName, small};
 ghost use Rattle.symbols.specs.Steps.{oneOf, packed};
-ghost use Rattle.symbols.specs.Runs.{run};
+ghost use Rattle.symbols.specs.Runs.{spanLength};
 ghost use Rattle.symbols.specs.Vocabulary.{nameLength, specialLength, wordSymbols, isWord};
 
 fn letters_end(text: &[u8], from: usize) -> usize
     requires { ⌜ from ≤ length (now text) ⌝ }
-    ensures { λ r. ⌜ r ≡ from + run inName (drop from (now (text .entry))) ⌝ }
+    ensures { λ r. ⌜ r ≡ from + spanLength inName (drop from (now (text .entry))) ⌝ }
 {
     let mut at = from;
     while at < text.len() {

@@ -11,12 +11,12 @@ use Rattle.basics.specs.Cases.{cases}
 use Rattle.table.specs.Bytes.{num, shorts, fields, rowSize, fieldAt, fieldWidth, begins}
 use Rattle.table.specs.Table.{Table, cellAt, tableAt}
 use Rattle.table.specs.Entries.{declared}
-use Rattle.table.specs.Reading.{Of, Field}
+use Rattle.table.specs.Reading.{SectionsOf, Field}
 use Rattle.table.specs.declared.Sections.{Sections}
 use Rattle.table.proofs.Shapes.{short-at, short-width, short-in, word-at, word-width, word-in}
 
 -- the count of section k
-pub count-is : (t : List ℕ) (s : Sections) (o : Of t s) (k : ℕ) → k < 8 → Field (tableAt (s .w) t .count k) (getD (s .counts) k 0)
+pub count-is : (t : List ℕ) (s : Sections) (o : SectionsOf t s) (k : ℕ) → k < 8 → Field (tableAt (s .w) t .count k) (getD (s .counts) k 0)
 unfolding tableAt
 count-is t s o k h = record { is = o .section k h .count; small = o .section k h .small }
 
@@ -31,7 +31,7 @@ pub field-some : (w k f : ℕ) → 1 ≤ w → 1 ≤ fieldWidth w k f
 unfolding fieldWidth
 field-some w k f h = cases (ltb f (shorts k)) (λ e. rw e h) (λ e. rw e (omega arith))
 
-module _ (t : List ℕ) (s : Sections) (o : Of t s) (k n z : ℕ) (hk : k < 8) (hn : Field (tableAt (s .w) t .count k) n) (hz : z ≡ rowSize (s .w) k) (i : ℕ) (h : i < n) where
+module _ (t : List ℕ) (s : Sections) (o : SectionsOf t s) (k n z : ℕ) (hk : k < 8) (hn : Field (tableAt (s .w) t .count k) n) (hz : z ≡ rowSize (s .w) k) (i : ℕ) (h : i < n) where
   l : i < getD (s .counts) k 0
   unfolding tableAt
   l = omega (arith, hn .is, o .section k hk .count)

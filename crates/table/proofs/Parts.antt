@@ -16,7 +16,7 @@ use Rattle.basics.specs.Cases.{cases}
 use Rattle.table.specs.Bytes.{num, shorts, words, rowSize, fieldAt, fieldWidth, begins}
 use Rattle.table.specs.Table.{countAt, cellAt, tableAt}
 use Rattle.table.specs.Entries.{argNode}
-use Rattle.table.specs.Reading.{Of, Field}
+use Rattle.table.specs.Reading.{SectionsOf, Field}
 use Rattle.table.specs.Parts.{argumentFrom, argumentsLeft, argumentPart, argumentIn}
 use Rattle.table.specs.declared.Sections.{Sections}
 
@@ -34,7 +34,7 @@ module _ (t : List ℕ) (a n f c w : ℕ) (h : a + n * w ≤ length t) (l : f + 
       omega arith
 
 -- the code's locals
-module _ (t : List ℕ) (s : Sections) (o : Of t s) (first f : ℕ) (hf : f ≡ min first (getD (s .counts) 4 0)) where
+module _ (t : List ℕ) (s : Sections) (o : SectionsOf t s) (first f : ℕ) (hf : f ≡ min first (getD (s .counts) 4 0)) where
   room-4 : getD (s .starts) 4 0 + getD (s .counts) 4 0 * s .w ≤ length t
   room-4 = rw (size-4 (s .w)) at (o .section 4 (omega arith) .room)
 
@@ -144,7 +144,7 @@ module _ (t : List ℕ) (a n f c w k : ℕ) (h : a + n * w ≤ length t) (l : f 
       rw (part-length, lt-leb (k * w + w) (c * w) (omega arith))
 
 -- THE FINDER: argument k of the part is argument first + k of the table
-module _ (t : List ℕ) (s : Sections) (o : Of t s) (first count k : ℕ) (l : k < count) where
+module _ (t : List ℕ) (s : Sections) (o : SectionsOf t s) (first count k : ℕ) (l : k < count) where
   abbrev found : Type 0
   found = argumentIn (argumentPart (s .w) t first count) (s .w) k ≡ argNode (tableAt (s .w) t) (first + k)
 
@@ -176,6 +176,6 @@ all-same (suc n) f g h = let e : f n ≡ g n = h n (omega arith) in let i = all-
 
 -- a test of each argument of a call: of the part's is of the table's
 pub each-argument :
-    (t : List ℕ) (s : Sections) → Of t s → (first count : ℕ) (f : ℕ → ℕ → Bool)
+    (t : List ℕ) (s : Sections) → SectionsOf t s → (first count : ℕ) (f : ℕ → ℕ → Bool)
     → allBelow count (λ k. f k (argumentIn (argumentPart (s .w) t first count) (s .w) k)) ≡ allBelow count (λ k. f k (argNode (tableAt (s .w) t) (first + k)))
 each-argument t s o first count f = all-same count _ _ (λ k l. ap (f k) (argument-is t s o first count k l))

@@ -18,7 +18,7 @@ use Rattle.basics.proofs.Bools.{no-true, both-l, both-r}
 use Rattle.basics.proofs.Chains.{chain-none, chain-more, chain-fail, chain-all}
 use Rattle.table.specs.Bytes.{num, rowSize, rowsEnd, rowsFit, isLeftOut, sectionEnd, sectionFits, whole, begins}
 use Rattle.table.specs.Table.{countAt}
-use Rattle.table.specs.Reading.{sectionAt, SectionIs, SectionsTo, Answers}
+use Rattle.table.specs.Reading.{sectionAt, SectionIs, SectionsTo, ReadAnswer}
 use Rattle.table.specs.declared.Section.{Section}
 use Rattle.table.specs.declared.Section.the-variants.{Whole, Early}
 use Rattle.table.specs.declared.Sections.{Sections}
@@ -200,7 +200,7 @@ module _ (t : List ℕ) (w : ℕ) where
           }
 
   module _ (counts starts : List ℕ) (p k : ℕ) (o : SectionsTo t w counts starts p k) (l : 8 ≤ k) (a : 1 ≤ w) (z : w ≤ 2) where
-    pub sections-all : Answers t w (record { found = eqb p (length t); sections = record { w = w; counts = counts; starts = starts } })
+    pub sections-all : ReadAnswer t w (record { found = eqb p (length t); sections = record { w = w; counts = counts; starts = starts } })
     unfolding whole
     sections-all =
         record {
@@ -209,5 +209,5 @@ module _ (t : List ℕ) (w : ℕ) where
           width = λ e. refl;
         }
 
-  pub refused : (s : Sections) → false ≡ whole w t → Answers t w (record { found = false; sections = s })
+  pub refused : (s : Sections) → false ≡ whole w t → ReadAnswer t w (record { found = false; sections = s })
   refused s e = record { found = e; sections = λ h. no-true h; width = λ h. no-true h }

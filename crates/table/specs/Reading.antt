@@ -28,7 +28,7 @@ pub record SectionIs (t : List ℕ) (w k c a : ℕ) : Type 0 where
   pub small : c < 65536
 
 -- s are the sections of t
-pub record Of (t : List ℕ) (s : Sections) : Type 0 where
+pub record SectionsOf (t : List ℕ) (s : Sections) : Type 0 where
   pub low : 1 ≤ s .w
   pub high : s .w ≤ 2
   pub section : (k : ℕ) → k < 8 → SectionIs t (s .w) k (getD (s .counts) k 0) (getD (s .starts) k 0)
@@ -43,9 +43,9 @@ pub record SectionsTo (t : List ℕ) (w : ℕ) (counts starts : List ℕ) (p k :
   pub section : (j : ℕ) → j < k → SectionIs t w j (getD counts j 0) (getD starts j 0)
 
 -- a reader's answer: whether the bytes are whole sections, and then which
-pub record Answers (t : List ℕ) (w : ℕ) (r : Read) : Type 0 where
+pub record ReadAnswer (t : List ℕ) (w : ℕ) (r : Read) : Type 0 where
   pub found : r .found ≡ whole w t
-  pub sections : r .found ≡ true → Of t (r .sections)
+  pub sections : r .found ≡ true → SectionsOf t (r .sections)
   pub width : r .found ≡ true → r .sections .w ≡ w
 
 -- r is the number v, and fits a word

@@ -7,7 +7,7 @@ ghost use lib.Dec.{eqb};
 ghost use Rattle.basics.specs.Choice.{both};
 ghost use Rattle.table.specs.Bytes.{num, shorts, words, fields, rowSize, fieldAt, fieldWidth};
 ghost use Rattle.table.specs.Table.{tableAt};
-ghost use Rattle.table.specs.Reading.{sectionAt, Of, Answers, Field};
+ghost use Rattle.table.specs.Reading.{sectionAt, SectionsOf, ReadAnswer, Field};
 ghost use Rattle.table.specs.Parts.{argumentPart, argumentIn};
 
 pub struct Sections {
@@ -125,7 +125,7 @@ fn read_section(part: &[u8], w: usize, k: usize) -> Section
 // The sections of the table `t` in the edition of width w.
 pub fn read_sections(t: &[u8], w: usize) -> Read
     requires { ⌜ (1 ≤ w) × (w ≤ 2) ⌝ }
-    ensures { λ r. ⌜ Answers (now (t .entry)) w r ⌝ }
+    ensures { λ r. ⌜ ReadAnswer (now (t .entry)) w r ⌝ }
 {
     let mut counts = [0usize; 8];
     let mut starts = [0usize; 8];
@@ -151,7 +151,7 @@ pub fn read_sections(t: &[u8], w: usize) -> Read
 
 // How many rows section k has.
 pub fn rows(t: &[u8], s: Sections, k: usize) -> usize
-    requires { ⌜ Of (now t) s ⌝ }
+    requires { ⌜ SectionsOf (now t) s ⌝ }
     requires { ⌜ k < 8 ⌝ }
     ensures { λ r. ⌜ Field (tableAt (s .w) (now (t .entry)) .count k) r ⌝ }
 {
@@ -192,7 +192,7 @@ fn least(a: usize, b: usize) -> usize
 
 // The argument finder: the part of the table that holds a call's arguments, `count` of them from `first` on, or as many of these as there are.
 pub fn call_arguments(t: &[u8], s: Sections, first: usize, count: usize) -> &[u8]
-    requires { ⌜ Of (now t) s ⌝ }
+    requires { ⌜ SectionsOf (now t) s ⌝ }
     ensures { λ r. ⌜ now r ≡ argumentPart (s .w) (now (t .entry)) first count ⌝ }
 {
     let w = s.w;

@@ -43,7 +43,7 @@ use Rattle.operands.proofs.Yielding.{place-fits, failed}
 use Rattle.operands.proofs.Yielding as yielding
 use Rattle.operands.proofs.Selecting.{out, Sel, fits-low, fits-high}
 use Rattle.operands.proofs.Evaluating.{Ev, only-retrieval, got-type, got-failed, got-fits, got-place, got-value}
-use Rattle.effects.specs.Effects.{carried, Stepped, Standing}
+use Rattle.effects.specs.Effects.{statementStep, Stepped, Standing}
 use Rattle.effects.proofs.Carrying.{performs-assign}
 use Rattle.transfers.specs.Assignments.{Assigning, Copying, copied}
 use Rattle.transfers.proofs.Following.{apart, need-true, need-done, place-failed, place-goes, place-unstuck, typed-failed, typed-goes, typed-reads, typed-unstuck, typed-gave}
@@ -89,7 +89,7 @@ module _ (t m p : List ℕ) (x : Context) (h : Standing t m p x) (hk : stmtKind 
     module _ (l : Place) (hl : selected l (typeOf (decoded t) a) ≡ out t m p x a) where
       pub assign-fails : (e : Failure) (r : ℕ) (s1 : List ℕ) → l ≡ place.Fail e → r ≡ failureNumber e
           → Becomes s1 (update (memoryOf m) failureAt (failureNumber e))
-          → Stepped r s1 p (carried (decoded t) (memoryOf m) (memoryOf p) (contextIn x))
+          → Stepped r s1 p (statementStep (decoded t) (memoryOf m) (memoryOf p) (contextIn x))
       unfolding doAssign
       assign-fails e r s1 g k c =
           let q : out t m p x a ≡ fail (failureNumber e) = sym hl ∙ rw g in
@@ -187,14 +187,14 @@ module _ (t m p : List ℕ) (x : Context) (i : ℕ) (c : Assigning t m p x i) wh
     module _ (v : Value) (hv : outcomeOf v ≡ firstWord (out t m p x b)) where
       pub word-fails : (e : Failure) (r : ℕ) (s1 : List ℕ) → v ≡ Fail e → r ≡ failureNumber e
           → Becomes s1 (update (memoryOf m) failureAt (failureNumber e))
-          → Stepped r s1 p (carried (decoded t) (memoryOf m) (memoryOf p) (contextIn x))
+          → Stepped r s1 p (statementStep (decoded t) (memoryOf m) (memoryOf p) (contextIn x))
       word-fails e r s1 g k d =
           let q : out t m p x (stmtB (decoded t) (x .statement)) ≡ fail (failureNumber e) = rw hb at (failed _ _ (rw g at hv)) in
           stands-fail t m p x (c .standing) (failureNumber e) r s1 (then ∙ typed-failed _ _ (failureNumber e) q) k d
 
       pub word-returns : (w : ℕ) (s1 s2 : List ℕ) → v ≡ Word w
           → Becomes s1 (mark (update (memoryOf m) i w) i 1) → Becomes s2 (update (memoryOf s1) (statementAt (x .process)) (x .statement + 1))
-          → Stepped 0 s2 p (carried (decoded t) (memoryOf m) (memoryOf p) (contextIn x))
+          → Stepped 0 s2 p (statementStep (decoded t) (memoryOf m) (memoryOf p) (contextIn x))
       word-returns w s1 s2 g d₁ d₂ =
           let q = typed-expression (decoded t) (memoryOf m) (memoryOf p) (contextIn x) (c .standing .ready .ranged) (stmtB (decoded t) (x .statement)) (value-there .expression) (o .numbered) in
           let j = typed-gave (decoded t) (typeOf (decoded t) (stmtB (decoded t) (x .statement))) (out t m p x (stmtB (decoded t) (x .statement))) _ w (apart _ _ then (c .standing .unstuck)) q (rw (g, hb) at hv) in
@@ -224,7 +224,7 @@ module _ (t m p : List ℕ) (x : Context) (i : ℕ) (c : Assigning t m p x i) wh
         pub text-returns : (s1 s2 : List ℕ)
             → Becomes s1 (mark (store (memoryOf m) i (textAt (decoded t) u v)) i (length (textAt (decoded t) u v)))
             → Becomes s2 (update (memoryOf s1) (statementAt (x .process)) (x .statement + 1))
-            → Stepped 0 s2 p (carried (decoded t) (memoryOf m) (memoryOf p) (contextIn x))
+            → Stepped 0 s2 p (statementStep (decoded t) (memoryOf m) (memoryOf p) (contextIn x))
         text-returns s1 s2 d₁ d₂ =
             stands-done t m p x (c .standing) 0 s2 _ (stores _ (textAt (decoded t) u v) (then ∙ typed-reads _ _ _ found-text))
             (record { long = d₂ .long; is = d₂ .is ∙ rw (d₁ .is) })
@@ -248,7 +248,7 @@ module _ (t m p : List ℕ) (x : Context) (i : ℕ) (c : Assigning t m p x i) wh
 
         pub words-fails : (e : Failure) (r : ℕ) (s1 : List ℕ) → l ≡ place.Fail e → r ≡ failureNumber e
             → Becomes s1 (update (memoryOf m) failureAt (failureNumber e))
-            → Stepped r s1 p (carried (decoded t) (memoryOf m) (memoryOf p) (contextIn x))
+            → Stepped r s1 p (statementStep (decoded t) (memoryOf m) (memoryOf p) (contextIn x))
         words-fails e r s1 g h d =
             stands-fail t m p x (c .standing) (failureNumber e) r s1
             (then ∙ typed-failed _ _ (failureNumber e) (got-failed t m p x (c .standing .ready) _ is-retrieval l here e g)) h d
@@ -285,7 +285,7 @@ module _ (t m p : List ℕ) (x : Context) (i : ℕ) (c : Assigning t m p x i) wh
               }
 
           pub words-returns : (s1 : List ℕ) → Becomes s1 (copied (memoryOf m) x j i n)
-              → Stepped 0 s1 p (carried (decoded t) (memoryOf m) (memoryOf p) (contextIn x))
+              → Stepped 0 s1 p (statementStep (decoded t) (memoryOf m) (memoryOf p) (contextIn x))
           unfolding copied
           words-returns s1 d =
               stands-done t m p x (c .standing) 0 s1 _ (rw (length-words (memoryOf m) j n) at (keeps (wordsAt (memoryOf m) j n) found)) d

@@ -11,7 +11,7 @@ use Rattle.words.specs.Values.{failureNumber}
 use Rattle.words.specs.declared.values.Failure.{Failure}
 use Rattle.machine.specs.Memory.{memoryOf, update}
 use Rattle.machine.specs.Layout.{location, statementAt, createdAt, failureAt, pageWords}
-use Rattle.machine.specs.Lent.{Lent, Becomes}
+use Rattle.machine.specs.Lent.{WordSlice, Becomes}
 use Rattle.machine.specs.Marks.{mark, fresh}
 use Rattle.machine.specs.Outcomes.{ok, fail, failWhere, place}
 use Rattle.machine.specs.Entries.{stmtAt}
@@ -27,16 +27,16 @@ use Rattle.operands.specs.Ready.{contextIn}
 use Rattle.operands.proofs.Lending.{lends-type}
 use Rattle.operands.proofs.Typed.{typed-variable}
 use Rattle.operands.proofs.Selecting.{out, Sel, fits-low}
-use Rattle.effects.specs.Effects.{carried, Stepped, Standing}
+use Rattle.effects.specs.Effects.{statementStep, Stepped, Standing}
 use Rattle.effects.proofs.Carrying.{performs-create}
-use Rattle.transfers.specs.Creations.{creates, Creating}
+use Rattle.transfers.specs.Creations.{creates, CreatePremises}
 use Rattle.transfers.proofs.Following.{apart}
 use Rattle.transfers.proofs.Referring.{Selected, selected-unstuck, selected-fits, selected-kind, process-at, process-failed, process-selected}
 use Rattle.transfers.proofs.Steps.{stands-there, stands-below, stands-fail}
 
 -- ---- the laws of `create_next`
 
-module _ (s d : List ℕ) (x : Context) (i μ n : ℕ) (l : Lent pageWords d) (hn : n ≡ memoryOf s createdAt) where
+module _ (s d : List ℕ) (x : Context) (i μ n : ℕ) (l : WordSlice pageWords d) (hn : n ≡ memoryOf s createdAt) where
   pub create-fails : (r : ℕ) (s1 : List ℕ) → n ≡ 64 → r ≡ 24 → Becomes s1 (update (memoryOf s) failureAt 24)
       → Stepped r s1 d (settled (memoryOf s) (memoryOf d) (creates (memoryOf s) (memoryOf d) x i μ))
   unfolding settled creates failWhere
@@ -49,7 +49,7 @@ module _ (s d : List ℕ) (x : Context) (i μ n : ℕ) (l : Lent pageWords d) (h
   create-returns s1 k q e hk hq c =
       record { long = c .long; wide = l .long; is = rw (ne-eqb (memoryOf s createdAt) 64 (λ z. e (hn ∙ z)), c .is, hk, hn, hq) }
 
-  pub create-room : Creating (memoryOf s) x i μ → (n ≡ 64 → ⊥) → n + 1 ≤ 64
+  pub create-room : CreatePremises (memoryOf s) x i μ → (n ≡ 64 → ⊥) → n + 1 ≤ 64
   create-room c e = let g = c .count in omega arith
 
 -- ---- the laws of `create`
@@ -80,7 +80,7 @@ module _ (t m p : List ℕ) (x : Context) (h : Standing t m p x) (hk : stmtKind 
     module _ (l : Place) (hl : selected l (typeOf (decoded t) a) ≡ out t m p x a) where
       pub create-stops : (e : Failure) (r : ℕ) (s1 : List ℕ) → l ≡ place.Fail e → r ≡ failureNumber e
           → Becomes s1 (update (memoryOf m) failureAt (failureNumber e))
-          → Stepped r s1 p (carried (decoded t) (memoryOf m) (memoryOf p) (contextIn x))
+          → Stepped r s1 p (statementStep (decoded t) (memoryOf m) (memoryOf p) (contextIn x))
       unfolding doCreate
       create-stops e r s1 g k c =
           let q : out t m p x a ≡ fail (failureNumber e) = sym hl ∙ rw g in
@@ -95,7 +95,7 @@ module _ (t m p : List ℕ) (x : Context) (h : Standing t m p x) (hk : stmtKind 
         here : Selected (decoded t) (typeOf (decoded t) (stmtA (decoded t) (x .statement))) (ok (place i (typeOf (decoded t) (stmtA (decoded t) (x .statement)))))
         here = subst (Selected (decoded t) (typeOf (decoded t) (stmtA (decoded t) (x .statement)))) is-place is-selected
 
-        pub create-creating : (v : ℕ) → v < 65536 → Creating (memoryOf m) x i v
+        pub create-creating : (v : ℕ) → v < 65536 → CreatePremises (memoryOf m) x i v
         create-creating v k =
             record {
               processLow = h .ready .context .processLow;
@@ -117,8 +117,8 @@ module _ (t m p : List ℕ) (x : Context) (h : Standing t m p x) (hk : stmtKind 
               (process-at (decoded t) (typeOf (decoded t) (stmtA (decoded t) (x .statement))) _ i (selected-kind here) ∙ rw (hv, of-type, ha))
 
           pub create-goes : (r : ℕ) (s1 : List ℕ) → Stepped r s1 p (settled (memoryOf m) (memoryOf p) (creates (memoryOf m) (memoryOf p) x i v))
-              → Stepped r s1 p (carried (decoded t) (memoryOf m) (memoryOf p) (contextIn x))
-          unfolding carried contextIn
+              → Stepped r s1 p (statementStep (decoded t) (memoryOf m) (memoryOf p) (contextIn x))
+          unfolding statementStep contextIn
           create-goes r s1 d = rw (← comes) at d
 
 pub ruleset creations = (create-fails, create-returns, create-room, create-selectable, create-stops, create-creating, create-goes)

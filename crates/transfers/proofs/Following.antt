@@ -8,7 +8,7 @@ use native.Mathlib.Omega.{arith}
 use Rattle.table.specs.Table.{Table}
 use Rattle.types.specs.Types.{NodeType, numbered, string}
 use Rattle.words.specs.Outcomes as words
-use Rattle.machine.specs.Outcomes.{Outcome, ok, fail, stuck, andThen, need, Operand, place, value, text, placed, valued, typed, onPlace, onValue, onTyped}
+use Rattle.machine.specs.Outcomes.{Outcome, ok, fail, stuck, andThen, need, Operand, place, value, text, placed, valued, typedWords, onPlace, onValue, onTyped}
 use Rattle.operands.specs.Answers.{firstWord, Unstuck, goes, fails}
 use Rattle.operands.proofs.Typed.{OfType, a-place, a-value, a-failure, a-stuck}
 use Rattle.operands.proofs.Yielding.{Gave}
@@ -94,11 +94,11 @@ module _ {A : Type 0} (o : Outcome Operand) (f : NodeType → List ℕ → Outco
   typed-failed k e = rw e
 
   pub typed-goes : (τ : ℕ) (ws : List ℕ) → o ≡ ok (value τ ws) → onTyped o f ≡ f (numbered τ) ws
-  unfolding onTyped andThen typed
+  unfolding onTyped andThen typedWords
   typed-goes τ ws e = rw e
 
   pub typed-reads : (ws : List ℕ) → o ≡ ok (text ws) → onTyped o f ≡ f (string (length ws)) ws
-  unfolding onTyped andThen typed
+  unfolding onTyped andThen typedWords
   typed-reads ws e = rw e
 
 pub typed-unstuck : {A : Type 0} (o : Outcome Operand) (f : NodeType → List ℕ → Outcome A) → (onTyped o f ≡ stuck → ⊥) → Unstuck o
@@ -109,7 +109,7 @@ typed-unstuck stuck f g = absurd (g refl)
 
 pub typed-gave : {A : Type 0} (T : Table) (τ : ℕ) (o : Outcome Operand) (f : NodeType → List ℕ → Outcome A) (w : ℕ)
     → (onTyped o f ≡ stuck → ⊥) → OfType T τ o → words.word w ≡ firstWord o → Gave T o τ w
-unfolding onTyped andThen typed firstWord
+unfolding onTyped andThen typedWords firstWord
 typed-gave T τ (ok (place a σ)) f w g (a-place l) e = absurd (g refl)
 typed-gave T τ (ok (value σ ws)) f w g (a-value l) e = record { words = ws; is = refl; first = cc; long = l }
 typed-gave T τ (fail k) f w g a-failure e = no-word w k e

@@ -39,7 +39,7 @@ use Rattle.transfers.specs.declared.Reference.{Reference}
 use Rattle.transfers.specs.declared.Reference.the-variants.{To, Fail}
 use Rattle.transfers.proofs.Following.{apart, need-true, need-done, no-stuck, not-stuck, no-ok, ok-is, fail-is}
 use Rattle.transfers.proofs.Steps.{lent-state}
-use Rattle.transfers.specs.References.{referenceOf, wordRefers, placeRefers, referred, Referring}
+use Rattle.transfers.specs.References.{referenceOf, referredProcess, placeRefers, referred, Referring}
 
 -- ---- process types
 
@@ -108,12 +108,12 @@ module _ (T : Table) (τ : ℕ) {A : Type 0} (f : ℕ → ℕ → Outcome A) whe
 
 -- ---- the laws of `reference`
 
-pub refer-empty : (w : ℕ) → w ≡ 0 → fail 19 ≡ wordRefers w
-unfolding wordRefers
+pub refer-empty : (w : ℕ) → w ≡ 0 → fail 19 ≡ referredProcess w
+unfolding referredProcess
 refer-empty w e = rw (eq-eqb w 0 e)
 
-pub refer-to : (w : ℕ) → (w ≡ 0 → ⊥) → ok w ≡ wordRefers w
-unfolding wordRefers
+pub refer-to : (w : ℕ) → (w ≡ 0 → ⊥) → ok w ≡ referredProcess w
+unfolding referredProcess
 refer-to w n = rw (ne-eqb w 0 n)
 
 -- the variable is marked, or not
@@ -122,14 +122,14 @@ module _ (m : Memory) (a : ℕ) (b : Bool) (hb : b ≡ marked m a) where
   unfolding placeRefers
   refer-unset e = rw (← hb, e)
 
-  pub refer-marked : b ≡ true → (w : ℕ) (r : Reference) → w ≡ m a → referred r ≡ wordRefers w → referred r ≡ placeRefers m a
+  pub refer-marked : b ≡ true → (w : ℕ) (r : Reference) → w ≡ m a → referred r ≡ referredProcess w → referred r ≡ placeRefers m a
   unfolding placeRefers
   refer-marked e w r hw d = d ∙ rw (← hb, e, hw)
 
 -- the reference at a place of a process type
 at-reference : (T : Table) (m : Memory) (a τ : ℕ) → typeKind T τ ≡ 3 → (referenceOf T m (ok (place a τ)) ≡ stuck → ⊥)
     → referenceOf T m (ok (place a τ)) ≡ placeRefers m a
-unfolding referenceOf placeRefers wordRefers onReference failWhere not
+unfolding referenceOf placeRefers referredProcess onReference failWhere not
 at-reference T m a τ e g =
     let d = process-at T τ (λ i μ. onReference m i μ (λ r. ok r)) a e in
     cases (marked m a)
@@ -229,7 +229,7 @@ module _ {A : Type 0} (m : Memory) (a v : ℕ) (b : Bool) (f : ℕ → Outcome A
     full-goes = full-asks ∙ need-done (refers m v (m a)) (f (m a)) (apart _ _ full-asks g)
 
   reference-alone : onReference m a v (λ r. ok r) ≡ placeRefers m a
-  unfolding onReference failWhere placeRefers wordRefers need not
+  unfolding onReference failWhere placeRefers referredProcess need not
   reference-alone =
       cases (marked m a)
       (λ u.
@@ -239,7 +239,7 @@ module _ {A : Type 0} (m : Memory) (a v : ℕ) (b : Bool) (f : ℕ → Outcome A
       (λ u. rw u)
 
   word-unstuck : placeRefers m a ≡ stuck → ⊥
-  unfolding placeRefers wordRefers
+  unfolding placeRefers referredProcess
   word-unstuck k =
       cases (marked m a)
       (λ u.
@@ -249,7 +249,7 @@ module _ {A : Type 0} (m : Memory) (a v : ℕ) (b : Bool) (f : ℕ → Outcome A
       (λ u. no-stuck 31 (rw u at k))
 
   word-fails : (k : ℕ) → fail k ≡ placeRefers m a → need b (onReference m a v f) ≡ fail k
-  unfolding placeRefers wordRefers
+  unfolding placeRefers referredProcess
   word-fails k e =
       cases (marked m a)
       (λ u.
@@ -259,7 +259,7 @@ module _ {A : Type 0} (m : Memory) (a v : ℕ) (b : Bool) (f : ℕ → Outcome A
       (λ u. unset-fails u ∙ fail-is 31 k (sym (rw u at e)))
 
   word-full : (r : ℕ) → ok r ≡ placeRefers m a → Full m a r
-  unfolding placeRefers wordRefers
+  unfolding placeRefers referredProcess
   word-full r e =
       cases (marked m a)
       (λ u.

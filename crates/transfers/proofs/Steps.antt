@@ -15,7 +15,7 @@ use Rattle.machine.specs.Statements.{effect, goTo, goOn, perform}
 use Rattle.code.specs.Code.{decoded}
 use Rattle.operands.specs.declared.Context.{Context}
 use Rattle.operands.specs.Ready.{contextIn, Ready}
-use Rattle.effects.specs.Effects.{carried, Stepped, Standing}
+use Rattle.effects.specs.Effects.{statementStep, Stepped, Standing}
 use Rattle.effects.proofs.Carrying.{statement-there, stepped, stepped-fail}
 
 pub lent-state : (m : List ℕ) → length m ≡ stateSize → State m
@@ -51,7 +51,7 @@ module _ (t m p : List ℕ) (x : Context) (h : Standing t m p x) where
   pub stands-fail : (n r : ℕ) (s1 : List ℕ)
       → perform (decoded t) (memoryOf m) (memoryOf p) (contextIn x) (stmtAt (decoded t) (x .statement)) ≡ fail n
       → r ≡ n → Becomes s1 (update (memoryOf m) failureAt n)
-      → Stepped r s1 p (carried (decoded t) (memoryOf m) (memoryOf p) (contextIn x))
+      → Stepped r s1 p (statementStep (decoded t) (memoryOf m) (memoryOf p) (contextIn x))
   unfolding contextIn
   stands-fail n r s1 e k c = stepped-fail (decoded t) m p s1 p (contextIn x) n r e k c (h .ready .page)
 
@@ -59,7 +59,7 @@ module _ (t m p : List ℕ) (x : Context) (h : Standing t m p x) where
   pub stands-done : (a : ℕ) (s1 : List ℕ) (m1 : Memory)
       → perform (decoded t) (memoryOf m) (memoryOf p) (contextIn x) (stmtAt (decoded t) (x .statement)) ≡ ok (effect a m1 (memoryOf p))
       → Becomes s1 m1
-      → Stepped a s1 p (carried (decoded t) (memoryOf m) (memoryOf p) (contextIn x))
+      → Stepped a s1 p (statementStep (decoded t) (memoryOf m) (memoryOf p) (contextIn x))
   unfolding contextIn
   stands-done a s1 m1 e c =
       stepped (decoded t) m p s1 p (contextIn x) a m1 (memoryOf p) e c (record { long = h .ready .page; is = refl })

@@ -15,7 +15,7 @@ use Rattle.typing.proofs.Promise.{written-address, written-value, address-numbe
 use Rattle.words.specs.Memory.{putAtByte, putWord}
 use Rattle.words.specs.Numbers.{intOf}
 use Rattle.words.specs.Devices.{isDevice, positionOf}
-use Rattle.words.specs.Pages.{writeDevice, pageAfter}
+use Rattle.words.specs.Pages.{writeDevice, pageWith}
 use Rattle.words.specs.Outcomes as words
 use Rattle.words.specs.Values.{failureNumber, outcomeOf}
 use Rattle.words.specs.declared.values.Failure.{Failure}
@@ -41,7 +41,7 @@ use Rattle.operands.proofs.Typed.{OfType, typed-expression}
 use Rattle.operands.proofs.Yielding.{failed}
 use Rattle.operands.proofs.Selecting.{out}
 use Rattle.operands.proofs.Evaluating.{Ev}
-use Rattle.effects.specs.Effects.{carried, Stepped, Standing}
+use Rattle.effects.specs.Effects.{statementStep, Stepped, Standing}
 use Rattle.effects.proofs.Carrying.{performs-write}
 use Rattle.transfers.specs.Devices.{writes, Writing}
 use Rattle.transfers.proofs.Following.{apart, no-word, need-done, value-failed, value-goes, value-unstuck, value-gave}
@@ -76,11 +76,11 @@ is-device i v w e =
     (λ t. t)
     (λ t. no-word w 21 (rw t at e))
 
-module _ (s d d1 : List ℕ) (x : Context) (i v : ℕ) (l : length d ≡ pageSize) (w : Value) (hw : outcomeOf w ≡ writeDevice i v) (hd : d1 ≡ pageAfter d i v) where
+module _ (s d d1 : List ℕ) (x : Context) (i v : ℕ) (l : length d ≡ pageSize) (w : Value) (hw : outcomeOf w ≡ writeDevice i v) (hd : d1 ≡ pageWith d i v) where
   pub write-fails : (e : Failure) (r : ℕ) (s1 : List ℕ) → w ≡ Fail e → r ≡ failureNumber e
       → Becomes s1 (update (memoryOf s) failureAt (failureNumber e))
       → Stepped r s1 d1 (settled (memoryOf s) (memoryOf d) (writes (memoryOf s) (memoryOf d) x i v))
-  unfolding settled writes failWhere pageAfter
+  unfolding settled writes failWhere pageWith
   write-fails e r s1 g k c =
       let q = no-device i v (failureNumber e) (rw g at hw) in
       let same : d1 ≡ d = hd ∙ rw (q .0) in
@@ -89,7 +89,7 @@ module _ (s d d1 : List ℕ) (x : Context) (i v : ℕ) (l : length d ≡ pageSiz
   pub write-returns : (u : ℕ) (s1 : List ℕ) → w ≡ Word u → i < 65536 → v < 65536
       → Becomes s1 (update (memoryOf s) (statementAt (x .process)) (x .statement + 1))
       → Stepped 0 s1 d1 (settled (memoryOf s) (memoryOf d) (writes (memoryOf s) (memoryOf d) x i v))
-  unfolding settled writes failWhere pageAfter
+  unfolding settled writes failWhere pageWith
   write-returns u s1 g a b c =
       let q = is-device i v u (rw g at hw) in
       let put : d1 ≡ putAtByte d (positionOf (intOf i)) v = hd ∙ rw q in
@@ -136,7 +136,7 @@ module _ (t m p : List ℕ) (x : Context) (h : Standing t m p x) (hk : stmtKind 
     module _ (v : Value) (hv : outcomeOf v ≡ firstWord (out t m p x a)) where
       pub address-fails : (e : Failure) (r : ℕ) (s1 : List ℕ) → v ≡ Fail e → r ≡ failureNumber e
           → Becomes s1 (update (memoryOf m) failureAt (failureNumber e))
-          → Stepped r s1 p (carried (decoded t) (memoryOf m) (memoryOf p) (contextIn x))
+          → Stepped r s1 p (statementStep (decoded t) (memoryOf m) (memoryOf p) (contextIn x))
       unfolding onWord
       address-fails e r s1 g k c =
           let q = failed _ _ (rw (g, ha) at hv) in
@@ -191,7 +191,7 @@ module _ (t m p : List ℕ) (x : Context) (i : ℕ) (c : Writing t m p x i) wher
     module _ (v : Value) (hv : outcomeOf v ≡ firstWord (out t m p x b)) where
       pub writing-fails : (e : Failure) (r : ℕ) (s1 : List ℕ) → v ≡ Fail e → r ≡ failureNumber e
           → Becomes s1 (update (memoryOf m) failureAt (failureNumber e))
-          → Stepped r s1 p (carried (decoded t) (memoryOf m) (memoryOf p) (contextIn x))
+          → Stepped r s1 p (statementStep (decoded t) (memoryOf m) (memoryOf p) (contextIn x))
       unfolding onWord
       writing-fails e r s1 g k d =
           let q = failed _ _ (rw (g, hb) at hv) in
@@ -199,8 +199,8 @@ module _ (t m p : List ℕ) (x : Context) (i : ℕ) (c : Writing t m p x i) wher
 
       pub writing-returns : (w r : ℕ) (s1 d1 : List ℕ) → v ≡ Word w
           → Stepped r s1 d1 (settled (memoryOf m) (memoryOf p) (writes (memoryOf m) (memoryOf p) x i w))
-          → Stepped r s1 d1 (carried (decoded t) (memoryOf m) (memoryOf p) (contextIn x))
-      unfolding carried contextIn
+          → Stepped r s1 d1 (statementStep (decoded t) (memoryOf m) (memoryOf p) (contextIn x))
+      unfolding statementStep contextIn
       writing-returns w r s1 d1 g d =
           let e = then ∙ word-goes (decoded t) (typeOf (decoded t) (stmtB (decoded t) (x .statement))) _ _ w (apart _ _ then (c .standing .unstuck))
           (typed-expression (decoded t) (memoryOf m) (memoryOf p) (contextIn x) (c .standing .ready .ranged) (stmtB (decoded t) (x .statement)) (value-there .expression)

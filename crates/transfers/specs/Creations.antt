@@ -17,7 +17,7 @@ creates m page x i μ =
     (ok (effect 0 (update (mark (fresh (update (created m (m createdAt + 1) μ) i (m createdAt + 1)) (location (m createdAt + 1) 0) 256) i 1) (statementAt (x .process)) (x .statement + 1)) page))
 
 -- what it is carried out with
-pub record Creating (m : Memory) (x : Context) (i μ : ℕ) : Type 0 where
+pub record CreatePremises (m : Memory) (x : Context) (i μ : ℕ) : Type 0 where
   pub processLow : 1 ≤ x .process
   pub processHigh : x .process ≤ 64
   pub statement : x .statement < 65535

@@ -22,12 +22,12 @@ unfoldable pub referenceOf : Table → Memory → Outcome Operand → Outcome �
 referenceOf T m o = onProcess T o λ i μ. onReference m i μ λ r. ok r
 
 -- what the word of a process variable says
-unfoldable pub wordRefers : ℕ → Outcome ℕ
-wordRefers w = pick (eqb w 0) (fail 19) (ok w)
+unfoldable pub referredProcess : ℕ → Outcome ℕ
+referredProcess w = pick (eqb w 0) (fail 19) (ok w)
 
 -- what the process variable at location a says
 unfoldable pub placeRefers : Memory → ℕ → Outcome ℕ
-placeRefers m a = pick (marked m a) (wordRefers (m a)) (fail 31)
+placeRefers m a = pick (marked m a) (referredProcess (m a)) (fail 31)
 
 -- the answer of the code
 abbrev pub referred : Reference → Outcome ℕ

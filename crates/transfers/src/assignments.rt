@@ -14,7 +14,7 @@ ghost use Rattle.machine.specs.Memory.{memoryOf};
 ghost use Rattle.machine.specs.Lent.{State, Becomes};
 ghost use Rattle.code.specs.Code.{decoded};
 ghost use Rattle.operands.specs.Answers.{OneWord};
-ghost use Rattle.effects.specs.Effects.{CarriedOut, Standing};
+ghost use Rattle.effects.specs.Effects.{StatementLeaves, Standing};
 ghost use Rattle.transfers.specs.Assignments.{Assigning, Copying, copied};
 
 // The n words from `from` on, to `to`, directly (02, d), which are marked (02, g); then the process goes on.
@@ -31,7 +31,7 @@ pub fn copy(state: &mut [u8], x: Context, from: usize, to: usize, n: usize)
 fn assign_words(c: &code::Slots, state: &mut [u8], page: &[u8], x: Context, i: usize) -> u8
     requires { ⌜ Assigning (now c) (now state) (now page) x i ⌝ }
     requires { ⌜ nodeKind (decoded (now c)) (stmtB (decoded (now c)) (x .statement)) ≡ 4 ⌝ }
-    ensures { λ r. ⌜ CarriedOut (now (c .entry)) (now (state .entry)) (now (page .entry)) x r (now (state .exit)) (now (page .entry)) ⌝ }
+    ensures { λ r. ⌜ StatementLeaves (now (c .entry)) (now (state .entry)) (now (page .entry)) x r (now (state .exit)) (now (page .entry)) ⌝ }
 {
     let b = code::stmt_b(c, x.statement);
     let l = retrieve_place(c, state, page, x, b);
@@ -49,7 +49,7 @@ fn assign_words(c: &code::Slots, state: &mut [u8], page: &[u8], x: Context, i: u
 pub fn assign_text(c: &code::Slots, state: &mut [u8], page: &[u8], x: Context, i: usize) -> u8
     requires { ⌜ Assigning (now c) (now state) (now page) x i ⌝ }
     requires { ⌜ nodeKind (decoded (now c)) (stmtB (decoded (now c)) (x .statement)) ≡ 8 ⌝ }
-    ensures { λ r. ⌜ CarriedOut (now (c .entry)) (now (state .entry)) (now (page .entry)) x r (now (state .exit)) (now (page .entry)) ⌝ }
+    ensures { λ r. ⌜ StatementLeaves (now (c .entry)) (now (state .entry)) (now (page .entry)) x r (now (state .exit)) (now (page .entry)) ⌝ }
 {
     let b = code::stmt_b(c, x.statement);
     let p = code::node_p(c, b);
@@ -63,7 +63,7 @@ pub fn assign_text(c: &code::Slots, state: &mut [u8], page: &[u8], x: Context, i
 fn assign_word(c: &code::Slots, state: &mut [u8], page: &[u8], x: Context, i: usize) -> u8
     requires { ⌜ Assigning (now c) (now state) (now page) x i ⌝ }
     requires { ⌜ OneWord (decoded (now c)) (stmtB (decoded (now c)) (x .statement)) ⌝ }
-    ensures { λ r. ⌜ CarriedOut (now (c .entry)) (now (state .entry)) (now (page .entry)) x r (now (state .exit)) (now (page .entry)) ⌝ }
+    ensures { λ r. ⌜ StatementLeaves (now (c .entry)) (now (state .entry)) (now (page .entry)) x r (now (state .exit)) (now (page .entry)) ⌝ }
 {
     let b = code::stmt_b(c, x.statement);
     let v = eval(c, state, page, x, b);
@@ -80,7 +80,7 @@ fn assign_word(c: &code::Slots, state: &mut [u8], page: &[u8], x: Context, i: us
 // The value, to location i: one of several words is a string constant or that of a variable.
 fn assign_at(c: &code::Slots, state: &mut [u8], page: &[u8], x: Context, i: usize) -> u8
     requires { ⌜ Assigning (now c) (now state) (now page) x i ⌝ }
-    ensures { λ r. ⌜ CarriedOut (now (c .entry)) (now (state .entry)) (now (page .entry)) x r (now (state .exit)) (now (page .entry)) ⌝ }
+    ensures { λ r. ⌜ StatementLeaves (now (c .entry)) (now (state .entry)) (now (page .entry)) x r (now (state .exit)) (now (page .entry)) ⌝ }
 {
     let b = code::stmt_b(c, x.statement);
     if is_single(c, b) {
@@ -96,7 +96,7 @@ fn assign_at(c: &code::Slots, state: &mut [u8], page: &[u8], x: Context, i: usiz
 pub fn assign(c: &code::Slots, state: &mut [u8], page: &[u8], x: Context) -> u8
     requires { ⌜ Standing (now c) (now state) (now page) x ⌝ }
     requires { ⌜ stmtKind (decoded (now c)) (x .statement) ≡ 1 ⌝ }
-    ensures { λ r. ⌜ CarriedOut (now (c .entry)) (now (state .entry)) (now (page .entry)) x r (now (state .exit)) (now (page .entry)) ⌝ }
+    ensures { λ r. ⌜ StatementLeaves (now (c .entry)) (now (state .entry)) (now (page .entry)) x r (now (state .exit)) (now (page .entry)) ⌝ }
 {
     let a = code::stmt_a(c, x.statement);
     let l = select(c, state, page, x, a);

@@ -6,19 +6,19 @@ use words::values::Failure;
 ghost use mathlib.Core.Path.{_≡_};
 ghost use Rattle.table.specs.Entries.{stmtKind};
 ghost use Rattle.machine.specs.Memory.{memoryOf};
-ghost use Rattle.machine.specs.Lent.{Lent, State};
+ghost use Rattle.machine.specs.Lent.{WordSlice, State};
 ghost use Rattle.machine.specs.Step.{settled};
 ghost use Rattle.machine.specs.Layout.{pageWords};
 ghost use Rattle.code.specs.Code.{decoded};
-ghost use Rattle.effects.specs.Effects.{Stepped, CarriedOut, Standing};
-ghost use Rattle.transfers.specs.Creations.{Creating, creates};
+ghost use Rattle.effects.specs.Effects.{Stepped, StatementLeaves, Standing};
+ghost use Rattle.transfers.specs.Creations.{CreatePremises, creates};
 
 // A process of module `block`, for the variable at location i: the next number, or 24 while 64 processes exist (01). The page is left
 // what it is.
 fn create_next(state: &mut [u8], page: &[u8], x: Context, i: usize, block: usize) -> u8
     requires { ⌜ State (now state) ⌝ }
-    requires { ⌜ Lent pageWords (now page) ⌝ }
-    requires { ⌜ Creating (memoryOf (now state)) x i block ⌝ }
+    requires { ⌜ WordSlice pageWords (now page) ⌝ }
+    requires { ⌜ CreatePremises (memoryOf (now state)) x i block ⌝ }
     ensures { λ r. ⌜ Stepped r (now (state .exit)) (now (page .entry)) (settled (memoryOf (now (state .entry))) (memoryOf (now (page .entry))) (creates (memoryOf (now (state .entry))) (memoryOf (now (page .entry))) x i block)) ⌝ }
 {
     let n = machine::record_word(state, 1, machine::CREATED);
@@ -40,7 +40,7 @@ fn create_next(state: &mut [u8], page: &[u8], x: Context, i: usize, block: usize
 pub fn create(c: &code::Slots, state: &mut [u8], page: &[u8], x: Context) -> u8
     requires { ⌜ Standing (now c) (now state) (now page) x ⌝ }
     requires { ⌜ stmtKind (decoded (now c)) (x .statement) ≡ 4 ⌝ }
-    ensures { λ r. ⌜ CarriedOut (now (c .entry)) (now (state .entry)) (now (page .entry)) x r (now (state .exit)) (now (page .entry)) ⌝ }
+    ensures { λ r. ⌜ StatementLeaves (now (c .entry)) (now (state .entry)) (now (page .entry)) x r (now (state .exit)) (now (page .entry)) ⌝ }
 {
     let a = code::stmt_a(c, x.statement);
     let l = select(c, state, page, x, a);

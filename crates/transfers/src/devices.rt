@@ -11,7 +11,7 @@ ghost use Rattle.machine.specs.Lent.{State};
 ghost use Rattle.machine.specs.Step.{settled};
 ghost use Rattle.machine.specs.Layout.{pageSize};
 ghost use Rattle.code.specs.Code.{decoded};
-ghost use Rattle.effects.specs.Effects.{Stepped, CarriedOut, Standing};
+ghost use Rattle.effects.specs.Effects.{Stepped, StatementLeaves, Standing};
 ghost use Rattle.transfers.specs.Devices.{Writing, writes};
 
 // The word v, to the device location with this address.
@@ -34,7 +34,7 @@ pub fn write_word(state: &mut [u8], page: &mut [u8], x: Context, address: u16, v
 // The value, then the store, where the address is known.
 fn write_value(c: &code::Slots, state: &mut [u8], page: &mut [u8], x: Context, address: u16) -> u8
     requires { ⌜ Writing (now c) (now state) (now page) x address ⌝ }
-    ensures { λ r. ⌜ CarriedOut (now (c .entry)) (now (state .entry)) (now (page .entry)) x r (now (state .exit)) (now (page .exit)) ⌝ }
+    ensures { λ r. ⌜ StatementLeaves (now (c .entry)) (now (state .entry)) (now (page .entry)) x r (now (state .exit)) (now (page .exit)) ⌝ }
 {
     let b = code::stmt_b(c, x.statement);
     let v = eval(c, state, page, x, b);
@@ -48,7 +48,7 @@ fn write_value(c: &code::Slots, state: &mut [u8], page: &mut [u8], x: Context, a
 pub fn write(c: &code::Slots, state: &mut [u8], page: &mut [u8], x: Context) -> u8
     requires { ⌜ Standing (now c) (now state) (now page) x ⌝ }
     requires { ⌜ stmtKind (decoded (now c)) (x .statement) ≡ 12 ⌝ }
-    ensures { λ r. ⌜ CarriedOut (now (c .entry)) (now (state .entry)) (now (page .entry)) x r (now (state .exit)) (now (page .exit)) ⌝ }
+    ensures { λ r. ⌜ StatementLeaves (now (c .entry)) (now (state .entry)) (now (page .entry)) x r (now (state .exit)) (now (page .exit)) ⌝ }
 {
     let a = code::stmt_a(c, x.statement);
     let v = eval(c, state, page, x, a);

@@ -11,11 +11,11 @@ ghost use Rattle.machine.specs.Lent.{State};
 ghost use Rattle.machine.specs.Operands.{operand};
 ghost use Rattle.code.specs.Code.{decoded};
 ghost use Rattle.operands.specs.Ready.{contextIn, Ready};
-ghost use Rattle.transfers.specs.References.{referenceOf, wordRefers, placeRefers, referred, Referring};
+ghost use Rattle.transfers.specs.References.{referenceOf, referredProcess, placeRefers, referred, Referring};
 
 // 0 is the empty reference.
 fn refer(w: u16) -> Reference
-    ensures { λ r. ⌜ referred r ≡ wordRefers w ⌝ }
+    ensures { λ r. ⌜ referred r ≡ referredProcess w ⌝ }
 {
     if w == 0 {
         return Reference::Fail(Failure::EmptyReference);

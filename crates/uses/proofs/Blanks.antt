@@ -5,10 +5,10 @@ use mathlib.Core.List.{List}
 use native.Mathlib.Omega.{arith}
 use lib.ListN.{length, take, replicate, length-replicate, getD-replicate}
 use lib.Seq.{getD-take, length-take-le}
-use Rattle.uses.specs.Marked.{Blank}
+use Rattle.uses.specs.Marked.{NoMarks}
 
 -- a new array of m zeros
-pub blank-new : (n m : ℕ) → n ≤ m → Blank n (replicate m 0)
+pub blank-new : (n m : ℕ) → n ≤ m → NoMarks n (replicate m 0)
 blank-new n m h =
     record {
       long = simp length-replicate h;
@@ -16,7 +16,7 @@ blank-new n m h =
     }
 
 -- the first k bytes of one
-pub blank-part : (n k : ℕ) (seen : List ℕ) → n ≤ k → k ≤ length seen → Blank n seen → Blank n (take k seen)
+pub blank-part : (n k : ℕ) (seen : List ℕ) → n ≤ k → k ≤ length seen → NoMarks n seen → NoMarks n (take k seen)
 blank-part n k seen h l b =
     record {
       long = rw (length-take-le k seen l) h;

@@ -11,13 +11,13 @@ use borrow.Author.Tests.{eq-eqb, ne-eqb, eqb-true, eqb-false, le-ltb}
 use Rattle.basics.specs.Cases.{cases}
 use Rattle.basics.specs.Choice.{allBelow, pick}
 use Rattle.basics.specs.Marks.{occurs, gather}
-use Rattle.basics.specs.Loops.{marked, Seen}
+use Rattle.basics.specs.Loops.{withMark, MarksOf}
 use Rattle.basics.proofs.Marking.{length-marked, seen-zeros, seen-more, gather-more}
 use Rattle.table.specs.Table.{Table}
 use Rattle.table.specs.Entries.{argCount, argNode, nodeCount, nodeKind, nodeP, nodeQ, stmtCount, stmtKind, stmtA, stmtB}
 use Rattle.table.proofs.EachKind.{node-kinds, stmt-kinds}
 use Rattle.uses.specs.Uses.{entryUses, sectionUses, uses, once, usedOnce}
-use Rattle.uses.specs.Marked.{operands, stmtNodes, firstOf, markedAll, Blank, oneMark}
+use Rattle.uses.specs.Marked.{operands, stmtNodes, firstOf, markedAll, NoMarks, oneMark}
 use Rattle.uses.proofs.Rows.{node-uses, stmt-uses, arg-uses, uses-are}
 
 -- what each arm of the code gives: the numbers that stand alone, then the ranges between them
@@ -49,11 +49,11 @@ module _ (k x y : ℕ) (seen : List ℕ) where
   unfolding firstOf markedAll
   first-none e = rw e
 
-  pub first-one : (l : List ℕ) → k ≡ 1 → l ≡ marked x seen → l ≡ markedAll (firstOf k x y) seen
+  pub first-one : (l : List ℕ) → k ≡ 1 → l ≡ withMark x seen → l ≡ markedAll (firstOf k x y) seen
   unfolding firstOf markedAll
   first-one l e h = rw e h
 
-  pub first-both : (l m : List ℕ) → (k ≡ 0 → ⊥) → (k ≡ 1 → ⊥) → l ≡ marked x seen → m ≡ marked y l → m ≡ markedAll (firstOf k x y) seen
+  pub first-both : (l m : List ℕ) → (k ≡ 0 → ⊥) → (k ≡ 1 → ⊥) → l ≡ withMark x seen → m ≡ withMark y l → m ≡ markedAll (firstOf k x y) seen
   unfolding firstOf markedAll
   first-both l m e f h g = rw (ne-eqb k 0 e, ne-eqb k 1 f, ← h) g
 
@@ -65,7 +65,7 @@ module _ (T : Table) (i : ℕ) (seen l : List ℕ) where
   pub stmt-marks : (c k a b : ℕ) → c ≡ stmtKind T i → k ≡ stmtNodes c → a ≡ stmtA T i → b ≡ stmtB T i → l ≡ markedAll (firstOf k a b) seen → l ≡ markedAll (entryUses T 6 i) seen
   stmt-marks c k p q d e f g h = rw (stmt-uses, ← d, ← e, ← f, ← g) h
 
-  pub arg-marks : (a : ℕ) → a ≡ argNode T i → l ≡ marked a seen → l ≡ markedAll (entryUses T 4 i) seen
+  pub arg-marks : (a : ℕ) → a ≡ argNode T i → l ≡ withMark a seen → l ≡ markedAll (entryUses T 4 i) seen
   unfolding markedAll
   arg-marks a e h = rw (arg-uses, ← e) h
 
@@ -78,7 +78,7 @@ length-all (x ∷ l) seen = length-marked x (markedAll l seen) ∙ length-all l 
 pub marked-append : (a b seen : List ℕ) → markedAll (a ++ b) seen ≡ markedAll a (markedAll b seen)
 unfolding markedAll
 marked-append [] b seen = refl
-marked-append (x ∷ a) b seen = ap (marked x) (marked-append a b seen)
+marked-append (x ∷ a) b seen = ap (withMark x) (marked-append a b seen)
 
 -- a loop over rows that marks what each names
 module _ (f : ℕ → List ℕ) (seen : List ℕ) where
@@ -96,12 +96,12 @@ module _ (f : ℕ → List ℕ) (seen : List ℕ) where
   rows-all i n c l h p q e = let g : i ≡ c = omega arith in rw (← g) h
 
 -- what the marks say
-pub seen-all : (l m seen : List ℕ) → Seen m seen → Seen (l ++ m) (markedAll l seen)
+pub seen-all : (l m seen : List ℕ) → MarksOf m seen → MarksOf (l ++ m) (markedAll l seen)
 unfolding markedAll
 seen-all [] m seen s = s
 seen-all (x ∷ l) m seen s = seen-more x (l ++ m) (markedAll l seen) (seen-all l m seen s)
 
-module _ (l seen : List ℕ) (s : Seen l seen) where
+module _ (l seen : List ℕ) (s : MarksOf l seen) where
   one-once : (j : ℕ) → j < length seen → oneMark seen j ≡ once l j
   unfolding oneMark once
   one-once j h =
@@ -116,7 +116,7 @@ module _ (l seen : List ℕ) (s : Seen l seen) where
   all-once (suc n) h = rw (one-once n (omega arith), all-once n (omega arith))
 
 -- the rule
-module _ (T : Table) (s0 s1 s2 s3 : List ℕ) (z : Blank (nodeCount T) s0)
+module _ (T : Table) (s0 s1 s2 s3 : List ℕ) (z : NoMarks (nodeCount T) s0)
     (e1 : s1 ≡ markedAll (gather (entryUses T 4) (argCount T)) s0)
     (e2 : s2 ≡ markedAll (gather (entryUses T 5) (nodeCount T)) s1)
     (e3 : s3 ≡ markedAll (gather (entryUses T 6) (stmtCount T)) s2) where
@@ -124,7 +124,7 @@ module _ (T : Table) (s0 s1 s2 s3 : List ℕ) (z : Blank (nodeCount T) s0)
   unfolding sectionUses
   together = rw (uses-are, marked-append (gather (entryUses T 6) (stmtCount T)) (gather (entryUses T 5) (nodeCount T) ++ gather (entryUses T 4) (argCount T)) s0, marked-append (gather (entryUses T 5) (nodeCount T)) (gather (entryUses T 4) (argCount T)) s0, ← e1, ← e2) e3
 
-  seen : Seen (uses T) s3
+  seen : MarksOf (uses T) s3
   seen = rw together (rw append-nil at (seen-all (uses T) [] s0 (seen-zeros s0 (z .zeros))))
 
   marks-room : (n : ℕ) → n ≡ nodeCount T → n ≤ length s3

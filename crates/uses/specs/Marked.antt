@@ -7,7 +7,7 @@ use mathlib.Core.List.{List, [], _∷_}
 use lib.ListN.{length, getD}
 use lib.Dec.{eqb}
 use Rattle.basics.specs.Choice.{pick}
-use Rattle.basics.specs.Loops.{marked}
+use Rattle.basics.specs.Loops.{withMark}
 
 -- how many of p and q are operands: constant, whole none; field p; element p and q; value, unary p; binary p and q; transfer p; string none
 abbrev pub operandCounts : List ℕ
@@ -30,10 +30,10 @@ firstOf k x y = pick (eqb k 0) [] (pick (eqb k 1) (x ∷ []) (y ∷ x ∷ []))
 -- the marks when each number of a list is noted, the last first
 unfoldable pub markedAll : List ℕ → List ℕ → List ℕ
 markedAll [] seen = seen
-markedAll (x ∷ l) seen = marked x (markedAll l seen)
+markedAll (x ∷ l) seen = withMark x (markedAll l seen)
 
 -- no mark, in an array for at least n numbers
-pub record Blank (n : ℕ) (seen : List ℕ) : Type 0 where
+pub record NoMarks (n : ℕ) (seen : List ℕ) : Type 0 where
   pub long : n ≤ length seen
   pub zeros : (j : ℕ) → j < length seen → getD seen j 0 ≡ 0
 

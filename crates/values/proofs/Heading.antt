@@ -19,7 +19,7 @@ use Rattle.sizes.specs.Sizes.{wordsOf, offsetIn, partWords}
 use Rattle.sizes.proofs.Counting.{words-record, words-array, words-simple, part-lower, offset-none, offset-more}
 use Rattle.machine.specs.Memory.{Memory}
 use Rattle.machine.specs.Values.{holds}
-use Rattle.values.specs.Walks.{Near, Words, simpleHolds, referenceHolds, partHolds, fieldHolds, fieldsHold, elementHolds, elementsHold, RecordAt, ArrayAt}
+use Rattle.values.specs.Walks.{Near, WordCount, simpleHolds, referenceHolds, partHolds, fieldHolds, fieldsHold, elementHolds, elementsHold, RecordAt, ArrayAt}
 use Rattle.values.specs.Heads.{hasParts, wordHolds, wordsHold, wordUpTo, wordRefers, headHolds, Head, HeadsTo, Heads, FieldsHave, PartSaid, FieldsSaid, Tested}
 use Rattle.values.proofs.Filling.{lookup-none, lookup-more}
 use Rattle.values.proofs.Values.{all-same, all-true, integer-holds, holds-record, holds-array, holds-process, holds-simple}
@@ -350,7 +350,7 @@ module _ (T : Table) (m : Memory) (τ h a : ℕ) (d : Head T τ h) where
       unfolding headHolds
       v-array e g = g ∙ sym (d .is m a ∙ rw (has-array T h (sym hk ∙ e)) (holds-array T m h a (sym hk ∙ e)))
 
-      pub v-words : (n : ℕ) → (kind ≡ 1 → ⊥) → (kind ≡ 2 → ⊥) → Words (wordsOf T τ) n → r ≡ wordsHold T m h a n → r ≡ holds T m τ a
+      pub v-words : (n : ℕ) → (kind ≡ 1 → ⊥) → (kind ≡ 2 → ⊥) → WordCount (wordsOf T τ) n → r ≡ wordsHold T m h a n → r ≡ holds T m τ a
       unfolding headHolds
       v-words n x y w g =
           let u = w .is in

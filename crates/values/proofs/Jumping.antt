@@ -16,8 +16,8 @@ use Rattle.types.specs.Match.{elements}
 use Rattle.sizes.specs.Sizes.{wordsOf}
 use Rattle.sizes.proofs.Counting.{offset-none}
 use Rattle.machine.specs.Values.{someBelow, part}
-use Rattle.values.specs.Walks.{Words, fieldBegins, fieldIBegins, fieldsBegin, elementBegins}
-use Rattle.values.specs.Jumps.{Jump, Leads, Ends, Kept, Jumps}
+use Rattle.values.specs.Walks.{WordCount, fieldBegins, fieldIBegins, fieldsBegin, elementBegins}
+use Rattle.values.specs.Jumps.{Jump, Leads, LeadsAtWord, JumpWord, Jumps}
 use Rattle.values.proofs.Filling.{lookup-none, lookup-part}
 use Rattle.values.proofs.Heading.{first-field, only-words, array-size}
 use Rattle.values.proofs.Parts.{p-record, p-array, part-within}
@@ -92,10 +92,10 @@ module _ (T : Table) (σ : ℕ) where
     pub o-element : (q n : ℕ) → kind ≡ 2 → q ≡ typeQ T σ → q < σ → n ≡ elements T σ → n ≡ 1 → Jump T σ q
     o-element q n e hq l hn one = jump-element T σ q (sym hk ∙ e) l hq (sym hn ∙ one)
 
-  pub kept : (j v : ℕ) → Jump T σ j → (v < 65536) × (v % 512 ≡ j) → Kept T σ v
+  pub kept : (j v : ℕ) → Jump T σ j → (v < 65536) × (v % 512 ≡ j) → JumpWord T σ v
   kept j v h p = record { small = p .0; jump = rw (p .1) h }
 
-  pub kept-far : (p j i v : ℕ) → Jump T σ p → Jump T p j → Jump T j i → (v < 65536) × (v % 512 ≡ i) → Kept T σ v
+  pub kept-far : (p j i v : ℕ) → Jump T σ p → Jump T p j → Jump T j i → (v < 65536) × (v % 512 ≡ i) → JumpWord T σ v
   kept-far p j i v a b d e = kept i v (jump-jump T σ j i (jump-jump T σ p j a b) d) e
 
   pub lead : (τ ρ : ℕ) → Jump T σ ρ → τ ≤ ρ → Leads T τ σ ρ
@@ -111,13 +111,13 @@ module _ (T : Table) (σ : ℕ) where
       let w = a .words in
       record { low = omega arith; words = a .words ∙ b .words; is = λ k h. a .is k h ∙ b .is k (omega arith) }
 
-  pub end-lead : (τ k ρ w : ℕ) → Leads T τ σ ρ → Words (wordsOf T σ) w → k < w → Ends T τ σ k ρ
+  pub end-lead : (τ k ρ w : ℕ) → Leads T τ σ ρ → WordCount (wordsOf T σ) w → k < w → LeadsAtWord T τ σ k ρ
   end-lead τ k ρ w h x l = let u = x .is in record { low = h .low; is = h .is k (omega arith) }
 
-  pub end-self : (τ k : ℕ) → Ends T τ σ k σ
+  pub end-self : (τ k : ℕ) → LeadsAtWord T τ σ k σ
   end-self τ k = record { low = omega arith; is = refl }
 
-  pub end-part : (τ k ρ : ℕ) (r : Bool) → Ends T τ σ k ρ → r ≡ part T τ ρ k → r ≡ part T τ σ k
+  pub end-part : (τ k ρ : ℕ) (r : Bool) → LeadsAtWord T τ σ k ρ → r ≡ part T τ ρ k → r ≡ part T τ σ k
   end-part τ k ρ r h e = e ∙ sym (h .is)
 
 pub ruleset jumping = (jump-at, jump-self, o-field, o-element)
@@ -126,9 +126,9 @@ pub ruleset leading = (lead, lead-self, lead-lead, end-lead, end-self)
 
 -- no jumps
 pub jumps-empty : (T : Table) (l : List ℕ) → Jumps T (take 0 l)
-jumps-empty T l = lookup-part (Kept T) l 0 (lookup-none (Kept T) l)
+jumps-empty T l = lookup-part (JumpWord T) l 0 (lookup-none (JumpWord T) l)
 
-pub kept-small : (T : Table) (σ v : ℕ) → Kept T σ v → v < 65536
+pub kept-small : (T : Table) (σ v : ℕ) → JumpWord T σ v → v < 65536
 kept-small T σ v h = h .small
 
 pub jump-small : (T : Table) (σ ρ : ℕ) → Jump T σ ρ → σ < 512 → ρ < 512

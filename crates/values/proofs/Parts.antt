@@ -20,7 +20,7 @@ use Rattle.machine.specs.Entries.{TypeEntry, typeAt}
 use Rattle.machine.specs.Variables.{varWords, firstWords, offsetOf}
 use Rattle.machine.specs.Values.{someBelow, nowhere, partIn, partAt, part, partOfVariable, partOfBlock}
 use Rattle.machine.proofs.Courses.{below, part-is}
-use Rattle.values.specs.Walks.{Words, Sought, fieldBegins, fieldIBegins, fieldsBegin, elementBegins, variableBegins, variableIBegins}
+use Rattle.values.specs.Walks.{WordCount, Sought, fieldBegins, fieldIBegins, fieldsBegin, elementBegins, variableBegins, variableIBegins}
 use Rattle.values.proofs.Values.{type-record, type-array, type-process, type-simple, simpleAt, below-at}
 
 -- ---- searches
@@ -162,7 +162,7 @@ module _ (T : Table) (τ σ k : ℕ) where
     unfolding fieldIBegins
     field-i r e = rw (← hp, ← hf, ← h .is) e
 
-    pub fields-next : (r : Bool) (w : ℕ) → r ≡ fieldBegins T τ σ k f a → r ≡ false → Words (partWords T σ f) w → Sought (offsetIn T σ) (fieldIBegins T τ σ k) (i + 1) (a + w)
+    pub fields-next : (r : Bool) (w : ℕ) → r ≡ fieldBegins T τ σ k f a → r ≡ false → WordCount (partWords T σ f) w → Sought (offsetIn T σ) (fieldIBegins T τ σ k) (i + 1) (a + w)
     fields-next r w e g x =
         sought-more (offsetIn T σ) (fieldIBegins T τ σ k) i a h r (field-i r e) w g (x .small)
         (offset-more T σ i ∙ rw (← hp, ← hf, ← x .is))
@@ -198,20 +198,20 @@ pub ruleset fieldsearches = (fields-sought, fields-next, fields-found, fields-no
 
 pub ruleset elementparts = (e-none, e-after, e-within)
 
-pub part-words-lower : (T : Table) (σ ρ w : ℕ) → ρ < σ → Words (wordsOf T ρ) w → Words (partWords T σ ρ) w
+pub part-words-lower : (T : Table) (σ ρ w : ℕ) → ρ < σ → WordCount (wordsOf T ρ) w → WordCount (partWords T σ ρ) w
 part-words-lower T σ ρ w l h = rw (part-lower T σ ρ l) h
 
-pub part-words-none : (T : Table) (σ ρ : ℕ) → σ ≤ ρ → Words (partWords T σ ρ) 0
+pub part-words-none : (T : Table) (σ ρ : ℕ) → σ ≤ ρ → WordCount (partWords T σ ρ) 0
 part-words-none T σ ρ l = record { is = sym (part-none T σ ρ l); small = omega arith }
 
 -- ---- variables
 
 module _ (T : Table) (v mode : ℕ) (hm : mode ≡ varMode T v) where
-  pub var-words-one : mode ≡ 2 → Words (varWords T v) 1
+  pub var-words-one : mode ≡ 2 → WordCount (varWords T v) 1
   unfolding varWords
   var-words-one e = record { is = rw (← hm, eq-eqb mode 2 e); small = omega arith }
 
-  pub var-words-type : (x w : ℕ) → (mode ≡ 2 → ⊥) → x ≡ varType T v → Words (wordsOf T x) w → Words (varWords T v) w
+  pub var-words-type : (x w : ℕ) → (mode ≡ 2 → ⊥) → x ≡ varType T v → WordCount (wordsOf T x) w → WordCount (varWords T v) w
   unfolding varWords
   var-words-type x w e g h = record { is = h .is ∙ rw (← hm, ne-eqb mode 2 e, ← g); small = h .small }
 
@@ -262,7 +262,7 @@ module _ (T : Table) (b τ k : ℕ) where
     unfolding variableIBegins
     variable-i = rw (← hp, ← h .is) e
 
-    pub variables-next : (w : ℕ) → r ≡ false → Words (varWords T (first + i)) w → Sought (firstWords T b) (variableIBegins T b τ k) (i + 1) (a + w)
+    pub variables-next : (w : ℕ) → r ≡ false → WordCount (varWords T (first + i)) w → Sought (firstWords T b) (variableIBegins T b τ k) (i + 1) (a + w)
     variables-next w g x =
         sought-more (firstWords T b) (variableIBegins T b τ k) i a h r variable-i w g (x .small)
         (first-more T b i ∙ rw (← hp, ← x .is))

@@ -17,7 +17,7 @@ use Rattle.machine.specs.Memory.{Memory, memoryOf}
 use Rattle.machine.specs.Layout.{createdAt, moduleAt, stateWords}
 use Rattle.machine.specs.Lent.{State}
 use Rattle.machine.specs.Processes.{refers}
-use Rattle.values.specs.Walks.{Ready, Words, referenceHolds}
+use Rattle.values.specs.Walks.{SmallSizes, WordCount, referenceHolds}
 
 -- beyond the last word all is 0
 pub beyond : (s : List ℕ) (i : ℕ) → State s → stateWords ≤ i → Field (memoryOf s i) 0
@@ -29,7 +29,7 @@ beyond s i l h =
     record { is = omega arith; small = omega arith }
 
 -- the words of a type are all kept
-pub exact : (T : Table) (l : List ℕ) (x r : ℕ) → Ready T l → r ≡ min (wordsOf T x) 201 → Words (wordsOf T x) r
+pub exact : (T : Table) (l : List ℕ) (x r : ℕ) → SmallSizes T l → r ≡ min (wordsOf T x) 201 → WordCount (wordsOf T x) r
 exact T l x r h e = let u = any-small T l (h .sizes) (h .sized) x in record { is = omega arith; small = omega arith }
 
 -- references

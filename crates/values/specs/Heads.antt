@@ -14,7 +14,7 @@ use Rattle.machine.specs.Memory.{Memory}
 use Rattle.machine.specs.Lent.{State}
 use Rattle.machine.specs.Values.{holds}
 use Rattle.values.specs.Lookup.{Lookup}
-use Rattle.values.specs.Walks.{Ready, referenceHolds}
+use Rattle.values.specs.Walks.{SmallSizes, referenceHolds}
 
 -- a record or an array
 unfoldable pub hasParts : Table → ℕ → Bool
@@ -74,6 +74,6 @@ pub record Tested (T : Table) (η : ℕ) : Type 0 where
 
 -- what a test of values goes by: the words and heads of the types, and a state
 pub record ValueTest (T : Table) (ws hs s : List ℕ) : Type 0 where
-  pub ready : Ready T ws
+  pub ready : SmallSizes T ws
   pub heads : Heads T hs
   pub state : State s

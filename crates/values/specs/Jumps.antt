@@ -8,7 +8,7 @@ use Rattle.table.specs.Table.{Table}
 use Rattle.sizes.specs.Sizes.{wordsOf}
 use Rattle.machine.specs.Values.{part}
 use Rattle.values.specs.Lookup.{Lookup}
-use Rattle.values.specs.Walks.{Ready}
+use Rattle.values.specs.Walks.{SmallSizes}
 
 -- the chain of only parts leads from type σ to ρ: a variable of the one is a variable of the other, and has the same parts, those above ρ apart
 pub record Jump (T : Table) (σ ρ : ℕ) : Type 0 where
@@ -22,23 +22,23 @@ pub record Leads (T : Table) (τ σ ρ : ℕ) : Type 0 where
   pub words : wordsOf T σ ≡ wordsOf T ρ
   pub is : (k : ℕ) → k < wordsOf T σ → part T τ σ k ≡ part T τ ρ k
 
-pub record Ends (T : Table) (τ σ k ρ : ℕ) : Type 0 where
+pub record LeadsAtWord (T : Table) (τ σ k ρ : ℕ) : Type 0 where
   pub low : ρ ≤ σ
   pub is : part T τ σ k ≡ part T τ ρ k
 
 -- jumps as they are kept, each beside a number that only the choice of others goes by: the one of type σ; those of the types below n; those of
 -- all that the list has room for
-pub record Kept (T : Table) (σ v : ℕ) : Type 0 where
+pub record JumpWord (T : Table) (σ v : ℕ) : Type 0 where
   pub small : v < 65536
   pub jump : Jump T σ (v % 512)
 
 abbrev pub JumpsTo : Table → ℕ → List ℕ → Type 0
-JumpsTo T = Lookup (Kept T)
+JumpsTo T = Lookup (JumpWord T)
 
 abbrev pub Jumps : Table → List ℕ → Type 0
 Jumps T l = JumpsTo T (length l) l
 
 -- what a search for a part goes by: the words and jumps of the types
 pub record PartSearch (T : Table) (ws js : List ℕ) : Type 0 where
-  pub ready : Ready T ws
+  pub ready : SmallSizes T ws
   pub jumps : Jumps T js

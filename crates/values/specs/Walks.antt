@@ -18,7 +18,7 @@ use Rattle.machine.specs.Processes.{refers}
 use Rattle.machine.specs.Values.{holds, someBelow, part}
 
 -- the array holds the words of all types, each at most 200
-pub record Ready (T : Table) (l : List ℕ) : Type 0 where
+pub record SmallSizes (T : Table) (l : List ℕ) : Type 0 where
   pub sizes : Sizes T l
   pub sized : typesSized T ≡ true
 
@@ -27,7 +27,7 @@ pub record Near (T : Table) (τ a : ℕ) : Type 0 where
   pub near : a + wordsOf T τ ≤ 20000000
 
 -- r is v, the words of a type
-pub record Words (v r : ℕ) : Type 0 where
+pub record WordCount (v r : ℕ) : Type 0 where
   pub is : r ≡ v
   pub small : r ≤ 200
 

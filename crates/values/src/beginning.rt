@@ -10,8 +10,8 @@ ghost use Rattle.code.specs.Code.{decoded};
 ghost use Rattle.sizes.specs.Sizes.{partWords};
 ghost use Rattle.machine.specs.Variables.{varWords};
 ghost use Rattle.machine.specs.Values.{part, partOfBlock};
-ghost use Rattle.values.specs.Jumps.{Ends, PartSearch};
-ghost use Rattle.values.specs.Walks.{Ready, Words, fieldBegins, fieldsBegin, elementBegins, variableBegins};
+ghost use Rattle.values.specs.Jumps.{LeadsAtWord, PartSearch};
+ghost use Rattle.values.specs.Walks.{SmallSizes, WordCount, fieldBegins, fieldsBegin, elementBegins, variableBegins};
 
 // k / w and k % w, also for no words (as the numbers of the definition have it).
 fn quotient(k: usize, w: usize) -> usize
@@ -44,8 +44,8 @@ fn begins_whole(x: usize, y: usize, k: usize) -> bool
 
 // The words of type f as a part of type x: none where its number is not lower.
 fn part_words(c: &code::Slots, sizes: &[u16], x: usize, f: usize) -> usize
-    requires { ⌜ Ready (decoded (now c)) (now sizes) ⌝ }
-    ensures { λ r. ⌜ Words (partWords (decoded (now (c .entry))) x f) r ⌝ }
+    requires { ⌜ SmallSizes (decoded (now c)) (now sizes) ⌝ }
+    ensures { λ r. ⌜ WordCount (partWords (decoded (now (c .entry))) x f) r ⌝ }
 {
     if f < x {
         return words_of(c, sizes, f);
@@ -56,7 +56,7 @@ fn part_words(c: &code::Slots, sizes: &[u16], x: usize, f: usize) -> usize
 // The last type not below y, down the chain of only parts of x, where word k is one of a variable of type x.
 fn chain_end(c: &code::Slots, sizes: &[u16], jumps: &[u16], x: usize, y: usize, k: usize) -> usize
     requires { ⌜ PartSearch (decoded (now c)) (now sizes) (now jumps) ⌝ }
-    ensures { λ r. ⌜ Ends (decoded (now (c .entry))) y x k r ⌝ }
+    ensures { λ r. ⌜ LeadsAtWord (decoded (now (c .entry))) y x k r ⌝ }
 {
     if k < words_of(c, sizes, x) {
         return jumps::lowest(c, jumps, x, y);
@@ -160,8 +160,8 @@ fn part_of_element(
 
 // The words of variable v in its area or frame.
 pub fn var_words(c: &code::Slots, sizes: &[u16], v: usize) -> usize
-    requires { ⌜ Ready (decoded (now c)) (now sizes) ⌝ }
-    ensures { λ r. ⌜ Words (varWords (decoded (now (c .entry))) v) r ⌝ }
+    requires { ⌜ SmallSizes (decoded (now c)) (now sizes) ⌝ }
+    ensures { λ r. ⌜ WordCount (varWords (decoded (now (c .entry))) v) r ⌝ }
 {
     if code::var_mode(c, v) == kinds::VAR_PARAMETER {
         return 1;

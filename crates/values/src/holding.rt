@@ -13,12 +13,12 @@ ghost use Rattle.machine.specs.Memory.{memoryOf};
 ghost use Rattle.machine.specs.Lent.{State};
 ghost use Rattle.machine.specs.Values.{holds};
 ghost use Rattle.values.specs.Heads.{Tested, ValueTest, wordsHold, wordUpTo, wordRefers};
-ghost use Rattle.values.specs.Walks.{Ready, Near, Words, referenceHolds, fieldsHold, elementsHold, RecordAt, ArrayAt};
+ghost use Rattle.values.specs.Walks.{SmallSizes, Near, WordCount, referenceHolds, fieldsHold, elementsHold, RecordAt, ArrayAt};
 
 // The words of type x.
 pub fn words_of(c: &code::Slots, sizes: &[u16], x: usize) -> usize
-    requires { ⌜ Ready (decoded (now c)) (now sizes) ⌝ }
-    ensures { λ r. ⌜ Words (wordsOf (decoded (now (c .entry))) x) r ⌝ }
+    requires { ⌜ SmallSizes (decoded (now c)) (now sizes) ⌝ }
+    ensures { λ r. ⌜ WordCount (wordsOf (decoded (now (c .entry))) x) r ⌝ }
 {
     sizes::size_of(c, sizes, x)
 }

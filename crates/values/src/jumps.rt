@@ -8,7 +8,7 @@ ghost use mathlib.Core.Path.{_≡_};
 ghost use Prim.Native.Nat.{_%_, _≤_, _<_};
 ghost use lib.ListN.{length};
 ghost use Rattle.code.specs.Code.{decoded};
-ghost use Rattle.values.specs.Jumps.{Jump, Leads, Kept, Jumps, JumpsTo};
+ghost use Rattle.values.specs.Jumps.{Jump, Leads, JumpWord, Jumps, JumpsTo};
 
 // A jump to type j, of this rank.
 fn packed(j: usize, rank: usize) -> usize
@@ -73,7 +73,7 @@ fn only_part(c: &code::Slots, x: usize) -> usize
 fn found_jump(c: &code::Slots, jumps: &[u16], x: usize) -> usize
     requires { ⌜ Jumps (decoded (now c)) (now jumps) ⌝ }
     requires { ⌜ x < 512 ⌝ }
-    ensures { λ r. ⌜ Kept (decoded (now (c .entry))) x r ⌝ }
+    ensures { λ r. ⌜ JumpWord (decoded (now (c .entry))) x r ⌝ }
 {
     let p = only_part(c, x);
     if p == x {

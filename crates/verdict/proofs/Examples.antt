@@ -114,5 +114,5 @@ pub examples :
     × (verdict 1 (titled (text 0 1 1) (text 1 1 0) (2 ∷ 97 ∷ 98 ∷ [])) ≡ 3)
     × (verdict 1 (titled (text 0 1 0) (text 1 1 0) (3 ∷ 97 ∷ 98 ∷ 99 ∷ [])) ≡ 4)
     × (verdict 1 (titled (text 0 1 0) (text 1 1 0) (2 ∷ 97 ∷ 128 ∷ [])) ≡ 9)
-unfolding basicsChoice.both basicsChoice.either basicsChoice.between basicsChoice.allBelow basicsCourse.upto basicsCourse.course basicsChain.free basicsChain.carried basicsChain.chained basicsChain.stepTake basicsChain.testTake basicsChain.taken basicsChain.always basicsMarks.occurs basicsMarks.gather basicsLoops.marked tableBytes.shorts tableBytes.words tableBytes.rowSize tableBytes.fieldAt tableBytes.fieldWidth tableBytes.rowsEnd tableBytes.rowsFit tableBytes.isLeftOut tableBytes.sectionEnd tableBytes.sectionFits tableBytes.whole tableBytes.begins tableTable.countAt tableTable.cellAt tableTable.tableAt tableEmpty.field tableEmpty.fieldsOf tableEmpty.listing tableEmpty.bytesRead tableEntries.declared typesTypes.fieldOf typesTypes.elementOf typesTypes.unaryType typesTypes.binaryType typesTypes.operandType typesTypes.nodeType typesTypes.typeOf typesMatch.offset typesMatch.span typesMatch.elements typesMatch.isString typesTypes.evened typesTypes.typeOfNode typesMatch.isText typesMatch.characters typesMatch.sameNumber typesMatch.matching typesMatch.isEqual typesMatch.isFit tableKinds.variableKind tableKinds.expressionKind tableKinds.rows tableKinds.rowOf tableKinds.held tableKinds.eachField tableKinds.names tableKinds.isCall entriesKnown.fieldKnown entriesKnown.entryKnown entriesKnown.sectionKnown entriesKnown.known numbersSorts.nameable numbersSorts.limit numbersSorts.fieldRanged numbersSorts.entryRanged numbersDeclarations.isRecord numbersDeclarations.recordFirst numbersDeclarations.recordCount numbersDeclarations.fieldsTaken numbersDeclarations.fieldBelow numbersDeclarations.recordRanged numbersDeclarations.typeRanged numbersDeclarations.moduleOf numbersDeclarations.named numbersDeclarations.namedOnce numbersDeclarations.modulesOnce numbersBlocks.variablesTaken numbersBlocks.programPlaced numbersBlocks.ownerRanged numbersBlocks.spaceRanged numbersBlocks.modePlaced numbersBlocks.variablesPlaced numbersBlocks.blockPlaced numbersBlocks.blockRanged numbersOperands.placeRanged numbersOperands.nodeRanged numbersOperands.isStringNode numbersOperands.stringFirst numbersOperands.stringCount numbersOperands.charactersTaken numbersOperands.callFirst numbersOperands.callCount numbersOperands.argumentsTaken numbersRanges.inOrder numbersRanges.typesRanged numbersRanges.declarationsRanged numbersRanges.operandsRanged numbersRanges.inRange numbersMarking.moduleMarked usesUses.fieldUses usesUses.entryUses usesUses.sectionUses usesUses.uses usesUses.once usesUses.usedOnce nestingNest.classOf nestingNest.class nestingNest.stmtEnd nestingNest.bodyFrom nestingNest.armEnd nestingNest.closed nestingNest.armsFrom nestingNest.finished nestingNest.blockEnd nestingNest.blockOk nestingNest.nested nestingNest.blockStep nestingBlocks.blockOf tableEntries.stmtLimit nestingNest.bodyEnd nestingNest.armsEnd sizesSizes.sumBelow sizesSizes.fieldsWords sizesSizes.typeWords sizesSizes.wordsOf sizesSizes.partWords sizesSizes.offsetIn typesMatch.inStandard sizesSizes.boundsOk sizesSizes.evenString sizesSizes.typeOk sizesSizes.typeSized sizesSizes.typesSized sizesSizes.varOffset sizesSizes.moduleWords sizesSizes.blockSized sizesSizes.blocksSized sizesSizes.sized sizesKept.kept scopesScopes.among scopesScopes.visible scopesScopes.fieldScoped scopesScopes.nodeScope scopesScopes.nodeScoped scopesScopes.argumentScoped scopesScopes.argumentsScoped scopesScopes.staysIn scopesScopes.stmtScoped scopesScopes.scoped typingTyping.elementTyped typingTyping.unaryTyped typingTyping.alikeTyped typingTyping.binaryTyped typingTyping.nodeTyped typingTyping.argumentTyped typingTyping.parameterTyped typingTyping.argumentsTyped typingTyping.processCallTyped typingTyping.startTyped typingTyping.callTyped typingTyping.writeTyped typingTyping.stmtTyped typingTyping.simple typingTyping.paramSimple typingTyping.paramsSimple typingTyping.characterTyped typingTyping.typed typingParts.parameterIn judgedLate judgedUses judged judgedBytes verdict
+unfolding basicsChoice.both basicsChoice.either basicsChoice.between basicsChoice.allBelow basicsCourse.upto basicsCourse.course basicsChain.free basicsChain.carried basicsChain.chained basicsChain.stepTake basicsChain.testTake basicsChain.taken basicsChain.always basicsMarks.occurs basicsMarks.gather basicsLoops.withMark tableBytes.shorts tableBytes.words tableBytes.rowSize tableBytes.fieldAt tableBytes.fieldWidth tableBytes.rowsEnd tableBytes.rowsFit tableBytes.isLeftOut tableBytes.sectionEnd tableBytes.sectionFits tableBytes.whole tableBytes.begins tableTable.countAt tableTable.cellAt tableTable.tableAt tableEmpty.field tableEmpty.fieldsOf tableEmpty.listing tableEmpty.bytesRead tableEntries.declared typesTypes.fieldOf typesTypes.elementOf typesTypes.unaryType typesTypes.binaryType typesTypes.operandType typesTypes.nodeType typesTypes.typeOf typesMatch.offset typesMatch.span typesMatch.elements typesMatch.isString typesTypes.evened typesTypes.typeOfNode typesMatch.isText typesMatch.characters typesMatch.sameNumber typesMatch.matching typesMatch.isEqual typesMatch.isFit tableKinds.variableKind tableKinds.expressionKind tableKinds.rows tableKinds.rowOf tableKinds.held tableKinds.eachField tableKinds.names tableKinds.isCall entriesKnown.fieldKnown entriesKnown.entryKnown entriesKnown.sectionKnown entriesKnown.known numbersSorts.nameable numbersSorts.limit numbersSorts.fieldRanged numbersSorts.entryRanged numbersDeclarations.isRecord numbersDeclarations.recordFirst numbersDeclarations.recordCount numbersDeclarations.fieldsTaken numbersDeclarations.fieldBelow numbersDeclarations.recordRanged numbersDeclarations.typeRanged numbersDeclarations.moduleOf numbersDeclarations.namedModules numbersDeclarations.namedOnce numbersDeclarations.modulesOnce numbersBlocks.variablesTaken numbersBlocks.programPlaced numbersBlocks.ownerRanged numbersBlocks.spaceRanged numbersBlocks.modePlaced numbersBlocks.variablesPlaced numbersBlocks.blockPlaced numbersBlocks.blockRanged numbersOperands.placeRanged numbersOperands.nodeRanged numbersOperands.isStringNode numbersOperands.stringFirst numbersOperands.stringCount numbersOperands.charactersTaken numbersOperands.callFirst numbersOperands.callCount numbersOperands.argumentsTaken numbersRanges.inOrder numbersRanges.typesRanged numbersRanges.declarationsRanged numbersRanges.operandsRanged numbersRanges.inRange numbersMarking.moduleMarked usesUses.fieldUses usesUses.entryUses usesUses.sectionUses usesUses.uses usesUses.once usesUses.usedOnce nestingNest.classOf nestingNest.class nestingNest.stmtEnd nestingNest.bodyFrom nestingNest.armEnd nestingNest.closed nestingNest.armsFrom nestingNest.afterBlock nestingNest.blockEnd nestingNest.blockOk nestingNest.nested nestingNest.blockStep nestingBlocks.stmtBlock tableEntries.stmtLimit nestingNest.bodyEnd nestingNest.armsEnd sizesSizes.sumBelow sizesSizes.fieldsWords sizesSizes.typeWords sizesSizes.wordsOf sizesSizes.partWords sizesSizes.offsetIn typesMatch.inStandard sizesSizes.boundsOk sizesSizes.evenString sizesSizes.typeOk sizesSizes.typeSized sizesSizes.typesSized sizesSizes.varOffset sizesSizes.moduleWords sizesSizes.blockSized sizesSizes.blocksSized sizesSizes.sized sizesKept.kept scopesScopes.ofBlock scopesScopes.inScope scopesScopes.fieldScoped scopesScopes.nodeScope scopesScopes.nodeScoped scopesScopes.argumentScoped scopesScopes.argumentsScoped scopesScopes.staysIn scopesScopes.stmtScoped scopesScopes.scoped typingTyping.elementTyped typingTyping.unaryTyped typingTyping.alikeTyped typingTyping.binaryTyped typingTyping.nodeTyped typingTyping.argumentTyped typingTyping.parameterTyped typingTyping.argumentsTyped typingTyping.processCallTyped typingTyping.startTyped typingTyping.callTyped typingTyping.writeTyped typingTyping.stmtTyped typingTyping.simple typingTyping.paramSimple typingTyping.paramsSimple typingTyping.characterTyped typingTyping.typed typingParts.parameterIn judgedLate judgedUses judged judgedBytes verdict
 examples = (refl, refl, refl, refl, refl, refl, refl, refl, refl, refl, refl, refl, refl, refl, refl, refl, refl, refl, refl, refl, refl, refl, refl, refl, refl)

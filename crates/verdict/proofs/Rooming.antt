@@ -10,7 +10,7 @@ use Rattle.table.specs.Empty.{listing, bytesRead}
 use Rattle.table.specs.Table.{tableAt, tableOf}
 use Rattle.table.proofs.ReadBytes.{read-bytes, count-byte}
 use Rattle.table.specs.Entries.{nodeCount}
-use Rattle.table.specs.Reading.{Of}
+use Rattle.table.specs.Reading.{SectionsOf}
 use Rattle.table.specs.declared.Sections.{Sections}
 use Rattle.code.specs.Code.{decoded, Decodes}
 use Rattle.code.specs.Decoding.{Blank, Decodable}
@@ -21,7 +21,7 @@ use Rattle.sizes.specs.Kept.{Sizes}
 use Rattle.sizes.proofs.Counting.{kind-none}
 use Rattle.verdict.specs.Edition.{rowsBelow, slotWords}
 use Rattle.verdict.specs.Rooms.{Rooms}
-use Rattle.verdict.specs.Checked.{Checked, CheckedBytes}
+use Rattle.verdict.specs.Checked.{CheckLeaves, CheckedBytes}
 use Rattle.verdict.specs.Verdict.{judged, judgedBytes, verdict}
 
 -- arrays of n rows, and of 2 more for the standard types, for a table whose sections have fewer
@@ -52,7 +52,7 @@ module _ (t : List ℕ) (bytes : (i : ℕ) → getD t i 0 < 256) where
   rooms-small s c d e = rw (d .is, e) (rooms-new 1 t 256 (count-byte t bytes))
 
   -- a row for each row, and then the table
-  pub decodable-small : (s : Sections) (c : List ℕ) → Of t s → s .w ≡ 1 → Blank c → Decodable t s c
+  pub decodable-small : (s : Sections) (c : List ℕ) → SectionsOf t s → s .w ≡ 1 → Blank c → Decodable t s c
   decodable-small s c o e b = record { table = o; blank = b; room = rw e (new-room t bytes) }
 
 -- a test that passed says the rule
@@ -75,12 +75,12 @@ module _ (w : ℕ) (t : List ℕ) (f : Bool) (e : f ≡ whole w t) (c y z : List
       record { is = rw k; table = λ o. absurd (omega arith); types = λ o. absurd (omega arith); sizes = λ o. absurd (omega arith); long = l }
 
 -- zero bytes are read as the listing table, others as themselves
-pub checked-empty : (w : ℕ) (t c y z : List ℕ) (r : ℕ) → length t ≡ 0 → CheckedBytes w (listing w) r c y z → Checked w t r c y z
+pub checked-empty : (w : ℕ) (t c y z : List ℕ) (r : ℕ) → length t ≡ 0 → CheckedBytes w (listing w) r c y z → CheckLeaves w t r c y z
 unfolding verdict tableOf bytesRead
 checked-empty w [] c y z r e h = record { is = h .is; table = h .table; types = h .types; sizes = h .sizes; long = h .long }
 checked-empty w (b ∷ t) c y z r e h = absurd (omega arith)
 
-pub checked-some : (w : ℕ) (t c y z : List ℕ) (r : ℕ) → (length t ≡ 0 → ⊥) → CheckedBytes w t r c y z → Checked w t r c y z
+pub checked-some : (w : ℕ) (t c y z : List ℕ) (r : ℕ) → (length t ≡ 0 → ⊥) → CheckedBytes w t r c y z → CheckLeaves w t r c y z
 unfolding verdict tableOf bytesRead
 checked-some w [] c y z r e h = absurd (e refl)
 checked-some w (b ∷ t) c y z r e h = record { is = h .is; table = h .table; types = h .types; sizes = h .sizes; long = h .long }

@@ -14,7 +14,7 @@ use Rattle.verdict.specs.Edition.{slotWords}
 use Rattle.verdict.specs.Verdict.{judgedBytes, verdict}
 
 module _ (w : ℕ) (t : List ℕ) (r : ℕ) (c y z : List ℕ) where
-  pub record Checked : Type 0 where
+  pub record CheckLeaves : Type 0 where
     pub is : r ≡ verdict w t
     pub table : r ≡ 0 → decoded c ≡ tableOf w t
     pub types : r ≡ 0 → Types (decoded c) y

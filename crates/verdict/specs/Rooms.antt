@@ -9,11 +9,11 @@ use Rattle.table.specs.Entries.{nodeCount}
 use Rattle.types.specs.Kept as nodes
 use Rattle.sizes.specs.Kept as words
 use Rattle.numbers.specs.Marking.{Clear}
-use Rattle.uses.specs.Marked.{Blank}
+use Rattle.uses.specs.Marked.{NoMarks}
 
 pub record Rooms (T : Table) (types sizes marks seen blocks : List ℕ) : Type 0 where
   pub forTypes : nodes.Room T types
-  pub forSizes : words.Room T sizes
+  pub forSizes : words.SizeRoom T sizes
   pub forBlocks : Clear T marks
-  pub forNodes : Blank (nodeCount T) seen
+  pub forNodes : NoMarks (nodeCount T) seen
   pub forScopes : nodeCount T ≤ length blocks

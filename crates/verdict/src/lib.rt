@@ -7,13 +7,13 @@ ghost use Rattle.table.specs.Entries.{nodeCount};
 ghost use Rattle.code.specs.Code.{decoded, Decodes};
 ghost use Rattle.code.specs.Decoding as decoding;
 ghost use Rattle.types.specs.Kept.{Types};
-ghost use Rattle.sizes.specs.Kept.{Room, Sizes};
+ghost use Rattle.sizes.specs.Kept.{SizeRoom, Sizes};
 ghost use Rattle.numbers.specs.Ranges.{inRange};
 ghost use Rattle.uses.specs.Uses.{usedOnce};
-ghost use Rattle.uses.specs.Marked.{Blank};
+ghost use Rattle.uses.specs.Marked.{NoMarks};
 ghost use Rattle.verdict.specs.Verdict.{judged, judgedUses, judgedLate, verdict};
 ghost use Rattle.verdict.specs.Rooms.{Rooms};
-ghost use Rattle.verdict.specs.Checked.{Checked, CheckedBytes};
+ghost use Rattle.verdict.specs.Checked.{CheckLeaves, CheckedBytes};
 
 // Refusals 7 to 9, of a table that the earlier rules accept. The words of its types are left in their array.
 fn judge_late(
@@ -28,7 +28,7 @@ fn judge_late(
     requires { ⌜ inRange (decoded (now c)) ≡ true ⌝ }
     requires { ⌜ usedOnce (decoded (now c)) ≡ true ⌝ }
     requires { ⌜ Types (decoded (now c)) (now types) ⌝ }
-    requires { ⌜ Room (decoded (now c)) (now sizes) ⌝ }
+    requires { ⌜ SizeRoom (decoded (now c)) (now sizes) ⌝ }
     requires { ⌜ nodeCount (decoded (now c)) ≤ length (now blocks) ⌝ }
     ensures verdict { λ r. ⌜ r ≡ judgedLate (decoded (now (c .entry))) ⌝ }
     ensures sizes { λ r. ⌜ Sizes (decoded (now (c .entry))) (now (sizes .exit)) ⌝ }
@@ -59,8 +59,8 @@ fn judge_uses(
     requires { ⌜ Decodes (now t) s (now c) ⌝ }
     requires { ⌜ inRange (decoded (now c)) ≡ true ⌝ }
     requires { ⌜ Types (decoded (now c)) (now types) ⌝ }
-    requires { ⌜ Room (decoded (now c)) (now sizes) ⌝ }
-    requires { ⌜ Blank (nodeCount (decoded (now c))) (now seen) ⌝ }
+    requires { ⌜ SizeRoom (decoded (now c)) (now sizes) ⌝ }
+    requires { ⌜ NoMarks (nodeCount (decoded (now c))) (now seen) ⌝ }
     requires { ⌜ nodeCount (decoded (now c)) ≤ length (now blocks) ⌝ }
     ensures verdict { λ r. ⌜ r ≡ judgedUses (decoded (now (c .entry))) ⌝ }
     ensures sizes { λ r. ⌜ (r ≡ 0 → Sizes (decoded (now (c .entry))) (now (sizes .exit))) ⌝ }
@@ -195,7 +195,7 @@ fn check_bytes(t: &[u8], c: &mut code::Slots) -> Judgement
 // the words of its types.
 pub fn check_into(t: &[u8], c: &mut code::Slots) -> Judgement
     requires { ⌜ decoding.Blank (now c) ⌝ }
-    ensures { λ r. ⌜ Checked 1 (now (t .entry)) (r .verdict) (now (c .exit)) (r .types) (r .sizes) ⌝ }
+    ensures { λ r. ⌜ CheckLeaves 1 (now (t .entry)) (r .verdict) (now (c .exit)) (r .types) (r .sizes) ⌝ }
 {
     if t.len() == 0 {
         let listing = LISTING;

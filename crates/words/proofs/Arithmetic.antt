@@ -15,9 +15,9 @@ use mir.Facts.{sfits-widen}
 use mir.ValLaws.{toZ-ofZ, toZ-pos, toZ-fits}
 use Rattle.basics.specs.Cases.{cases}
 use Rattle.basics.specs.Choice.{both}
-use Rattle.words.specs.Numbers.{intOf, wordOf, between}
+use Rattle.words.specs.Numbers.{intOf, wordOfZ, betweenZ}
 use Rattle.words.specs.Magnitudes.{signedZ}
-use Rattle.words.specs.Outcomes.{Outcome, word, fail}
+use Rattle.words.specs.Outcomes.{WordOutcome, word, fail}
 use Rattle.words.specs.Operators.{ranged, addW, subW, negW, mulW, ltW, leW}
 use Rattle.words.proofs.Integers.{word-lt, in-range-mag}
 
@@ -66,29 +66,29 @@ module _ (m : ℕ) (h : m ≤ 32768) where
 
 -- ---- a range
 module _ (low high z : ℤ) (fl : SFits w32 low) (fz : SFits w32 z) where
-  pub between-above : SFits w32 high → leZ (toZ w32 (ofZ w32 low)) (toZ w32 (ofZ w32 z)) ≡ true → leZ (toZ w32 (ofZ w32 z)) (toZ w32 (ofZ w32 high)) ≡ between low high z
-  unfolding between both
+  pub between-above : SFits w32 high → leZ (toZ w32 (ofZ w32 low)) (toZ w32 (ofZ w32 z)) ≡ true → leZ (toZ w32 (ofZ w32 z)) (toZ w32 (ofZ w32 high)) ≡ betweenZ low high z
+  unfolding betweenZ both
   between-above fh e = let t = simp toZ-ofZ at e in simp (toZ-ofZ, t)
 
-  pub between-below : leZ (toZ w32 (ofZ w32 low)) (toZ w32 (ofZ w32 z)) ≡ false → false ≡ between low high z
-  unfolding between both
+  pub between-below : leZ (toZ w32 (ofZ w32 low)) (toZ w32 (ofZ w32 z)) ≡ false → false ≡ betweenZ low high z
+  unfolding betweenZ both
   between-below e = let t = simp toZ-ofZ at e in simp t
 
 -- the low 16 bits of an integer
-low-bits : (z : ℤ) → mag z < 32768 → bitAnd (ofZ w32 z) 65535 ≡ wordOf z
+low-bits : (z : ℤ) → mag z < 32768 → bitAnd (ofZ w32 z) 65535 ≡ wordOfZ z
 low-bits (pos n) h = and-mask n 16 ∙ omega arith
 low-bits (negsuc n) h = and-mask (4294967296 - suc n) 16 ∙ omega arith
 
-module _ (z : ℤ) (f : SFits w32 z) (b : Bool) (e : b ≡ between (negsuc 32767) (pos 32767) (toZ w32 (ofZ w32 z))) where
-  tested : b ≡ between (negsuc 32767) (pos 32767) z
+module _ (z : ℤ) (f : SFits w32 z) (b : Bool) (e : b ≡ betweenZ (negsuc 32767) (pos 32767) (toZ w32 (ofZ w32 z))) where
+  tested : b ≡ betweenZ (negsuc 32767) (pos 32767) z
   tested = rw (toZ-ofZ w32 z f) at e
 
   module _ (t : b ≡ true) where
     small : mag z < 32768
     small = in-range-mag z (sym tested ∙ t)
 
-    cast : toZ w32 (bitAnd (ofZ w32 z) 65535) ≡ pos (wordOf z)
-    cast = let k = word-lt z small in rw (low-bits z small) (toZ-pos w32 (wordOf z) (omega arith))
+    cast : toZ w32 (bitAnd (ofZ w32 z) 65535) ≡ pos (wordOfZ z)
+    cast = let k = word-lt z small in rw (low-bits z small) (toZ-pos w32 (wordOfZ z) (omega arith))
 
     pub cast-sign : T (nonNeg (toZ w32 (bitAnd (ofZ w32 z) 65535)))
     cast-sign = rw cast tt
@@ -161,7 +161,7 @@ module _ (a b : ℕ) (fa : Fits w16 a) (fb : Fits w16 b) (x y : ℤ) (ea : x ≡
   pub mul-fits : SFits w32 (toZ w32 (ofZ w32 x) *ℤ toZ w32 (ofZ w32 y))
   mul-fits = rw (reads _*ℤ_) (fits-mul fa fb)
 
-  module _ (r : Outcome) where
+  module _ (r : WordOutcome) where
     pub add-returns : r ≡ ranged (toZ w32 (ofZ w32 (toZ w32 (ofZ w32 x) +ℤ toZ w32 (ofZ w32 y)))) → r ≡ addW a b
     unfolding addW
     add-returns e = e ∙ ap ranged (gives _+ℤ_ (fits-add fa fb))
@@ -182,7 +182,7 @@ module _ (a b : ℕ) (fa : Fits w16 a) (fb : Fits w16 b) (x y : ℤ) (ea : x ≡
   unfolding leW
   not-greater-returns = reads leZ
 
-pub neg-returns : (a : ℕ) (r : Outcome) → r ≡ subW 0 a → r ≡ negW a
+pub neg-returns : (a : ℕ) (r : WordOutcome) → r ≡ subW 0 a → r ≡ negW a
 unfolding subW negW
 neg-returns a r e = e ∙ ap ranged (+ℤ-idl (negℤ (intOf a)))
 

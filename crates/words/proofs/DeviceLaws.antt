@@ -14,18 +14,18 @@ use Rattle.basics.specs.Cases.{cases}
 use Rattle.basics.specs.Choice.{both}
 use Rattle.basics.proofs.Bools.{no-true, both-l, both-r}
 use Rattle.words.specs.Memory.{wordAtByte, putAtByte}
-use Rattle.words.specs.Numbers.{intOf, between}
+use Rattle.words.specs.Numbers.{intOf, betweenZ}
 use Rattle.words.specs.Outcomes.{word, fail}
 use Rattle.words.specs.Devices.{isDevice, positionOf}
-use Rattle.words.specs.Pages.{readDevice, writeDevice, pageAfter}
+use Rattle.words.specs.Pages.{readDevice, writeDevice, pageWith}
 use Rattle.words.proofs.Arithmetic.{back}
 
 module _ (a : ℕ) (k : a < 65536) where
   parity : natAbs (intOf a) % 2 ≡ a % 2
   parity = cases (ltb a 32768) (λ e. rw e) (λ e. let h = ltb-false a 32768 e in rw e (omega arith))
 
-  bounds : between (negsuc 8191) (negsuc 1) (intOf a) ≡ true → (57344 ≤ a) × (a ≤ 65534)
-  unfolding between
+  bounds : betweenZ (negsuc 8191) (negsuc 1) (intOf a) ≡ true → (57344 ≤ a) × (a ≤ 65534)
+  unfolding betweenZ
   bounds t =
       cases (ltb a 32768)
       (λ e. no-true (both-r _ _ (rw e at t)))
@@ -42,7 +42,7 @@ module _ (a : ℕ) (k : a < 65536) where
 
 -- the test, with a local z that holds the integer
 module _ (a : ℕ) (f : Fits w16 a) where
-  pub even-device : (b : Bool) (z : ℤ) → a % 2 ≡ 0 → z ≡ intOf a → b ≡ between (negsuc 8191) (negsuc 1) (toZ w32 (ofZ w32 z)) → b ≡ isDevice (intOf a)
+  pub even-device : (b : Bool) (z : ℤ) → a % 2 ≡ 0 → z ≡ intOf a → b ≡ betweenZ (negsuc 8191) (negsuc 1) (toZ w32 (ofZ w32 z)) → b ≡ isDevice (intOf a)
   unfolding isDevice both
   even-device b z h ez e = rw (parity a (f .fits), eq-eqb (a % 2) 0 h) (rw (back ez f) at e)
 
@@ -80,8 +80,8 @@ module _ (a : ℕ) (f : Fits w16 a) (b : Bool) (e : b ≡ isDevice (intOf a)) wh
     unfolding writeDevice
     write-in v = rw (← e, t)
 
-    pub page-in : (v : ℕ) (page after : List ℕ) → after ≡ putAtByte page (a - 57344) v → after ≡ pageAfter page a v
-    unfolding pageAfter
+    pub page-in : (v : ℕ) (page after : List ℕ) → after ≡ putAtByte page (a - 57344) v → after ≡ pageWith page a v
+    unfolding pageWith
     page-in v page after h = rw (← e, t, device .is) h
 
   module _ (t : b ≡ false) where
@@ -93,8 +93,8 @@ module _ (a : ℕ) (f : Fits w16 a) (b : Bool) (e : b ≡ isDevice (intOf a)) wh
     unfolding writeDevice
     write-out v = rw (← e, t)
 
-    pub page-out : (v : ℕ) (page : List ℕ) → page ≡ pageAfter page a v
-    unfolding pageAfter
+    pub page-out : (v : ℕ) (page : List ℕ) → page ≡ pageWith page a v
+    unfolding pageWith
     page-out v page = rw (← e, t)
 
 -- the place is even and a whole word of the page

@@ -14,7 +14,7 @@ use mir.ValLaws.{toZ-ofZ}
 use Rattle.basics.specs.Cases.{cases}
 use Rattle.words.specs.Numbers.{intOf}
 use Rattle.words.specs.Magnitudes.{negative, magnitudeOf, signedZ}
-use Rattle.words.specs.Outcomes.{Outcome, fail}
+use Rattle.words.specs.Outcomes.{WordOutcome, fail}
 use Rattle.words.specs.Operators.{ranged, divW, modW}
 use Rattle.words.proofs.Arithmetic.{fits-minus}
 
@@ -60,7 +60,7 @@ magnitude-le : (a : ℕ) → magnitudeOf a ≤ 32768
 magnitude-le a = omega arith
 
 -- the code's locals: a sign s, magnitudes m and n, and z made of them
-module _ (a b : ℕ) (fa : Fits w16 a) (fb : Fits w16 b) (nz : b ≡ 0 → ⊥) (r : Outcome) (z : ℤ) (m n : ℕ) (em : m ≡ magnitudeOf a) (en : n ≡ magnitudeOf b) where
+module _ (a b : ℕ) (fa : Fits w16 a) (fb : Fits w16 b) (nz : b ≡ 0 → ⊥) (r : WordOutcome) (z : ℤ) (m n : ℕ) (em : m ≡ magnitudeOf a) (en : n ≡ magnitudeOf b) where
   pub quotient-returns : (s t : Bool) (q : ℕ) → s ≡ negative a → t ≡ negative b → q ≡ m / n → z ≡ signedZ (differ s t) q → r ≡ ranged (toZ w32 (ofZ w32 z)) → r ≡ divW a b
   unfolding divW
   quotient-returns s t q es et eq ez e =

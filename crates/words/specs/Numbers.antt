@@ -13,9 +13,9 @@ abbrev pub intOf : ℕ → ℤ
 intOf = toZ w16
 
 -- and back: z, and z + 65536 where it is negative
-abbrev pub wordOf : ℤ → ℕ
-wordOf = ofZ w16
+abbrev pub wordOfZ : ℤ → ℕ
+wordOfZ = ofZ w16
 
 -- a range includes both bounds (7)
-unfoldable pub between : ℤ → ℤ → ℤ → Bool
-between low high z = both (leZ low z) (leZ z high)
+unfoldable pub betweenZ : ℤ → ℤ → ℤ → Bool
+betweenZ low high z = both (leZ low z) (leZ z high)

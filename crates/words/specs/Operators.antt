@@ -7,32 +7,32 @@ use lib.Dec.{eqb}
 use lib.IntN.{ℤ, pos, negsuc, negℤ, _+ℤ_, _-ℤ_, _*ℤ_}
 use lib.Signed.{ltZ, leZ, quotZ, remZ}
 use Rattle.basics.specs.Choice.{pick}
-use Rattle.words.specs.Numbers.{intOf, wordOf, between}
-use Rattle.words.specs.Outcomes.{Outcome, word, fail}
+use Rattle.words.specs.Numbers.{intOf, wordOfZ, betweenZ}
+use Rattle.words.specs.Outcomes.{WordOutcome, word, fail}
 
 -- 10.2: a result outside the range of integers fails, with 16
-unfoldable pub ranged : ℤ → Outcome
-ranged z = pick (between (negsuc 32767) (pos 32767) z) (word (wordOf z)) (fail 16)
+unfoldable pub ranged : ℤ → WordOutcome
+ranged z = pick (betweenZ (negsuc 32767) (pos 32767) z) (word (wordOfZ z)) (fail 16)
 
-unfoldable pub addW : ℕ → ℕ → Outcome
+unfoldable pub addW : ℕ → ℕ → WordOutcome
 addW a b = ranged (intOf a +ℤ intOf b)
 
-unfoldable pub subW : ℕ → ℕ → Outcome
+unfoldable pub subW : ℕ → ℕ → WordOutcome
 subW a b = ranged (intOf a -ℤ intOf b)
 
 -- sign inversion
-unfoldable pub negW : ℕ → Outcome
+unfoldable pub negW : ℕ → WordOutcome
 negW a = ranged (negℤ (intOf a))
 
-unfoldable pub mulW : ℕ → ℕ → Outcome
+unfoldable pub mulW : ℕ → ℕ → WordOutcome
 mulW a b = ranged (intOf a *ℤ intOf b)
 
 -- 01: rounds towards zero (`quotZ` does); 17 for divisor 0
-unfoldable pub divW : ℕ → ℕ → Outcome
+unfoldable pub divW : ℕ → ℕ → WordOutcome
 divW a b = pick (eqb b 0) (fail 17) (ranged (quotZ (intOf a) (intOf b)))
 
 -- 01: has the dividend's sign (`remZ` does)
-unfoldable pub modW : ℕ → ℕ → Outcome
+unfoldable pub modW : ℕ → ℕ → WordOutcome
 modW a b = pick (eqb b 0) (fail 17) (ranged (remZ (intOf a) (intOf b)))
 
 unfoldable pub ltW : ℕ → ℕ → Bool

@@ -5,7 +5,7 @@ use Rattle.words.specs.declared.values.Failure.{Failure}
 use Rattle.words.specs.declared.values.Failure.the-variants.{ResultRange, DivisorZero, IndexRange, EmptyReference, StartedTwice, DeviceAddress, AreaFull, NoValue, ProcessLimit, Unset}
 use Rattle.words.specs.declared.values.Value.{Value}
 use Rattle.words.specs.declared.values.Value.the-variants.{Word, Fail}
-use Rattle.words.specs.Outcomes.{Outcome, fail, word}
+use Rattle.words.specs.Outcomes.{WordOutcome, fail, word}
 
 abbrev pub failureNumber : Failure → ℕ
 failureNumber ResultRange = 16
@@ -19,6 +19,6 @@ failureNumber NoValue = 23
 failureNumber ProcessLimit = 24
 failureNumber Unset = 31
 
-abbrev pub outcomeOf : Value → Outcome
+abbrev pub outcomeOf : Value → WordOutcome
 outcomeOf (Word w) = word w
 outcomeOf (Fail f) = fail (failureNumber f)

@@ -10,7 +10,7 @@ ghost use lib.ListN.{length};
 ghost use Rattle.words.specs.Numbers.{intOf};
 ghost use Rattle.words.specs.Values.{outcomeOf};
 ghost use Rattle.words.specs.Devices.{isDevice};
-ghost use Rattle.words.specs.Pages.{readDevice, writeDevice, pageAfter};
+ghost use Rattle.words.specs.Pages.{readDevice, writeDevice, pageWith};
 
 fn is_device(address: u16) -> bool
     ensures { λ r. ⌜ r ≡ isDevice (intOf address) ⌝ }
@@ -36,7 +36,7 @@ pub fn read_device(page: &[u8], address: u16) -> Value
 pub fn write_device(page: &mut [u8], address: u16, v: u16) -> Value
     requires { ⌜ length (now page) ≡ 8192 ⌝ }
     ensures answer { λ r. ⌜ outcomeOf r ≡ writeDevice address v ⌝ }
-    ensures page { λ r. ⌜ now (page .exit) ≡ pageAfter (now (page .entry)) address v ⌝ }
+    ensures page { λ r. ⌜ now (page .exit) ≡ pageWith (now (page .entry)) address v ⌝ }
 {
     if is_device(address) {
         put_at(page, address as usize - 57344, v);

@@ -1,7 +1,7 @@
 // The integer that a word stands for (5.1.1). Signed numbers are for this crate's own use: above it words are u16.
 ghost use mathlib.Core.Path.{_≡_};
 ghost use Prim.Native.Nat.{_<_};
-ghost use Rattle.words.specs.Numbers.{intOf, between};
+ghost use Rattle.words.specs.Numbers.{intOf, betweenZ};
 
 pub fn integer(w: u16) -> i32
     ensures { λ r. ⌜ r ≡ intOf w ⌝ }
@@ -26,7 +26,7 @@ pub fn narrow(n: usize) -> u16
 
 // Ranges include both bounds (7).
 pub fn is_between(low: i32, high: i32, z: i32) -> bool
-    ensures { λ r. ⌜ r ≡ between low high z ⌝ }
+    ensures { λ r. ⌜ r ≡ betweenZ low high z ⌝ }
 {
     if low <= z {
         return z <= high;

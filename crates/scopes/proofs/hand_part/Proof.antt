@@ -3,13 +3,13 @@ use mathlib.Core.Path.{_≡_}
 use native.Mathlib.Omega.{arith}
 use borrow.Author.Needs.{needs}
 use Rattle.basics.specs.Marks.{gather}
-use Rattle.scopes.specs.Handed.{given, partNode}
+use Rattle.scopes.specs.Handed.{withBlock, partNode}
 use Rattle.scopes.proofs.Scoping.{parts}
 use Rattle.scopes.proofs.hand_part.Statement.{statement}
 use Rattle.scopes.proofs.hand_part.Tie as tie
 
 abbrev Inv-loop : tie.InvT-loop
-Inv-loop blocks₀ b part w count k₀ blocks k = (k ≤ count) × (blocks ≡ given b (gather (partNode part w) k) blocks₀)
+Inv-loop blocks₀ b part w count k₀ blocks k = (k ≤ count) × (blocks ≡ withBlock b (gather (partNode part w) k) blocks₀)
 
 abbrev μ-loop : tie.MeasureT-loop
 μ-loop blocks₀ b part w count k₀ blocks k = count - k

@@ -1,11 +1,11 @@
 use Rattle.scopes.proofs.Scoping.{rows}
-use Rattle.scopes.specs.Scopes.{among}
+use Rattle.scopes.specs.Scopes.{ofBlock}
 use borrow.Author.Needs.{needs}
 use Rattle.scopes.proofs.is_among.Statement.{statement}
 use Rattle.scopes.proofs.is_among.Tie as tie
 
 pub is-among-spec : {M : Type 1} → statement M
-unfolding among
+unfolding ofBlock
 is-among-spec =
     tie.close (tie.spec
     (λ c κs. search needs)

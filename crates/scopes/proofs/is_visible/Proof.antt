@@ -1,11 +1,11 @@
 use Rattle.scopes.proofs.Scoping.{rows}
-use Rattle.scopes.specs.Scopes.{visible}
+use Rattle.scopes.specs.Scopes.{inScope}
 use borrow.Author.Needs.{needs}
 use Rattle.scopes.proofs.is_visible.Statement.{statement}
 use Rattle.scopes.proofs.is_visible.Tie as tie
 
 pub is-visible-spec : {M : Type 1} → statement M
-unfolding visible
+unfolding inScope
 is-visible-spec =
     tie.close
     (tie.spec

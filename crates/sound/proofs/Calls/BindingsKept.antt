@@ -24,7 +24,7 @@ use Rattle.machine.specs.Context.{contextOf}
 use Rattle.machine.specs.Calls.{standing, frame, topAfter, pushed, frameMarked, popped, returns, return}
 use Rattle.machine.specs.Processes.{created, started}
 use Rattle.machine.specs.Statements.{Effect, effect, perform}
-use Rattle.machine.specs.Step.{done, settled, answers, performs, proceeds, exists, turn, step}
+use Rattle.machine.specs.Step.{done, settled, answersOnly, performs, proceeds, exists, turn, step}
 use Rattle.sizes.proofs.Counting.{words-simple}
 use Rattle.sound.specs.Evaluated.{Live, Pushable, Performed}
 use Rattle.machine.specs.Values.{partOfBlock}
@@ -33,8 +33,8 @@ use Rattle.machine.proofs.MarkLaws.{SameWords, same-words, same-marks, location
 use Rattle.machine.proofs.Outcomes.{g-test, g-need, g-pick}
 use Rattle.verdict.specs.Accepted.{Accepted}
 use Rattle.sound.specs.Claims.{PlaceLaws}
-use Rattle.sound.specs.Ruled.{Framed, Chained, called, Ruled}
-use Rattle.sound.specs.InUse.{Created, Call, innermost, caller}
+use Rattle.sound.specs.Ruled.{Framed, CallChain, called, Ruled}
+use Rattle.sound.specs.InUse.{Created, CallAt, innermost, caller}
 use Rattle.sound.specs.Bindings.{FrameWord, link, bound, BindingsKept}
 use Rattle.sound.proofs.Memory.ProcessRecords.{refers-some}
 use Rattle.sound.proofs.Rule.RuleRecord.{block-there, block-kind}
@@ -55,15 +55,15 @@ under-caller : (m : Memory) (p d f d' f' : ℕ) → Under m p d f (suc d') f' �
 under-caller m p _ f d' _ this = next this
 under-caller m p _ f d' f' (next {d = d} u) = next (under-caller m p d (callerFrame m p f) d' f' u)
 
-pub call-under : (T : Table) (m : Memory) (p d f : ℕ) → Call T m p d f → Under m p (m (depthAt p)) (m (frameAt p)) d f
+pub call-under : (T : Table) (m : Memory) (p d f : ℕ) → CallAt T m p d f → Under m p (m (depthAt p)) (m (frameAt p)) d f
 call-under T m p d f (innermost c s e z) = rw (e, z) this
 call-under T m p d f (caller g c z) = rw z (under-caller m p _ _ d g (call-under T m p (suc d) g c))
 
-pub call-created : (T : Table) (m : Memory) (p d f : ℕ) → Call T m p d f → Created m p
+pub call-created : (T : Table) (m : Memory) (p d f : ℕ) → CallAt T m p d f → Created m p
 call-created T m p d f (innermost c s e z) = c
 call-created T m p d f (caller g c z) = call-created T m p (suc d) g c
 
-pub call-started : (T : Table) (m : Memory) (p d f : ℕ) → Call T m p d f → m (statusAt p) ≡ 2
+pub call-started : (T : Table) (m : Memory) (p d f : ℕ) → CallAt T m p d f → m (statusAt p) ≡ 2
 call-started T m p d f (innermost c s e z) = s
 call-started T m p d f (caller g c z) = call-started T m p (suc d) g c
 
@@ -80,7 +80,7 @@ module _ (T : Table) (ok : Accepted T) (L : PlaceLaws T) (m : Memory) (p : ℕ) 
       let z = words-var T (firstVar T (calledBlock m p f) + i) n in
       (omega arith, omega arith)
 
-  under-in : {d f w c top : ℕ} (d' f' j : ℕ) → Chained T m p d f w c top → Under m p d f d' f' → FrameWord T m p f' j → (moduleWords T (m (moduleAt p)) ≤ j) × (j < top)
+  under-in : {d f w c top : ℕ} (d' f' j : ℕ) → CallChain T m p d f w c top → Under m p d f d' f' → FrameWord T m p f' j → (moduleWords T (m (moduleAt p)) ≤ j) × (j < top)
   under-in d' f' j (called {d = d} {f = f} {w = w} {c = c} {top = top} h r) this x =
       let y = word-in d f w c top j h x in
       let z = chain-over T m p r in
@@ -109,7 +109,7 @@ module _ (T : Table) (ok : Accepted T) (L : PlaceLaws T) (m : Memory) (p : ℕ) 
       let s = variables-apart T (calledBlock m p f) (x .i) i (omega arith) in
       inr (omega arith))
 
-  own-apart : {d f w c top : ℕ} (d' f' j τ k : ℕ) → Chained T m p d f w c top → owns T m p d f τ k ≡ true → Under m p d f d' f' → FrameWord T m p f' j → Apart j k (wordsOf T τ)
+  own-apart : {d f w c top : ℕ} (d' f' j τ k : ℕ) → CallChain T m p d f w c top → owns T m p d f τ k ≡ true → Under m p d f d' f' → FrameWord T m p f' j → Apart j k (wordsOf T τ)
   unfolding owns Apart
   own-apart d' f' j τ k (called {d = d} {f = f} {w = w} {c = c} {top = top} h r) e this x =
       either-case (both (leb (f + 4) k) (partOfBlock T (calledBlock m p f) τ (k - (f + 4)))) (owns T m p d (callerFrame m p f) τ k) e
@@ -170,7 +170,7 @@ module _ (T : Table) (ok : Accepted T) (L : PlaceLaws T) (m : Memory) (h : Ruled
     below : j < m (topAt p)
     fits : m (topAt p) ≤ 256
 
-  spot : (p d f j : ℕ) → Call T m p d f → FrameWord T m p f j → Spot p j
+  spot : (p d f j : ℕ) → CallAt T m p d f → FrameWord T m p f j → Spot p j
   spot p d f j c x =
       let n = call-created T m p d f c in
       let r = h .process p (n .least) (n .most) in
@@ -183,7 +183,7 @@ module _ (T : Table) (ok : Accepted T) (L : PlaceLaws T) (m : Memory) (h : Ruled
       record { some = n .least; made = n .most; base = y .0; below = y .1; fits = chain-fits T m p (omega arith) ch }
 
   live-apart : (p τ a : ℕ) → 1 ≤ p → p ≤ m createdAt → m (statusAt p) ≡ 2 → lives T m p (m (depthAt p)) (m (frameAt p)) (m (worksAt p)) τ a ≡ true
-      → (p' d f j : ℕ) → Call T m p' d f → FrameWord T m p' f j → Apart (location p' j) a (wordsOf T τ)
+      → (p' d f j : ℕ) → CallAt T m p' d f → FrameWord T m p' f j → Apart (location p' j) a (wordsOf T τ)
   live-apart p τ a l g s e p' d f j c x =
       let o = spot p' d f j c x in
       let ob = o .base in
@@ -220,7 +220,7 @@ module _ (T : Table) (ok : Accepted T) (L : PlaceLaws T) (m : Memory) (h : Ruled
   -- ---- what a statement writes
 
   K : Memory → Type 0
-  K s = (p d f j : ℕ) → Call T m p d f → FrameWord T m p f j → s (location p j) ≡ m (location p j)
+  K s = (p d f j : ℕ) → CallAt T m p d f → FrameWord T m p f j → s (location p j) ≡ m (location p j)
 
   k-none : K m
   unfolding K
@@ -255,18 +255,18 @@ module _ (T : Table) (ok : Accepted T) (L : PlaceLaws T) (m : Memory) (h : Ruled
   k-standing s q c f t w d g = k-record _ q 7 d (k-record _ q 5 w (k-record _ q 4 t (k-record _ q 3 f (k-record s q 2 c g))))
 
   -- words that are apart from those of frames
-  k-store : (s : Memory) (a : ℕ) (ws : List ℕ) → ((p d f j : ℕ) → Call T m p d f → FrameWord T m p f j → Apart (location p j) a (length ws)) → K s → K (store s a ws)
+  k-store : (s : Memory) (a : ℕ) (ws : List ℕ) → ((p d f j : ℕ) → CallAt T m p d f → FrameWord T m p f j → Apart (location p j) a (length ws)) → K s → K (store s a ws)
   unfolding K
   k-store s a ws w g p d f j c x = stored (location p j) (w p d f j c x) ∙ g p d f j c x
     where
       stored : (i : ℕ) → Apart i a (length ws) → store s a ws i ≡ s i
       stored i q = store-apart s a ws i q
 
-  k-update : (s : Memory) (a v : ℕ) → ((p d f j : ℕ) → Call T m p d f → FrameWord T m p f j → Apart (location p j) a 1) → K s → K (update s a v)
+  k-update : (s : Memory) (a v : ℕ) → ((p d f j : ℕ) → CallAt T m p d f → FrameWord T m p f j → Apart (location p j) a 1) → K s → K (update s a v)
   unfolding K
   k-update s a v w g p d f j c x = update-apart s a v (location p j) (w p d f j c x) ∙ g p d f j c x
 
-  k-clear : (s : Memory) (a n : ℕ) → ((p d f j : ℕ) → Call T m p d f → FrameWord T m p f j → Apart (location p j) a n) → K s → K (clear s a n)
+  k-clear : (s : Memory) (a n : ℕ) → ((p d f j : ℕ) → CallAt T m p d f → FrameWord T m p f j → Apart (location p j) a n) → K s → K (clear s a n)
   unfolding K
   k-clear s a n w g p d f j c x = clear-apart s a n (location p j) (w p d f j c x) ∙ g p d f j c x
 
@@ -383,8 +383,8 @@ module _ (T : Table) (ok : Accepted T) (L : PlaceLaws T) (m : Memory) (h : Ruled
     left-of some made e _ (Keeping.keeps k) = left k
     left-of some made e _ Keeping.fails = fails
 
-    answers-left : (a : ℕ) → Left (answers T m page p a)
-    unfolding answers
+    answers-left : (a : ℕ) → Left (answersOnly T m page p a)
+    unfolding answersOnly
     answers-left a = left k-none
 
     exists-left : 1 ≤ p → p ≤ m createdAt → Left (exists T m page p)

@@ -26,7 +26,7 @@ use Rattle.machine.proofs.Memories.{store-at}
 use Rattle.machine.proofs.TextLaws.{fit-long}
 use Rattle.verdict.specs.Accepted.{Accepted}
 use Rattle.sound.specs.Conditions.{Gives}
-use Rattle.sound.specs.Carried.{Passes, noMore, byValue, byFit, byVariable, Passed}
+use Rattle.sound.specs.Carried.{Passes, noMore, byValue, byFit, byVariable, ArgumentsPass}
 use Rattle.sound.specs.OpenCalls.{variableAt, Gets, stores, fits, binds, Enters}
 use Rattle.sound.proofs.RuleKept.Marks.{frame-marks, marks-area}
 use Rattle.sound.proofs.Memory.Writes.{location-add}
@@ -158,7 +158,7 @@ module _ (T : Table) (m page : Memory) (p : ℕ) (some : 1 ≤ p) (most : p ≤ 
 
 -- ---- the call
 
-module _ (T : Table) (acc : Accepted T) (m page : Memory) (p q c d : ℕ) (ws : List ℕ) (there : q < blockCount T) (h : Passed T m page (contextOf m p) q c d ws) where
+module _ (T : Table) (acc : Accepted T) (m page : Memory) (p q c d : ℕ) (ws : List ℕ) (there : q < blockCount T) (h : ArgumentsPass T m page (contextOf m p) q c d ws) where
   passed-length : length ws ≡ firstWords T q (params T q)
   unfolding firstWords
   passed-length = rw (← h .each) (passes-length T m page (contextOf m p) d (firstVar T q) c ws (h .words))

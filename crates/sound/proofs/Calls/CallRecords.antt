@@ -14,7 +14,7 @@ use Rattle.machine.specs.Layout.{recordAt, linkAt, statusAt, frameAt, depthAt, 
 use Rattle.machine.specs.Calls.{standing}
 use Rattle.machine.proofs.Memories.{update-other}
 use Rattle.machine.proofs.MarkLaws.{SameWords}
-use Rattle.sound.specs.InUse.{Created, Call, innermost, caller}
+use Rattle.sound.specs.InUse.{Created, CallAt, innermost, caller}
 use Rattle.sound.specs.Bindings.{link, BindingsKept}
 use Rattle.sound.specs.OpenCalls.{callsFrom, openCalls}
 use Rattle.sound.proofs.Memory.ProcessRecords.{unlike-words}
@@ -97,7 +97,7 @@ alike-standing m s e c f t w d o h =
 
 module _ (T : Table) (m s : Memory) (k : BindingsKept T m s) where
   -- the calls from one that has not ended on stay
-  pub from-kept : (p d f : ℕ) → ((e : ℕ) → d ≡ suc e → Call T m p e f) → callsFrom s p d f ≡ callsFrom m p d f
+  pub from-kept : (p d f : ℕ) → ((e : ℕ) → d ≡ suc e → CallAt T m p e f) → callsFrom s p d f ≡ callsFrom m p d f
   unfolding callsFrom linkAt
   from-kept p zero f c = refl
   from-kept p (suc d) f c =

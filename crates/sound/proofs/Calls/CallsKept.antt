@@ -35,8 +35,8 @@ use Rattle.sound.specs.Ruled.{Ruled}
 use Rattle.sound.specs.InUse.{Created, innermost, caller}
 use Rattle.sound.specs.Bindings.{BindingsKept}
 use Rattle.sound.specs.Conditions.{Selects, AreaFull, Refers, StatementEnds, ownBlock}
-use Rattle.sound.specs.Carried.{Passed, Carries, Inside, nextArm, lastEnd}
-use Rattle.sound.specs.Rows.{next, Ready, CarriedOut, Changes, failureMark, nothing, givesUp, endedBefore, endsNow, absent, carried, SameFailure}
+use Rattle.sound.specs.Carried.{ArgumentsPass, Carries, Inside, nextArm, lastEnd}
+use Rattle.sound.specs.Rows.{next, CanStep, CarriedOut, Changes, failureMark, nothing, givesUp, endedBefore, endsNow, absent, carried, SameFailure}
 use Rattle.sound.specs.Created.{NewProcess}
 use Rattle.sound.specs.OpenCalls.{OpenCall, callsFrom, openCalls, outer, callsBy, callsAfter, Enters, CallsKept}
 use Rattle.sound.proofs.Rule.RuleRecord.{procedure-there, block-there, block-kind, created-in, in-created}
@@ -73,7 +73,7 @@ module _ (T : Table) (m page : Memory) (p : ℕ) where
   either-true (inr e) = either-r _ _ (eq-eqb _ p e)
 
   -- the statement of a process that is free to go on is stuck only where the step is
-  statement-free : m failureAt ≡ 0 → Ready T m page p → (step T m page p ≡ Step.stuck → ⊥) → perform T m page (contextOf m p) (next T m page p) ≡ stuck → ⊥
+  statement-free : m failureAt ≡ 0 → CanStep T m page p → (step T m page p ≡ Step.stuck → ⊥) → perform T m page (contextOf m p) (next T m page p) ≡ stuck → ⊥
   unfolding step settled turn exists proceeds performs
   statement-free z r h e = h (ap (settled m page) turn-stuck)
     where
@@ -176,7 +176,7 @@ module _ (T : Table) (acc : Accepted T) (m page : Memory) (R : Ruled T m) (p : �
 
   -- ---- a call
 
-  module _ (u : Memory) (h : Alike m u 0) (q r i d : ℕ) (ws : List ℕ) (there : q < blockCount T) (P : Passed T m page (contextOf m p) q i d ws)
+  module _ (u : Memory) (h : Alike m u 0) (q r i d : ℕ) (ws : List ℕ) (there : q < blockCount T) (P : ArgumentsPass T m page (contextOf m p) q i d ws)
       (fit : m (topAt p) + 4 + frameWords T q ≤ 256) where
     abbrev after : Memory
     after = frameMarked T m page (contextOf m p) (pushed T m page (contextOf m p) u q r ws) q ws
@@ -339,7 +339,7 @@ module _ (T : Table) (acc : Accepted T) (m page : Memory) (R : Ruled T m) (p : �
       let a = leb-true 2 r (both-l _ _ (both-l _ _ e)) in
       (record { least = omega arith; most = leb-true r (m createdAt) (both-r _ _ (both-l _ _ e)) }, eqb-true _ μ (both-r _ _ e))
 
-  passed-few : (μ r i d : ℕ) (ws : List ℕ) → refers m μ r ≡ true → Passed T m page (contextOf m p) μ i d ws → length ws ≤ 256
+  passed-few : (μ r i d : ℕ) (ws : List ℕ) → refers m μ r ≡ true → ArgumentsPass T m page (contextOf m p) μ i d ws → length ws ≤ 256
   passed-few μ r i d ws e P =
       let h = started-some μ r e in
       let b = h .0 .least in
@@ -422,7 +422,7 @@ module _ (T : Table) (acc : Accepted T) (m page : Memory) (R : Ruled T m) (p : �
         process = λ a q c i z y. b .enters q c (ap enteredBy y);
       }
 
-  ended-calls : Ready T m page p → StatementEnds T m page (contextOf m p) (next T m page p) → BindingsKept T m (update (update m (statusAt p) 3) (holderAt p) 0)
+  ended-calls : CanStep T m page p → StatementEnds T m page (contextOf m p) (next T m page p) → BindingsKept T m (update (update m (statusAt p) 3) (holderAt p) 0)
       → (r : ℕ) → openCalls (update (update m (statusAt p) 3) (holderAt p) 0) r ≡ openCalls m r
   unfolding contextOf
   ended-calls g h k r =

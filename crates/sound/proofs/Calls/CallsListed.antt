@@ -15,8 +15,8 @@ use Rattle.table.specs.Table.{Table}
 use Rattle.machine.specs.Memory.{Memory, memoryOf, update, within, fill, zeros}
 use Rattle.machine.specs.Layout.{recordAt, statusAt, frameAt, depthAt, createdAt, callerFrame, calledBlock}
 use Rattle.machine.specs.Calls.{standing}
-use Rattle.machine.specs.Run.{first, begin}
-use Rattle.sound.specs.InUse.{Created, Call, innermost, caller}
+use Rattle.machine.specs.Run.{initialState, begin}
+use Rattle.sound.specs.InUse.{Created, CallAt, innermost, caller}
 use Rattle.sound.specs.Histories.{Seen, finally, Threaded, Every}
 use Rattle.sound.specs.OpenCalls.{OpenCall, callsFrom, openCalls, Among, CallsListed, callsAfter, callsMade, CallsKept}
 use Rattle.sound.proofs.Runs.FirstStateWords.{begin-created}
@@ -70,8 +70,8 @@ among-one c _ _ (Among.innermost {cs = bs}) b cs e =
 among-one c d _ (Among.outside {cs = bs} h) b cs e = let y : bs ≡ cs = cc in inr (rw y at h)
 
 module _ (T : Table) (m : Memory) where
-  among-from : (p d f : ℕ) → ((e : ℕ) → d ≡ suc e → Call T m p e f) → (c : OpenCall) (e : ℕ) → Among c e (callsFrom m p d f)
-      → Call T m p e (c .frame) × (calledBlock m p (c .frame) ≡ c .procedure)
+  among-from : (p d f : ℕ) → ((e : ℕ) → d ≡ suc e → CallAt T m p e f) → (c : OpenCall) (e : ℕ) → Among c e (callsFrom m p d f)
+      → CallAt T m p e (c .frame) × (calledBlock m p (c .frame) ≡ c .procedure)
   unfolding callsFrom
   among-from p zero f k c e h = absurd (among-none c e _ h refl)
   among-from p (suc d) f k c e h =
@@ -79,8 +79,8 @@ module _ (T : Table) (m : Memory) where
       (among-from p d (callerFrame m p f) (λ i z. caller f (rw z at (k d refl)) refl) c e)
     where
       go : ((c ≡ callAt m p f) × (e ≡ length (callsFrom m p d (callerFrame m p f)))) ⊎ Among c e (callsFrom m p d (callerFrame m p f))
-          → (Among c e (callsFrom m p d (callerFrame m p f)) → Call T m p e (c .frame) × (calledBlock m p (c .frame) ≡ c .procedure))
-          → Call T m p e (c .frame) × (calledBlock m p (c .frame) ≡ c .procedure)
+          → (Among c e (callsFrom m p d (callerFrame m p f)) → CallAt T m p e (c .frame) × (calledBlock m p (c .frame) ≡ c .procedure))
+          → CallAt T m p e (c .frame) × (calledBlock m p (c .frame) ≡ c .procedure)
       go (inl h) g = rw (h .0, h .1, from-length m p d (callerFrame m p f)) (k d refl, refl)
       go (inr h) g = g h
 
@@ -92,7 +92,7 @@ module _ (T : Table) (m : Memory) where
         in-use = in-use;
       }
     where
-      in-use : (p d q f : ℕ) → Among (record { procedure = q; frame = f }) d (openCalls m p) → Call T m p d f × (calledBlock m p f ≡ q)
+      in-use : (p d q f : ℕ) → Among (record { procedure = q; frame = f }) d (openCalls m p) → CallAt T m p d f × (calledBlock m p f ≡ q)
       in-use p d q f h =
           cases (both (between 1 (m createdAt) p) (eqb (m (statusAt p)) 2))
           (λ e.
@@ -123,7 +123,7 @@ calls-made T r s (e ∷ es) fs t h =
 
 -- at the start there are none
 first-none : (T : Table) (number : ℕ) → openCalls (begin T number) 1 ≡ []
-unfolding begin first fill within standing update zeros recordAt openCalls callsFrom between both
+unfolding begin initialState fill within standing update zeros recordAt openCalls callsFrom between both
 first-none T number = refl
 
 pub begin-none : (T : Table) (number r : ℕ) → openCalls (begin T number) r ≡ []

@@ -35,7 +35,7 @@ use Rattle.sound.specs.Claims.{Keeps, IsValue, Words, PlaceLaws}
 use Rattle.sound.specs.Answers.{Small}
 use Rattle.sound.specs.Ruled.{Ruled}
 use Rattle.sound.specs.Reached.{WordTable}
-use Rattle.sound.specs.Evaluated.{SmallWords, Live, GoodNode, Scoping, Bound, unbound, by-value, by-place, GoodArguments, the-words, no-words}
+use Rattle.sound.specs.Evaluated.{SmallWords, Live, GoodNode, Scoping, ParameterWords, unbound, by-value, by-place, GoodArguments, the-words, no-words}
 use Rattle.sound.proofs.Evaluation.OutcomeLaws.{text-small, on-need, on-place, on-typed}
 use Rattle.sound.proofs.Evaluation.Nodes.{node-good}
 use Rattle.sound.proofs.Values.BlockVariables.{words-value, words-var}
@@ -58,7 +58,7 @@ words-first T v k =
     rw add-zero at e
 
 module _ (T : Table) (m : Memory) (p : ℕ) where
-  pub bound-length : (k v : ℕ) (ws : List ℕ) → Bound T m p k v ws → length ws ≡ wordsFrom T v k
+  pub bound-length : (k v : ℕ) (ws : List ℕ) → ParameterWords T m p k v ws → length ws ≡ wordsFrom T v k
   unfolding sumBelow
   bound-length _ v _ unbound = refl
   bound-length _ v _ (by-value {k} us {ws} n u s b) =
@@ -124,7 +124,7 @@ module _ (T : Table) (m : Memory) (p : ℕ) where
   unfolding fits
   location-small τ a l = ltb-true a locations (both-l _ _ (l .inside))
 
-  pub bound-small : (k v : ℕ) (ws : List ℕ) → Bound T m p k v ws → SmallWords ws
+  pub bound-small : (k v : ℕ) (ws : List ℕ) → ParameterWords T m p k v ws → SmallWords ws
   bound-small _ v _ unbound = record { words = λ i. omega arith }
   bound-small _ v _ (by-value {k} us {ws} n u s b) = small-append us ws s (bound-small k (v + 1) ws b)
   bound-small _ v _ (by-place {k} a {ws} n u b) = let l = location-small (varType T v) a u in small-cons a ws (omega arith) (bound-small k (v + 1) ws b)
@@ -134,7 +134,7 @@ module _ (T : Table) (m : Memory) (p : ℕ) where
     first-value : (v a : ℕ) (us : List ℕ) → IsValue T m (varType T v) us → Stands n a us → holds T n (varType T v) a ≡ true
     first-value v a us u h = let e = u .long in u .anywhere n a keeps (rw (← e) (stands-words us n a h))
 
-    pub bound-value : (k v a i : ℕ) (ws : List ℕ) → Bound T m p k v ws → Stands n a ws → i < k → (varMode T (v + i) ≡ 2 → ⊥) → holds T n (varType T (v + i)) (a + wordsFrom T v i) ≡ true
+    pub bound-value : (k v a i : ℕ) (ws : List ℕ) → ParameterWords T m p k v ws → Stands n a ws → i < k → (varMode T (v + i) ≡ 2 → ⊥) → holds T n (varType T (v + i)) (a + wordsFrom T v i) ≡ true
     unfolding sumBelow
     bound-value _ v a i _ unbound h l e = absurd (not-suc-le-zero l)
     bound-value _ v a zero _ (by-value {k} us {ws} c u s b) h l e = rw (add-zero v, add-zero a) (first-value v a us u (stands-front n a us ws h))
@@ -154,7 +154,7 @@ module _ (T : Table) (m : Memory) (p : ℕ) where
         rw (x, q) (bound-value k (v + 1) (a + 1) i ws b (stands-back n a (j ∷ []) ws h) (omega arith) (rw x at e))
 
   -- and each var parameter the location of a live variable of its type
-  pub bound-place : (n : Memory) (k v a i : ℕ) (ws : List ℕ) → Bound T m p k v ws → Stands n a ws → i < k → varMode T (v + i) ≡ 2 → Live T m p (varType T (v + i)) (n (a + wordsFrom T v i))
+  pub bound-place : (n : Memory) (k v a i : ℕ) (ws : List ℕ) → ParameterWords T m p k v ws → Stands n a ws → i < k → varMode T (v + i) ≡ 2 → Live T m p (varType T (v + i)) (n (a + wordsFrom T v i))
   unfolding sumBelow
   bound-place n _ v a i _ unbound h l e = absurd (not-suc-le-zero l)
   bound-place n _ v a zero _ (by-value {k} us {ws} c u s b) h l e = absurd (c (rw add-zero at e))
@@ -175,7 +175,7 @@ module _ (T : Table) (m : Memory) (p : ℕ) where
       rw (x, q) (bound-place n k (v + 1) (a + 1) i ws b (stands-back n a (j ∷ []) ws h) (omega arith) (rw x at e))
 
 -- the parameters of block q: their words begin its frame
-module _ (T : Table) (acc : Accepted T) (m : Memory) (p q : ℕ) (there : q < blockCount T) (ws : List ℕ) (b : Bound T m p (params T q) (firstVar T q) ws) where
+module _ (T : Table) (acc : Accepted T) (m : Memory) (p q : ℕ) (there : q < blockCount T) (ws : List ℕ) (b : ParameterWords T m p (params T q) (firstVar T q) ws) where
   pub arguments-fit : length ws ≤ frameWords T q
   unfolding frameWords firstWords
   arguments-fit =

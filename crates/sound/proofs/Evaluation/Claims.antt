@@ -28,7 +28,7 @@ use Rattle.sound.specs.Answers.{Small}
 use Rattle.sound.specs.Claims as claims
 use Rattle.sound.specs.Ruled.{Ruled, Fills}
 use Rattle.sound.specs.Reached.{WordTable}
-use Rattle.sound.specs.Evaluated.{GoodPlace, at-place, no-place, GoodValue, a-value, a-text, no-value, GoodNode, Bound, Performed}
+use Rattle.sound.specs.Evaluated.{GoodPlace, at-place, no-place, GoodValue, a-value, a-text, no-value, GoodNode, ParameterWords, Performed}
 use Rattle.sound.proofs.Rule.RuleRecord.{ruled, stands}
 use Rattle.sound.proofs.Rule.Chains.{created-low, created-high}
 use Rattle.sound.proofs.Evaluation.Nodes.{node-good}
@@ -48,7 +48,7 @@ module _ (T : Table) (m : Memory) (p : ℕ) where
   value-is-good _ _ (no-value n l) = claims.fails n l
 
 -- the words of arguments fill the parameters of block b
-pub fills : (T : Table) (m : Memory) (p b : ℕ) (ws : List ℕ) → Bound T m p (params T b) (firstVar T b) ws → Fills T m p b ws
+pub fills : (T : Table) (m : Memory) (p b : ℕ) (ws : List ℕ) → ParameterWords T m p (params T b) (firstVar T b) ws → Fills T m p b ws
 unfolding firstWords
 fills T m p b ws h =
     record {

@@ -9,7 +9,7 @@ use lib.IntN.{ℤ, pos, negsuc}
 use lib.ListN.{length}
 use borrow.Author.Tests.{leb-true, ltb-true, le-ltb}
 use Rattle.basics.proofs.Bools.{no-true, both-l, both-r}
-use Rattle.words.specs.Numbers.{intOf, between}
+use Rattle.words.specs.Numbers.{intOf, betweenZ}
 use Rattle.words.specs.Devices.{isDevice, positionOf}
 use Rattle.words.specs.Outcomes as words
 use Rattle.table.specs.Table.{Table}
@@ -24,7 +24,7 @@ use Rattle.machine.specs.Entries.{Unary, minus, not, val, noUnary, Binary, equa
 use Rattle.machine.specs.Entries.{Node, constant, whole, field, element, retrieve, unary, binary, transfer, string, noNode}
 use Rattle.machine.specs.Context.{Context}
 use Rattle.machine.specs.Variables.{belongs, offsetOf, fits}
-use Rattle.machine.specs.Operands.{simple, truth, given, deviceWord, unaryValue, ordered, integral, logical, binaryValue, placeAt, fieldPlace, elementPlace, moduleVariable, frameVariable, wholePlace, retrieved, nodeOperand, operand}
+use Rattle.machine.specs.Operands.{oneWord, truth, given, deviceWord, unaryValue, ordered, integral, logical, binaryValue, placeAt, fieldPlace, elementPlace, moduleVariable, frameVariable, wholePlace, retrieved, nodeOperand, operand}
 use Rattle.machine.proofs.Memories.{length-words}
 use Rattle.machine.proofs.Outcomes.{g-test, g-need, g-where, g-pick, g-place, g-value, g-typed, g-word, g-record, g-array}
 use Rattle.machine.specs.Layout.{locations}
@@ -33,7 +33,7 @@ use Rattle.sound.specs.Conditions.{Gives, aValue, aText}
 
 -- the words of the page where device locations stand
 position-most : (z : ℤ) → isDevice z ≡ true → positionOf z ≤ 8190
-unfolding isDevice positionOf between
+unfolding isDevice positionOf betweenZ
 position-most (pos n) e = no-true (both-r _ _ (both-r _ _ e))
 position-most (negsuc n) e =
     let h = both-r _ _ e in
@@ -53,15 +53,15 @@ module _ (T : Table) (m page : Memory) (x : Context) where
     fails : {n : ℕ} → Fine (fail n)
     none : Fine stuck
 
-  fine-simple : (τ w : ℕ) → τ < 3 → Fine (simple τ w)
-  unfolding simple
+  fine-simple : (τ w : ℕ) → τ < 3 → Fine (oneWord τ w)
+  unfolding oneWord
   fine-simple τ w h = yields (sym (words-standard T τ h))
 
   fine-truth : (b : Bool) → Fine (truth b)
   unfolding truth
   fine-truth b = fine-simple 1 _ (omega arith)
 
-  fine-given : (τ : ℕ) (o : words.Outcome) → τ < 3 → Fine (given τ o)
+  fine-given : (τ : ℕ) (o : words.WordOutcome) → τ < 3 → Fine (given τ o)
   unfolding given
   fine-given τ (words.word w) h = fine-simple τ w h
   fine-given τ (words.fail n) h = fails

@@ -14,7 +14,7 @@ use Rattle.basics.proofs.Bools.{no-true, both-l, both-r, both-i}
 use Rattle.table.specs.Table.{Table}
 use Rattle.types.specs.Types.{unaryType, binaryType, NodeType, numbered, numberOf}
 use Rattle.types.specs.Match.{offset, matching, isEqual}
-use Rattle.words.specs.Numbers.{intOf, between}
+use Rattle.words.specs.Numbers.{intOf, betweenZ}
 use Rattle.words.specs.Numbers as numbers
 use Rattle.words.specs.Operators.{ranged, addW, subW, negW, mulW, divW, modW, leW, notW, andW, orW, notB, andB, orB}
 use Rattle.words.specs.Types.{inType, transferW}
@@ -26,7 +26,7 @@ use Rattle.words.proofs.BitLaws.{and-word, or-word, not-boolean, and-boolean, o
 use Rattle.machine.specs.Memory.{Memory}
 use Rattle.machine.specs.Outcomes.{Outcome, fail, need, wordOf, isFailure}
 use Rattle.machine.specs.Entries.{unaryAt, binaryAt}
-use Rattle.machine.specs.Operands.{simple, truth, given, deviceWord, unaryValue, ordered, integral, logical, binaryValue, outside}
+use Rattle.machine.specs.Operands.{oneWord, truth, given, deviceWord, unaryValue, ordered, integral, logical, binaryValue, outside}
 use Rattle.machine.proofs.Tests.{failure-i}
 use Rattle.sound.specs.Claims.{IsValue}
 use Rattle.sound.specs.Answers.{Small}
@@ -36,15 +36,15 @@ use Rattle.sound.proofs.Values.OneWord.{integer-value, boolean-value, c
 use Rattle.sound.proofs.Evaluation.NodeTypes.{one-small, word-small}
 
 -- an operator gives a word, or a listed failure
-pub data Ranged : words.Outcome → Type 0 where
+pub data Ranged : words.WordOutcome → Type 0 where
   a-word : (w : ℕ) → w < 65536 → Ranged (words.word w)
   no-word : (n : ℕ) → isFailure n ≡ true → Ranged (words.fail n)
 
 ranged-is : (z : ℤ) → Ranged (ranged z)
 unfolding ranged
 ranged-is z =
-    cases (between (negsuc 32767) (pos 32767) z)
-    (λ e. rw e (a-word (numbers.wordOf z) (word-lt z (in-range-mag z e))))
+    cases (betweenZ (negsuc 32767) (pos 32767) z)
+    (λ e. rw e (a-word (numbers.wordOfZ z) (word-lt z (in-range-mag z e))))
     (λ e. rw e (no-word 16 (failure-i 16 (omega arith) (omega arith))))
 
 divided : (b : ℕ) (z : ℤ) → Ranged (pick (eqb b 0) (words.fail 17) (ranged z))
@@ -99,17 +99,17 @@ module _ (low high i : ℕ) (a : low < 65536) (b : high < 65536) (c : i < 65536)
   index-high = le-offset i high c b (both-r _ _ inside)
 
 module _ (T : Table) (m : Memory) where
-  pub simple-good : (τ w : ℕ) → IsValue T m τ (w ∷ []) → w < 65536 → GoodValue T m (numbered τ) (simple τ w)
-  unfolding simple
+  pub simple-good : (τ w : ℕ) → IsValue T m τ (w ∷ []) → w < 65536 → GoodValue T m (numbered τ) (oneWord τ w)
+  unfolding oneWord
   simple-good τ w v l = a-value (w ∷ []) v (one-small w l)
 
-  pub integer-good : (w : ℕ) → w < 65536 → GoodValue T m (numbered 0) (simple 0 w)
+  pub integer-good : (w : ℕ) → w < 65536 → GoodValue T m (numbered 0) (oneWord 0 w)
   integer-good w l = simple-good 0 w (integer-value T m w) l
 
-  pub boolean-good : (w : ℕ) → w ≤ 1 → GoodValue T m (numbered 1) (simple 1 w)
+  pub boolean-good : (w : ℕ) → w ≤ 1 → GoodValue T m (numbered 1) (oneWord 1 w)
   boolean-good w l = simple-good 1 w (boolean-value T m w l) (omega arith)
 
-  pub character-good : (w : ℕ) → w ≤ 127 → GoodValue T m (numbered 2) (simple 2 w)
+  pub character-good : (w : ℕ) → w ≤ 127 → GoodValue T m (numbered 2) (oneWord 2 w)
   character-good w l = simple-good 2 w (character-value T m w l) (omega arith)
 
   pub truth-good : (b : Bool) → GoodValue T m (numbered 1) (truth b)
@@ -117,7 +117,7 @@ module _ (T : Table) (m : Memory) where
   truth-good true = boolean-good 1 (omega arith)
   truth-good false = boolean-good 0 (omega arith)
 
-  given-good : (o : words.Outcome) → Ranged o → GoodValue T m (numbered 0) (given 0 o)
+  given-good : (o : words.WordOutcome) → Ranged o → GoodValue T m (numbered 0) (given 0 o)
   unfolding given
   given-good _ (a-word w l) = integer-good w l
   given-good _ (no-word n l) = no-value n l
@@ -134,7 +134,7 @@ module _ (T : Table) (m : Memory) where
   transfer-good (suc (suc zero)) w t l = transferred 2 w (inType 2 w) (λ e. character-value T m w (leb-true w 127 (sym (character-is w l) ∙ e))) l
   transfer-good (suc (suc (suc τ))) w t l = absurd (omega arith)
 
-  pub constant-good : (τ w : ℕ) → τ ≤ 2 → w < 65536 → (τ ≡ 1 → w ≤ 1) → (τ ≡ 2 → w ≤ 127) → GoodValue T m (numbered τ) (simple τ w)
+  pub constant-good : (τ w : ℕ) → τ ≤ 2 → w < 65536 → (τ ≡ 1 → w ≤ 1) → (τ ≡ 2 → w ≤ 127) → GoodValue T m (numbered τ) (oneWord τ w)
   constant-good zero w t l b c = integer-good w l
   constant-good (suc zero) w t l b c = boolean-good w (b refl)
   constant-good (suc (suc zero)) w t l b c = character-good w (c refl)
@@ -167,7 +167,7 @@ module _ (T : Table) (m : Memory) where
   ordered-good τ σ b e t =
       on-need (GoodValue T m (numbered 1)) no-value (both (eqb τ σ) (ltb τ 3)) _ (both-i _ _ (eq-eqb τ σ e) (lt-ltb τ 3 (omega arith))) (truth-good b)
 
-  integral-good : (τ σ : ℕ) (o : words.Outcome) → τ ≡ σ → τ ≡ 0 → Ranged o → GoodValue T m (numbered 0) (integral τ σ o)
+  integral-good : (τ σ : ℕ) (o : words.WordOutcome) → τ ≡ σ → τ ≡ 0 → Ranged o → GoodValue T m (numbered 0) (integral τ σ o)
   unfolding integral
   integral-good τ σ o e t r =
       on-need (GoodValue T m (numbered 0)) no-value (both (eqb τ 0) (eqb σ 0)) _ (both-i _ _ (eq-eqb τ 0 t) (eq-eqb σ 0 (sym e ∙ t))) (given-good o r)

@@ -10,7 +10,7 @@ use Rattle.table.specs.Table.{Table}
 use Rattle.types.specs.Types.{NodeType, numbered}
 use Rattle.machine.specs.Memory.{Memory}
 use Rattle.machine.specs.Layout.{location}
-use Rattle.machine.specs.Outcomes.{Outcome, fail, andThen, need, failWhere, Operand, placed, valued, typed, onPlace, onValue, onTyped, onWord, wordOf, isFailure}
+use Rattle.machine.specs.Outcomes.{Outcome, fail, andThen, need, failWhere, Operand, placed, valued, typedWords, onPlace, onValue, onTyped, onWord, wordOf, isFailure}
 use Rattle.machine.proofs.Outcomes.{need-true}
 use Rattle.sound.specs.Claims.{IsValue, IsText, Words}
 use Rattle.sound.specs.Evaluated.{SmallWords, Live, GoodPlace, at-place, no-place, GoodValue, a-value, a-text, no-value}
@@ -43,7 +43,7 @@ module _ {A : Type 0} (R : Outcome A → Type 0) (fails : (n : ℕ) → isFailur
     on-value τ _ f (no-value n l) h = fails n l
 
     pub on-typed : (κ : NodeType) (o : Outcome Operand) (f : NodeType → List ℕ → Outcome A) → GoodValue T m κ o → ((ws : List ℕ) → Words T m κ ws → SmallWords ws → R (f κ ws)) → R (onTyped o f)
-    unfolding onTyped andThen typed Words
+    unfolding onTyped andThen typedWords Words
     on-typed _ _ f (a-value ws v s) h = h ws v s
     on-typed _ _ f (a-text ws t) h = rw (t .long) (h ws t (text-small _ ws t))
     on-typed _ _ f (no-value n l) h = fails n l

@@ -50,7 +50,7 @@ module _ (T : Table) (acc : Accepted T) where
       inside = in-table T (acc .nesting) b there i (lies-of T b i e)
 
       block-is : free (nest.blockStep T) i ≡ b
-      unfolding nestingBlocks.blockOf
+      unfolding nestingBlocks.stmtBlock
       block-is = block-of T (acc .nesting) b i there (lies-of T b i e)
 
     -- and what its statements use

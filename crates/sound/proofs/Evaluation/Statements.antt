@@ -33,7 +33,7 @@ use Rattle.machine.specs.Context.{Context, contextOf, blockOf}
 use Rattle.machine.specs.Space.{spaceFull}
 use Rattle.machine.specs.Operands.{operand}
 use Rattle.machine.specs.Calls.{arguments, topAfter, pushed, frameMarked, call}
-use Rattle.machine.specs.Statements.{Effect, effect, goTo, goOn, wait, moved, doAssign, doLocalCall, free, doProcessCall, doCreate, doStart, doWrite, perform}
+use Rattle.machine.specs.Statements.{Effect, effect, goTo, goOn, wait, moved, doAssign, doLocalCall, canServe, doProcessCall, doCreate, doStart, doWrite, perform}
 use Rattle.machine.specs.Rule as state
 use Rattle.machine.proofs.Entries.{at-process}
 use Rattle.machine.proofs.Tests.{failure-i, failure-unset}
@@ -44,7 +44,7 @@ use Rattle.sound.specs.Claims.{PlaceLaws}
 use Rattle.sound.specs.Answers.{Small}
 use Rattle.sound.specs.Ruled.{Ruled}
 use Rattle.sound.specs.Reached.{WordTable}
-use Rattle.sound.specs.Evaluated.{Live, GoodPlace, GoodValue, Scoping, Bound, GoodArguments, the-words, no-words, Passing, Performed, assigns, calls, serves, waits, creates, starts, writes, fails}
+use Rattle.sound.specs.Evaluated.{Live, GoodPlace, GoodValue, Scoping, ParameterWords, GoodArguments, the-words, no-words, CannotWait, Performed, assigns, calls, serves, waits, creates, starts, writes, fails}
 use Rattle.sound.proofs.Evaluation.OutcomeLaws.{on-need, on-fail, on-place, on-typed, on-word}
 use Rattle.sound.proofs.Evaluation.NodeTypes.{word-small}
 use Rattle.sound.proofs.Values.ModuleVariables.{module-fits}
@@ -66,13 +66,13 @@ reference T m p τ a l k n =
     either-case (eqb (m a) 0) (refers m (typeP T τ) (m a)) h (λ e. absurd (n (eqb-true (m a) 0 e))) (λ e. e)
 
 -- a process that can serve a call is started, and nobody holds its variables
-module _ (T : Table) (m page : Memory) (x : Context) (r : ℕ) (e : free m r ≡ true) where
+module _ (T : Table) (m page : Memory) (x : Context) (r : ℕ) (e : canServe m r ≡ true) where
   free-status : m (statusAt r) ≡ 1 → ⊥
-  unfolding free
+  unfolding canServe
   free-status = eqb-false (m (statusAt r)) 1 (not-true _ (both-l _ _ e))
 
   free-holder : m (holderAt r) ≡ 0
-  unfolding free
+  unfolding canServe
   free-holder = eqb-true (m (holderAt r)) 0 (both-r _ _ e)
 
 module _ (T : Table) (acc : Accepted T) (L : PlaceLaws T) (W : WordTable T) (m : Memory) (R : Ruled T m) (ms : Small m) (page : Memory) (ps : Small page) (p : ℕ) (some : 1 ≤ p) (made : p ≤ m createdAt) (s : m (statusAt p) ≡ 2)
@@ -83,7 +83,7 @@ module _ (T : Table) (acc : Accepted T) (L : PlaceLaws T) (W : WordTable T) (m :
   abbrev GoesOn : Type 0
   GoesOn = state.liesIn T (blockOf m p) (m (statementAt p) + 1) ≡ true
 
-  passes : (k : ℕ) → stmtKind T stmt ≡ k → state.mayWait (statementOf k (stmtA T stmt) (stmtB T stmt) (stmtC T stmt) (stmtD T stmt) (stmtLink T stmt)) ≡ false → Passing T m p
+  passes : (k : ℕ) → stmtKind T stmt ≡ k → state.mayWait (statementOf k (stmtA T stmt) (stmtB T stmt) (stmtC T stmt) (stmtD T stmt) (stmtLink T stmt)) ≡ false → CannotWait T m p
   passes k e h = rw (stmt-is T stmt k l e) h
 
   on-failed : (n : ℕ) → isFailure n ≡ true → Performed T m page p (fail n)
@@ -173,7 +173,7 @@ module _ (T : Table) (acc : Accepted T) (L : PlaceLaws T) (W : WordTable T) (m :
       rw (e, lt-ltb (m (depthAt p)) 64 (shallow q b)) (h b (shallow q b))))
 
   on-arguments : (q c d : ℕ) (f : List ℕ → Outcome Effect) → q < blockCount T → Arguments T q c d → c + d ≤ argCount T → ((k : ℕ) → k < d → scope (argNode T (c + k)))
-      → ((ws : List ℕ) → Bound T m p (params T q) (firstVar T q) ws → Performed T m page p (f ws)) → Performed T m page p (andThen (arguments T m page (contextOf m p) q c d) f)
+      → ((ws : List ℕ) → ParameterWords T m p (params T q) (firstVar T q) ws → Performed T m page p (f ws)) → Performed T m page p (andThen (arguments T m page (contextOf m p) q c d) f)
   on-arguments q c d f there a room inside h = go _ (arguments-good T acc L W m R ms page ps p some made s scope S q c d there a room inside)
     where
       go : (o : Outcome (List ℕ)) → GoodArguments T m p (params T q) (firstVar T q) o → Performed T m page p (andThen o f)
@@ -193,7 +193,7 @@ module _ (T : Table) (acc : Accepted T) (L : PlaceLaws T) (W : WordTable T) (m :
       calling : state.calls (stmtA T stmt) (stmtAt T stmt) ≡ true
       calling = rw e (unfold state.calls in eq-eqb (stmtA T stmt) (stmtA T stmt) refl)
 
-      pushed-frame : (ws : List ℕ) → Bound T m p (params T (stmtA T stmt)) (firstVar T (stmtA T stmt)) ws
+      pushed-frame : (ws : List ℕ) → ParameterWords T m p (params T (stmtA T stmt)) (firstVar T (stmtA T stmt)) ws
           → Performed T m page p (failWhere (spaceFull T m (contextOf m p) (stmtA T stmt)) 22
           (moved T m page (contextOf m p) (call T m page (contextOf m p) m (stmtA T stmt) (m (worksAt p)) ws)))
       pushed-frame ws b =
@@ -227,7 +227,7 @@ module _ (T : Table) (acc : Accepted T) (L : PlaceLaws T) (W : WordTable T) (m :
       calling : state.calls (stmtB T stmt) (stmtAt T stmt) ≡ true
       calling = rw e (unfold state.calls in eq-eqb (stmtB T stmt) (stmtB T stmt) refl)
 
-      pushed-frame : (r : ℕ) → refers m (typeP T (typeOf T (stmtA T stmt))) r ≡ true → free m r ≡ true → (ws : List ℕ) → Bound T m p (params T (stmtB T stmt)) (firstVar T (stmtB T stmt)) ws
+      pushed-frame : (r : ℕ) → refers m (typeP T (typeOf T (stmtA T stmt))) r ≡ true → canServe m r ≡ true → (ws : List ℕ) → ParameterWords T m p (params T (stmtB T stmt)) (firstVar T (stmtB T stmt)) ws
           → Performed T m page p (moved T m page (contextOf m p) (call T m page (contextOf m p) (update m (holderAt r) p) (stmtB T stmt) r ws))
       pushed-frame r g h ws b =
           let f = arguments-fit T acc m p (stmtB T stmt) (there .0) ws b in
@@ -236,9 +236,9 @@ module _ (T : Table) (acc : Accepted T) (L : PlaceLaws T) (W : WordTable T) (m :
           (record { there = there .0; procedure = there .1; bound = b; long = f; room = o; deep = d; calling = calling }))
 
       served : (r : ℕ) → refers m (typeP T (typeOf T (stmtA T stmt))) r ≡ true
-          → Performed T m page p (pick (free m r) (andThen (arguments T m page (contextOf m p) (stmtB T stmt) (stmtC T stmt) (stmtD T stmt)) λ ws. moved T m page (contextOf m p) (call T m page (contextOf m p) (update m (holderAt r) p) (stmtB T stmt) r ws)) (wait T m page (contextOf m p) m))
+          → Performed T m page p (pick (canServe m r) (andThen (arguments T m page (contextOf m p) (stmtB T stmt) (stmtC T stmt) (stmtD T stmt)) λ ws. moved T m page (contextOf m p) (call T m page (contextOf m p) (update m (holderAt r) p) (stmtB T stmt) r ws)) (wait T m page (contextOf m p) m))
       served r g =
-          cases (free m r)
+          cases (canServe m r)
           (λ h. rw h (on-arguments (stmtB T stmt) (stmtC T stmt) (stmtD T stmt) _ (there .0) (typing.called-arguments T (acc .types) stmt l k) (ranged.call-args T (acc .numbers) stmt l k) inside (pushed-frame r g h)))
           (λ h. rw h (unfold wait in waits))
 

@@ -29,9 +29,9 @@ use Rattle.machine.specs.Rule as state
 use Rattle.verdict.specs.Accepted.{Accepted}
 use Rattle.sound.specs.Claims.{PlaceLaws}
 use Rattle.sound.specs.Answers.{Small}
-use Rattle.sound.specs.Ruled.{Chained, bottom, called, Ruled, Standing}
+use Rattle.sound.specs.Ruled.{CallChain, bottom, called, Ruled, BlockOwned}
 use Rattle.sound.specs.Reached.{WordTable}
-use Rattle.sound.specs.Evaluated.{Scoped, Passing, Performed, goes, holds-on, gives-up, ends, returns, fails}
+use Rattle.sound.specs.Evaluated.{Scoped, CannotWait, Performed, goes, holds-on, gives-up, ends, returns, fails}
 use Rattle.sound.proofs.Rule.RuleRecord.{lies-from, lies-to, lies-i, stands}
 use Rattle.sound.proofs.Memory.Writes.{update-small}
 use Rattle.sound.proofs.RuleKept.Position.{stand-small}
@@ -62,7 +62,7 @@ next-small T W b = cases (ltb (b + 1) (blockCount T)) (λ e. rw e (W .cells 3 (b
 pub lies-small : (T : Table) → WordTable T → (b c : ℕ) → liesIn T b c ≡ true → c < 65536
 lies-small T W b c e = let x = lies-to T b c e in let y = next-small T W b in omega arith
 
-chain-small : (T : Table) → WordTable T → (m : Memory) (p d f w c top : ℕ) → Chained T m p d f w c top → c + 1 < 65536
+chain-small : (T : Table) → WordTable T → (m : Memory) (p d f w c top : ℕ) → CallChain T m p d f w c top → c + 1 < 65536
 chain-small T W m p _ f w c top (bottom b) = let x = b .to in let y = next-small T W (m (moduleAt p)) in omega arith
 chain-small T W m p _ f w c top (called F C) = let x = F .to in let y = next-small T W (calledBlock m p f) in omega arith
 
@@ -73,7 +73,7 @@ data Returning : Outcome Memory → Type 0 where
 module _ (T : Table) (acc : Accepted T) (L : PlaceLaws T) (W : WordTable T) (m : Memory) (R : Ruled T m) (ms : Small m) (page : Memory) (ps : Small page) (p : ℕ) (some : 1 ≤ p) (made : p ≤ m createdAt) (s : m (statusAt p) ≡ 2)
     (scope : ℕ → Type 0) (S : Scoped T (blockOf m p) scope) where
   -- where it stands
-  where-stands : Standing T m p
+  where-stands : BlockOwned T m p
   where-stands = stands T acc m p some made (R .process p some made) s
 
   there : blockOf m p < blockCount T
@@ -204,7 +204,7 @@ module _ (T : Table) (acc : Accepted T) (L : PlaceLaws T) (W : WordTable T) (m :
       (arm-low T (acc .nesting) (blockOf m p) there i o k) (arm-high T (acc .nesting) (blockOf m p) there i o k) (omega arith) h)
       (h i o)
 
-  ending : 10 ≤ stmtKind T stmt → stmtKind T stmt ≤ 11 → Passing T m p → Performed T m page p (doEnd T m page (contextOf m p))
+  ending : 10 ≤ stmtKind T stmt → stmtKind T stmt ≤ 11 → CannotWait T m p → Performed T m page p (doEnd T m page (contextOf m p))
   unfolding doEnd goTo contextOf
   ending a b w =
       end-good (stmtCount T) stmt _ here a b (omega arith) (λ j o k.
@@ -248,13 +248,13 @@ module _ (T : Table) (acc : Accepted T) (L : PlaceLaws T) (W : WordTable T) (m :
   returned c q blockEnd l e = no-true e
   returned c q noStatement l e = no-true e
 
-  return-good : Passing T m p → (m (depthAt p) ≡ 0 → ⊥) → Performed T m page p (moved T m page (contextOf m p) (return T m page (contextOf m p)))
+  return-good : CannotWait T m p → (m (depthAt p) ≡ 0 → ⊥) → Performed T m page p (moved T m page (contextOf m p) (return T m page (contextOf m p)))
   return-good w n = go (m (depthAt p)) refl (R .process p some made .chain s)
     where
       done : (o : Outcome Memory) → o ≡ return T m page (contextOf m p) → Returning o → Performed T m page p (moved T m page (contextOf m p) o)
       done _ e (a-state u v) = unfold moved andThen in returns u w n (sym e) v
 
-      go : (d : ℕ) → m (depthAt p) ≡ d → Chained T m p d (m (frameAt p)) (m (worksAt p)) (m (statementAt p)) (m (topAt p)) → Performed T m page p (moved T m page (contextOf m p) (return T m page (contextOf m p)))
+      go : (d : ℕ) → m (depthAt p) ≡ d → CallChain T m p d (m (frameAt p)) (m (worksAt p)) (m (statementAt p)) (m (topAt p)) → Performed T m page p (moved T m page (contextOf m p) (return T m page (contextOf m p)))
       go zero e (bottom b) = absurd (n e)
       go (suc d) e (called F C) =
           let l = chain-small T W m p d (callerFrame m p (m (frameAt p))) (callerWorks m p (m (frameAt p))) (callStatement m p (m (frameAt p))) (m (frameAt p)) C in

@@ -12,7 +12,7 @@ use Rattle.words.specs.Bytes.{Bytes}
 use Rattle.machine.specs.Memory.{Memory, memoryOf, bytesAt, bytesOf}
 use Rattle.machine.proofs.Memories.{memory-bytes, length-bytes}
 use Rattle.sound.specs.Answers.{Small}
-use Rattle.sound.specs.Reached.{Sized}
+use Rattle.sound.specs.Reached.{ZeroFrom}
 
 module _ (m : Memory) where
   bytes-small : (a n i : ℕ) → getD (bytesAt m a n) i 0 < 256
@@ -36,12 +36,12 @@ beyond-end [] i h = refl
 beyond-end (x ∷ s) zero h = absurd (not-suc-le-zero h)
 beyond-end (x ∷ s) (suc i) h = beyond-end s i (omega arith)
 
-pub memory-sized : (s : List ℕ) (n : ℕ) → length s ≡ n * 2 → Sized n (memoryOf s)
+pub memory-sized : (s : List ℕ) (n : ℕ) → length s ≡ n * 2 → ZeroFrom n (memoryOf s)
 unfolding memoryOf
 memory-sized s n e = record { beyond = λ i h. rw (beyond-end s (i * 2) (omega arith), beyond-end s (i * 2 + 1) (omega arith)) }
 
 -- THE BYTES HOLD THE MEMORY: every word, where it has n
-pub memory-whole : (m : Memory) (n : ℕ) → Small m → Sized n m → memoryOf (bytesOf n m) ≡ m
+pub memory-whole : (m : Memory) (n : ℕ) → Small m → ZeroFrom n m → memoryOf (bytesOf n m) ≡ m
 memory-whole m n s z k i = at i k
   where
     at : (i : ℕ) → memoryOf (bytesOf n m) i ≡ m i

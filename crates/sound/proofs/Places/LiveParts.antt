@@ -20,7 +20,7 @@ use Rattle.machine.specs.Values.{part, partOfBlock}
 use Rattle.machine.specs.Rule.{owns, worked, lives}
 use Rattle.verdict.specs.Accepted.{Accepted}
 use Rattle.sound.specs.Claims.{PlaceLaws}
-use Rattle.sound.specs.Ruled.{Chained, bottom, called, Ruled}
+use Rattle.sound.specs.Ruled.{CallChain, bottom, called, Ruled}
 use Rattle.sound.specs.Evaluated.{Live}
 use Rattle.sound.proofs.Rule.RuleRecord.{block-there}
 use Rattle.sound.proofs.Places.WholeVariables.{live}
@@ -55,7 +55,7 @@ module _ (T : Table) (acc : Accepted T) (L : PlaceLaws T) (σ τ k : ℕ) (t : �
       let u = words-value T v (r .mode) in
       block-i T b τ (j + k) (record { i = r .i; there = r .there; mode = r .mode; from = omega arith; part = rw z g }) (omega arith)
 
-  further-owns : (m : Memory) (p d f w c top j : ℕ) → Chained T m p d f w c top → owns T m p d f σ j ≡ true → owns T m p d f τ (j + k) ≡ true
+  further-owns : (m : Memory) (p d f w c top j : ℕ) → CallChain T m p d f w c top → owns T m p d f σ j ≡ true → owns T m p d f τ (j + k) ≡ true
   unfolding owns
   further-owns m p _ f w c top j (bottom b) e = e
   further-owns m p _ f w c top j (called {d} G C) e =
@@ -67,7 +67,7 @@ module _ (T : Table) (acc : Accepted T) (L : PlaceLaws T) (σ τ k : ℕ) (t : �
       (λ q. either-r _ _ (further-owns m p d (callerFrame m p f) (callerWorks m p f) (callStatement m p f) f j C q))
 
   module _ (m : Memory) (R : Ruled T m) (p : ℕ) (some : 1 ≤ p) (made : p ≤ m createdAt) (s : m (statusAt p) ≡ 2) where
-    chain : Chained T m p (m (depthAt p)) (m (frameAt p)) (m (worksAt p)) (m (statementAt p)) (m (topAt p))
+    chain : CallChain T m p (m (depthAt p)) (m (frameAt p)) (m (worksAt p)) (m (statementAt p)) (m (topAt p))
     chain = R .process p some made .chain s
 
     module _ (a : ℕ) (fit : fits T a σ ≡ true) where

@@ -19,7 +19,7 @@ use Rattle.machine.specs.Rule.{isCreated, owns, lives}
 use Rattle.machine.proofs.Tests.{range-low, range-high}
 use Rattle.verdict.specs.Accepted.{Accepted}
 use Rattle.sound.specs.Claims.{PlaceLaws}
-use Rattle.sound.specs.Ruled.{Framed, Chained, bottom, called, Ruled}
+use Rattle.sound.specs.Ruled.{Framed, CallChain, bottom, called, Ruled}
 use Rattle.sound.proofs.Rule.RuleRecord.{block-there, block-kind}
 use Rattle.sound.proofs.Memory.Writes.{location-add, location-of}
 use Rattle.sound.proofs.Values.ModuleVariables.{module-fits}
@@ -95,7 +95,7 @@ module _ (T : Table) (ok : Accepted T) (L : PlaceLaws T) (m : Memory) (R : Ruled
         let v : holds T m τ (location p (f + 4 + (k - (f + 4)))) ≡ true = part-value T ok L q (F .there) m p (f + 4) τ (k - (f + 4)) (F .values) e in
         housed τ k (block-in T ok q (F .there) τ (k - (f + 4)) e .0) (omega arith) (rw z at v)
 
-    owned-housed : (d f w c top τ k : ℕ) → Chained T m p d f w c top → owns T m p d f τ k ≡ true → Housed T m τ (location p k)
+    owned-housed : (d f w c top τ k : ℕ) → CallChain T m p d f w c top → owns T m p d f τ k ≡ true → Housed T m τ (location p k)
     unfolding owns
     owned-housed _ f w c top τ k (bottom b) e = no-true e
     owned-housed _ f w c top τ k (called {d} F C) e =
@@ -105,7 +105,7 @@ module _ (T : Table) (ok : Accepted T) (L : PlaceLaws T) (m : Memory) (R : Ruled
 
   -- what lives is housed
   module _ (p : ℕ) (some : 1 ≤ p) (made : p ≤ m createdAt) where
-    pub lives-housed : (d f w c top τ a : ℕ) → Chained T m p d f w c top → lives T m p d f w τ a ≡ true → Housed T m τ a
+    pub lives-housed : (d f w c top τ a : ℕ) → CallChain T m p d f w c top → lives T m p d f w τ a ≡ true → Housed T m τ a
     unfolding isCreated
     lives-housed d f w c top τ a C e =
         either-case (both (between 1 (m createdAt) (a / 256 + 1)) (partOfBlock T (m (moduleAt (a / 256 + 1))) τ (a % 256))) (both (eqb (a / 256 + 1) p) (owns T m p d f τ (a % 256))) (lives-there T m p some made C τ a e)

@@ -14,7 +14,7 @@ use Rattle.numbers.proofs.TypePromise.{var-type}
 use Rattle.machine.specs.Memory.{Memory}
 use Rattle.machine.specs.Layout.{location, statusAt, moduleAt, statementAt, frameAt, topAt, worksAt, depthAt, createdAt, callerFrame, callerWorks, calledBlock}
 use Rattle.machine.specs.Outcomes.{ok, need, place, value}
-use Rattle.machine.specs.Variables.{varWords, offsetOf, belongs, known, fits}
+use Rattle.machine.specs.Variables.{varWords, offsetOf, belongs, typeExists, fits}
 use Rattle.machine.specs.Values.{partOfBlock}
 use Rattle.machine.specs.Context.{contextOf, blockOf}
 use Rattle.machine.specs.Operands.{placeAt, moduleVariable, frameVariable, wholePlace}
@@ -23,7 +23,7 @@ use Rattle.machine.proofs.Memories.{within-from, within-to}
 use Rattle.machine.proofs.Outcomes.{need-true}
 use Rattle.verdict.specs.Accepted.{Accepted}
 use Rattle.sound.specs.Claims.{PlaceLaws}
-use Rattle.sound.specs.Ruled.{Framed, Chained, Worked, bottom, called, Ruled, Standing}
+use Rattle.sound.specs.Ruled.{Framed, CallChain, Worked, bottom, called, Ruled, BlockOwned}
 use Rattle.sound.specs.Evaluated.{Live, GoodPlace, at-place, no-place}
 use Rattle.sound.proofs.Rule.RuleRecord.{block-there, block-kind, block-owner, block-bottom, block-called, stands}
 use Rattle.sound.proofs.Values.ModuleVariables.{module-plain, module-fits}
@@ -76,7 +76,7 @@ module _ (T : Table) (m : Memory) (p d f τ : ℕ) where
       (λ h. either-r _ _ (both-i _ _ (both-l _ _ h) (either-r (both (leb (f + 4) (a % 256)) (partOfBlock T (calledBlock m p f) τ (a % 256 - (f + 4)))) _ (both-r _ _ h))))
 
 module _ (T : Table) (acc : Accepted T) (L : PlaceLaws T) (m : Memory) (R : Ruled T m) (p : ℕ) (some : 1 ≤ p) (made : p ≤ m createdAt) (s : m (statusAt p) ≡ 2) where
-  chain : Chained T m p (m (depthAt p)) (m (frameAt p)) (m (worksAt p)) (m (statementAt p)) (m (topAt p))
+  chain : CallChain T m p (m (depthAt p)) (m (frameAt p)) (m (worksAt p)) (m (statementAt p)) (m (topAt p))
   chain = R .process p some made .chain s
 
   pub live : (τ a : ℕ) → lives T m p (m (depthAt p)) (m (frameAt p)) (m (worksAt p)) τ a ≡ true → Live T m p τ a
@@ -88,7 +88,7 @@ module _ (T : Table) (acc : Accepted T) (L : PlaceLaws T) (m : Memory) (R : Rule
   unfolding placeAt
   place-good τ a l = rw (need-true (fits T a τ) (ok (place a τ)) (l .inside)) (at-place a l)
 
-  works : Standing T m p
+  works : BlockOwned T m p
   works = stands T acc m p some made (R .process p some made) s
 
   need-place : (k τ a : ℕ) → k < 256 → Live T m p τ a → GoodPlace T m p τ (need (ltb k 256) (placeAt T a τ))
@@ -175,7 +175,7 @@ module _ (T : Table) (acc : Accepted T) (L : PlaceLaws T) (m : Memory) (R : Rule
       → GoodPlace T m p (varType T v) (frameVariable T m page (contextOf m p) (m (frameAt p) + 4 + offsetOf T (blockOf m p) v) (varMode T v) (varType T v))
   frame-good v page n e = go (m (depthAt p)) refl chain
     where
-      go : (d : ℕ) → m (depthAt p) ≡ d → Chained T m p d (m (frameAt p)) (m (worksAt p)) (m (statementAt p)) (m (topAt p))
+      go : (d : ℕ) → m (depthAt p) ≡ d → CallChain T m p d (m (frameAt p)) (m (worksAt p)) (m (statementAt p)) (m (topAt p))
           → GoodPlace T m p (varType T v) (frameVariable T m page (contextOf m p) (m (frameAt p) + 4 + offsetOf T (blockOf m p) v) (varMode T v) (varType T v))
       go zero z (bottom b) =
           let x = block-bottom m p z in
@@ -191,7 +191,7 @@ module _ (T : Table) (acc : Accepted T) (L : PlaceLaws T) (m : Memory) (R : Rule
   pub whole-good : (v : ℕ) (page : Memory) → v < varCount T → (belongs T (owner T (blockOf m p)) v ≡ false → belongs T (blockOf m p) v ≡ true) → GoodPlace T m p (varType T v) (wholePlace T m page (contextOf m p) v)
   unfolding wholePlace contextOf
   whole-good v page l h =
-      on-need (GoodPlace T m p (varType T v)) no-place (known T (varType T v)) _ (known-type T acc (varType T v) (var-type T (acc .numbers) v l))
+      on-need (GoodPlace T m p (varType T v)) no-place (typeExists T (varType T v)) _ (known-type T acc (varType T v) (var-type T (acc .numbers) v l))
       (cases (belongs T (owner T (blockOf m p)) v)
       (λ e. rw e (module-good v page e))
       (λ e. rw e (on-need (GoodPlace T m p (varType T v)) no-place (belongs T (blockOf m p) v) _ (h e) (frame-good v page e (h e)))))

@@ -14,7 +14,7 @@ use Rattle.basics.specs.Choice.{pick}
 use Rattle.basics.specs.Cases.{cases}
 use Rattle.basics.proofs.Bools.{no-true, both-l, both-r}
 use Rattle.basics.proofs.Courses.{course-is}
-use Rattle.words.specs.Numbers.{between}
+use Rattle.words.specs.Numbers.{betweenZ}
 use Rattle.words.specs.Types.{inType, transferW}
 use Rattle.words.specs.Operators.{ranged, addW, subW, negW, mulW, divW, modW}
 use Rattle.words.specs.Outcomes as words
@@ -27,7 +27,7 @@ use Rattle.machine.specs.Entries.{arrayType, typeAt, Unary, minus, not, val, no
 use Rattle.machine.specs.Entries.{Node, constant, whole, field, element, retrieve, unary, binary, transfer, string, noNode, nodeAt}
 use Rattle.machine.specs.Context.{Context}
 use Rattle.machine.specs.Variables.{belongs, offsetOf}
-use Rattle.machine.specs.Operands.{simple, truth, given, unaryValue, ordered, integral, logical, binaryValue, outside, placeAt, fieldPlace, elementPlace, moduleVariable, frameVariable, wholePlace, retrieved, nodeOperand, operandAt, operand}
+use Rattle.machine.specs.Operands.{oneWord, truth, given, unaryValue, ordered, integral, logical, binaryValue, outside, placeAt, fieldPlace, elementPlace, moduleVariable, frameVariable, wholePlace, retrieved, nodeOperand, operandAt, operand}
 use Rattle.machine.proofs.Outcomes.{g-test, g-need, g-where, g-pick, g-place, g-value, g-typed, g-word, g-record, g-array}
 use Rattle.sound.specs.Conditions.{OutOfRange, Exact, sum, difference, product, quotient, remainder, Divides, byDivide, byModulus, Yields, Gives, aValue, aText, NodeFails, result, inverted, divisor, index, device, transferred, unset, inRecord, inArray, inIndex, inVariable, inUnary, inTransfer, inLeft, inRight}
 use Rattle.sound.proofs.Rows.OutcomeOrStuck.{Near, same, lost, n-need, n-where, n-place-fails, n-place, n-value-fails, n-value, n-typed-fails, n-numbered, n-text, n-word-fails, n-word, n-array}
@@ -57,8 +57,8 @@ not-false : (b : Bool) → b ≡ false → bool.not b ≡ true
 not-false b e = rw e
 
 module _ (F : ℕ → Type 0) where
-  met-simple : (τ w : ℕ) → Met F (simple τ w)
-  unfolding simple
+  met-simple : (τ w : ℕ) → Met F (oneWord τ w)
+  unfolding oneWord
   met-simple τ w = is-ok
 
   met-truth : (b : Bool) → Met F (truth b)
@@ -73,7 +73,7 @@ module _ (F : ℕ → Type 0) where
 
   met-ranged : (τ : ℕ) (z : ℤ) → (OutOfRange z → F 16) → Met F (given τ (ranged z))
   unfolding ranged
-  met-ranged τ z h = met-tested τ (between (negsuc 32767) (pos 32767) z) _ 16 h
+  met-ranged τ z h = met-tested τ (betweenZ (negsuc 32767) (pos 32767) z) _ 16 h
 
   -- with a divisor
   met-divided : (τ v : ℕ) (z : ℤ) → (v ≡ 0 → F 17) → ((v ≡ 0 → ⊥) → OutOfRange z → F 16) → Met F (given τ (pick (eqb v 0) (words.fail 17) (ranged z)))
@@ -84,7 +84,7 @@ module _ (F : ℕ → Type 0) where
   unfolding placeAt
   met-place T a τ = g-need (Met F) is-stuck _ _ is-ok
 
-  met-integral : (τ σ : ℕ) (o : words.Outcome) → (τ ≡ 0 → σ ≡ 0 → Met F (given 0 o)) → Met F (integral τ σ o)
+  met-integral : (τ σ : ℕ) (o : words.WordOutcome) → (τ ≡ 0 → σ ≡ 0 → Met F (given 0 o)) → Met F (integral τ σ o)
   unfolding integral
   met-integral τ σ o h = g-test (Met F) is-stuck _ _ (λ e. h (eqb-true τ 0 (both-l _ _ e)) (eqb-true σ 0 (both-r _ _ e)))
 
@@ -245,7 +245,7 @@ module _ (T : Table) (m page : Memory) (x : Context) where
 
   -- ---- a rule that holds says how the evaluation fails, where it is not stuck
 
-  integral-near : (τ σ n : ℕ) (o : words.Outcome) → o ≡ words.fail n → Near (fail n) (integral τ σ o)
+  integral-near : (τ σ n : ℕ) (o : words.WordOutcome) → o ≡ words.fail n → Near (fail n) (integral τ σ o)
   unfolding integral given
   integral-near τ σ n o e = n-need (fail n) _ _ (rw e (same refl))
 

@@ -8,7 +8,7 @@ use lib.Dec.{eqb}
 use Rattle.basics.specs.Choice.{pick}
 use Rattle.basics.proofs.Bools.{no-true}
 use Rattle.types.specs.Types.{NodeType, numbered, string}
-use Rattle.machine.specs.Outcomes.{Outcome, ok, fail, stuck, andThen, need, failWhere, Operand, place, value, text, placed, valued, typed, onPlace, onValue, onTyped, wordOf, onWord}
+use Rattle.machine.specs.Outcomes.{Outcome, ok, fail, stuck, andThen, need, failWhere, Operand, place, value, text, placed, valued, typedWords, onPlace, onValue, onTyped, wordOf, onWord}
 use Rattle.machine.specs.Entries.{TypeEntry, arrayType}
 use Rattle.machine.specs.Operands.{onArray}
 
@@ -68,11 +68,11 @@ module _ {B : Type 0} (R : Outcome B) where
   n-typed-fails f o k e h = n-fails R f o _ e h
 
   pub n-numbered : (τ : ℕ) (ws : List ℕ) (o : Outcome Operand) (k : NodeType → List ℕ → Outcome B) → Near (ok (value τ ws)) o → Near R (k (numbered τ) ws) → Near R (onTyped o k)
-  unfolding onTyped typed
+  unfolding onTyped typedWords
   n-numbered τ ws o k h n = n-then R (value τ ws) o _ h n
 
   pub n-text : (ws : List ℕ) (o : Outcome Operand) (k : NodeType → List ℕ → Outcome B) → Near (ok (text ws)) o → Near R (k (string (length ws)) ws) → Near R (onTyped o k)
-  unfolding onTyped typed
+  unfolding onTyped typedWords
   n-text ws o k h n = n-then R (text ws) o _ h n
 
   pub n-word-fails : (f : ℕ) (o : Outcome Operand) (τ : ℕ) (k : ℕ → Outcome B) → R ≡ fail f → Near (fail f) o → Near R (onWord o τ k)

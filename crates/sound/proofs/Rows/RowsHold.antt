@@ -16,10 +16,10 @@ use Rattle.machine.specs.Outcomes.{Outcome, ok, fail, stuck, need, isFailure}
 use Rattle.machine.specs.Entries.{Statement, opener, processCall}
 use Rattle.machine.specs.Context.{contextOf}
 use Rattle.machine.specs.Statements.{Effect, effect, perform}
-use Rattle.machine.specs.Step.{Step, done, settled, answers, performs, proceeds, exists, turn, step}
+use Rattle.machine.specs.Step.{Step, done, settled, answersOnly, performs, proceeds, exists, turn, step}
 use Rattle.machine.proofs.Outcomes.{g-need}
 use Rattle.sound.specs.InUse.{Created}
-use Rattle.sound.specs.Rows.{next, Ready, Waiting, unstarted, held, waiting, Ended, before, now, Absent, Failing, CarriedOut, Row, row0, row1, row2, row3, row16, Blocked, atGuards, Changes, failureMark, nothing, givesUp, endedBefore, endsNow, absent, carried, Answers, RowsHold, SameFailure}
+use Rattle.sound.specs.Rows.{next, CanStep, Waiting, unstarted, held, waiting, Ended, before, now, Absent, Failing, CarriedOut, Row, row0, row1, row2, row3, row16, Blocked, atGuards, Changes, failureMark, nothing, givesUp, endedBefore, endsNow, absent, carried, Answers, RowsHold, SameFailure}
 use Rattle.sound.proofs.Rows.OutcomeOrStuck.{Near, same, n-need, n-pick-true, n-pick-false, near-is}
 use Rattle.sound.proofs.Rows.StatementRules.{Leaves, gives, keeps, Reports, went, waited, ended, failed, strays, reports, statement-near, carries-near, Replies, waits-near, ends-near}
 use Rattle.sound.proofs.Rule.RuleRecord.{created-in, in-created}
@@ -62,12 +62,12 @@ module _ (T : Table) (m page : Memory) (p : ℕ) where
       go (inl e) = a e
       go (inr e) = b e
 
-  leaves-changes : Ready T m page p → (S : Statement) (s : Memory) → next T m page p ≡ S → Leaves T m page (contextOf m p) S s → Changes T m page p 1 s page
+  leaves-changes : CanStep T m page p → (S : Statement) (s : Memory) → next T m page p ≡ S → Leaves T m page (contextOf m p) S s → Changes T m page p 1 s page
   unfolding contextOf
   leaves-changes r _ _ e (gives w g) = givesUp (atGuards r e w g)
   leaves-changes r _ _ e keeps = nothing (not-blocked-call _ _ _ _ e)
 
-  stepped-reports : Ready T m page p → (o : Outcome Effect) → Reports T m page (contextOf m p) (next T m page p) o → Stepped o
+  stepped-reports : CanStep T m page p → (o : Outcome Effect) → Reports T m page (contextOf m p) (next T m page p) o → Stepped o
   unfolding contextOf
   stepped-reports r _ (went h) = going (record { ready = r; carries = h })
   stepped-reports r _ (waited w l) = stays (waiting r w) (leaves-changes r _ _ refl l)
@@ -75,12 +75,12 @@ module _ (T : Table) (m page : Memory) (p : ℕ) where
   stepped-reports r _ (failed h) = fails (record { ready = r; fails = h })
   stepped-reports r _ strays = astray
 
-  performs-view : Ready T m page p → Stepped (performs T m page p)
+  performs-view : CanStep T m page p → Stepped (performs T m page p)
   unfolding performs
   performs-view r = g-need Stepped astray _ _ (stepped-reports r _ (reports T m page (contextOf m p) (next T m page p)))
 
   proceeds-view : Created m p → m (statusAt p) ≡ 2 → Stepped (proceeds T m page p)
-  unfolding proceeds answers
+  unfolding proceeds answersOnly
   proceeds-view c s =
       g-need Stepped astray _ _
       (cases (either (eqb (m (holderAt (m (worksAt p)))) 0) (eqb (m (holderAt (m (worksAt p)))) p))
@@ -92,7 +92,7 @@ module _ (T : Table) (m page : Memory) (p : ℕ) where
       free (inr h) = inr (eqb-true _ p h)
 
   exists-view : Created m p → Stepped (exists T m page p)
-  unfolding exists answers need
+  unfolding exists answersOnly need
   exists-view c =
       cases (eqb (m (statusAt p)) 3)
       (λ e. rw e (over (before c (eqb-true _ 3 e)) (endedBefore c (eqb-true _ 3 e))))
@@ -103,7 +103,7 @@ module _ (T : Table) (m page : Memory) (p : ℕ) where
       (λ k. rw k astray)))))
 
   turn-view : m failureAt ≡ 0 → Stepped (turn T m page p)
-  unfolding turn answers
+  unfolding turn answersOnly
   turn-view z =
       rw (eq-eqb _ 0 z) (g-need Stepped astray _ _
       (cases (between 1 (m createdAt) p)
@@ -117,7 +117,7 @@ module _ (T : Table) (m page : Memory) (p : ℕ) where
   near-turn z c h = rw (eq-eqb _ 0 z) (n-need _ _ _ (rw (created-in m p c) h))
 
   near-absent : m failureAt ≡ 0 → Absent T m page p → Near (ok (effect 3 m page)) (turn T m page p)
-  unfolding turn answers
+  unfolding turn answersOnly
   near-absent z a =
       rw (eq-eqb _ 0 z) (n-need _ _ _
       (cases (between 1 (m createdAt) p) (λ e. absurd (a .none (in-created m p e))) (λ e. rw e (same refl))))
@@ -126,7 +126,7 @@ module _ (T : Table) (m page : Memory) (p : ℕ) where
   unfolding exists need
   near-proceeds s h = rw s h
 
-  near-performs : {R : Outcome Effect} → Ready T m page p → Near R (perform T m page (contextOf m p) (next T m page p)) → Near R (exists T m page p)
+  near-performs : {R : Outcome Effect} → CanStep T m page p → Near R (perform T m page (contextOf m p) (next T m page p)) → Near R (exists T m page p)
   unfolding proceeds performs
   near-performs r h = near-proceeds (r .started) (n-need _ _ _ (n-pick-true _ _ _ _ (free (r .free)) (n-need _ _ _ h)))
     where
@@ -136,7 +136,7 @@ module _ (T : Table) (m page : Memory) (p : ℕ) where
 
   module _ (z : m failureAt ≡ 0) where
     near-waits : Waiting T m page p → Replies T m page (contextOf m p) 1 (turn T m page p)
-    unfolding exists answers proceeds
+    unfolding exists answersOnly proceeds
     near-waits (unstarted c e) = record { state = m; near = near-turn z c (rw e (same refl)) }
     near-waits (held c s n q) =
         record { state = m; near = near-turn z c (near-proceeds s (n-need _ _ _ (n-pick-false _ _ _ _ (either-both-false _ _ (ne-eqb _ 0 n) (ne-eqb _ p q)) (same refl)))) }
@@ -145,7 +145,7 @@ module _ (T : Table) (m page : Memory) (p : ℕ) where
         record { state = g .state; near = near-turn z (r .exists) (near-performs r (g .near)) }
 
     near-ends : Ended T m page p → Replies T m page (contextOf m p) 2 (turn T m page p)
-    unfolding exists answers
+    unfolding exists answersOnly
     near-ends (before c e) = record { state = m; near = near-turn z c (rw e (same refl)) }
     near-ends (now r w) =
         let g = ends-near T m page (contextOf m p) _ w in
@@ -249,7 +249,7 @@ module _ (T : Table) (m page : Memory) (p : ℕ) where
 
   -- AFTER A FAILURE every step answers the same number and changes nothing
   pub same-failure : (m failureAt ≡ 0 → ⊥) → (step T m page p ≡ Step.stuck → ⊥) → SameFailure T m page p
-  unfolding step settled turn answers need
+  unfolding step settled turn answersOnly need
   same-failure n free =
       cases (isFailure (m failureAt))
       (λ e. rw (ne-eqb _ 0 n, e))

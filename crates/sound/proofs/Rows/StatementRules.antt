@@ -26,10 +26,10 @@ use Rattle.machine.specs.Space.{spaceFull}
 use Rattle.machine.specs.Operands.{operand}
 use Rattle.machine.specs.Calls.{passed, valueArgument, varArgument, argument, argumentWords, arguments, topAfter, pushed, frameMarked, call, returns, return}
 use Rattle.machine.specs.Processes.{onModule, onProcess, onReference}
-use Rattle.machine.specs.Statements.{Effect, effect, onArms, onOpener, Choice, enters, skips, endOf, goTo, goOn, wait, moved, doAssign, doLocalCall, free, doProcessCall, doCreate, doStart, choose, chosen, doOpener, doEnd, doWrite, doBlockEnd, perform}
+use Rattle.machine.specs.Statements.{Effect, effect, onArms, onOpener, Choice, enters, skips, endOf, goTo, goOn, wait, moved, doAssign, doLocalCall, canServe, doProcessCall, doCreate, doStart, choose, chosen, doOpener, doEnd, doWrite, doBlockEnd, perform}
 use Rattle.machine.proofs.Outcomes.{g-test, g-need, g-where, g-place, g-word, g-module}
 use Rattle.sound.specs.Conditions.{Selects, Yields, NodeFails, ArgumentsFail, thisArgument, laterArgument, GuardsFail, thisGuard, laterGuard, GuardsFalse, none, more, AreaFull, SpaceFull, Refers, Empty, Serves, StatementFails, target, source, localArgument, localSpace, localArea, callee, calleeUnset, calleeEmpty, callArgument, callArea, createe, limit, startee, starteeUnset, starteeEmpty, startedTwice, startArgument, guard, address, datum, location, StatementWaits, blocked, busy, StatementEnds, ownBlock}
-use Rattle.sound.specs.Carried.{Inside, nextArm, lastEnd, LeadsTo, theEnd, pastArm, Passes, noMore, byValue, byFit, byVariable, Passed, FirstTrue, thisArm, laterArm, Carries, assigns, callsLocal, callsProcess, creates, starts, passes, leaves, again, writes, returnsLocal, returnsProcess}
+use Rattle.sound.specs.Carried.{Inside, nextArm, lastEnd, LeadsTo, theEnd, pastArm, Passes, noMore, byValue, byFit, byVariable, ArgumentsPass, FirstTrue, thisArm, laterArm, Carries, assigns, callsLocal, callsProcess, creates, starts, passes, leaves, again, writes, returnsLocal, returnsProcess}
 use Rattle.sound.proofs.Rows.OutcomeOrStuck.{Near, same, lost, n-fails, n-then, n-need, n-pass, n-where, n-place-fails, n-place, n-typed-fails, n-word-fails, n-word, n-pick-true, n-pick-false}
 use Rattle.sound.proofs.Rows.NodeFailures.{g-gives, n-gives, node-fails, fails-near}
 
@@ -132,12 +132,12 @@ module _ (T : Table) (m page : Memory) (x : Context) where
       (λ us e p. g-got (Got _ _) is-stuck _ _ _ _ (words-got k (v + 1) (i + 1)) (λ f h. is-fail (laterArgument e h)) (λ ws q h. is-ok (p k ws h)))
 
   -- the arguments are passed, or one fails
-  arguments-got : (b c d : ℕ) → Got (Passed T m page x b c d) (λ f. ArgumentsFail T m page x f d (firstVar T b) c) (arguments T m page x b c d)
+  arguments-got : (b c d : ℕ) → Got (ArgumentsPass T m page x b c d) (λ f. ArgumentsFail T m page x f d (firstVar T b) c) (arguments T m page x b c d)
   unfolding arguments
   arguments-got b c d = g-test (Got _ _) is-stuck _ _ (λ e. go (eqb-true _ _ e) _ (words-got d (firstVar T b) c))
     where
       go : d ≡ params T b → (o : Outcome (List ℕ)) → Got (Passes T m page x d (firstVar T b) c) (λ f. ArgumentsFail T m page x f d (firstVar T b) c) o
-          → Got (Passed T m page x b c d) (λ f. ArgumentsFail T m page x f d (firstVar T b) c) o
+          → Got (ArgumentsPass T m page x b c d) (λ f. ArgumentsFail T m page x f d (firstVar T b) c) o
       go e _ (is-ok h) = is-ok (record { each = e; words = h })
       go e _ (is-fail h) = is-fail h
       go e _ is-stuck = is-stuck
@@ -177,7 +177,7 @@ module _ (T : Table) (m page : Memory) (x : Context) where
       (n-need _ _ _ (rw e (n-need _ _ _ (n-place _ a _ (operand T m page x (argNode T i)) _ (same y) (n-need _ _ _ (same refl))))))
       (n-then _ ws (argumentWords T m page x k (v + 1) (i + 1)) _ (passes-near k (v + 1) (i + 1) ws p) (same refl))
 
-  passed-near : (b c d : ℕ) (ws : List ℕ) → Passed T m page x b c d ws → Near (ok ws) (arguments T m page x b c d)
+  passed-near : (b c d : ℕ) (ws : List ℕ) → ArgumentsPass T m page x b c d ws → Near (ok ws) (arguments T m page x b c d)
   unfolding arguments
   passed-near b c d ws h = n-need _ _ _ (passes-near d (firstVar T b) c ws (h .words))
 
@@ -299,15 +299,15 @@ module _ (T : Table) (m page : Memory) (x : Context) where
   returns-reports n noStatement e = strays
 
   -- a process that cannot serve is unstarted or held
-  not-free : (r : ℕ) → free m r ≡ false → (m (statusAt r) ≡ 1) ⊎ (m (holderAt r) ≡ 0 → ⊥)
-  unfolding free both
+  not-free : (r : ℕ) → canServe m r ≡ false → (m (statusAt r) ≡ 1) ⊎ (m (holderAt r) ≡ 0 → ⊥)
+  unfolding canServe both
   not-free r e =
       cases (eqb (m (statusAt r)) 1)
       (λ h. inl (eqb-true _ 1 h))
       (λ h. inr (eqb-false _ 0 (rw h at e)))
 
-  serves : (r : ℕ) → free m r ≡ true → Serves T m page x r
-  unfolding free
+  serves : (r : ℕ) → canServe m r ≡ true → Serves T m page x r
+  unfolding canServe
   serves r e = record {
     started = λ h. no-true (sym (ap (λ (n : ℕ). not (eqb n 1)) h) ∙ both-l _ _ e);
     unheld = eqb-true _ 0 (both-r _ _ e);
@@ -358,7 +358,7 @@ module _ (T : Table) (m page : Memory) (x : Context) where
       g-place (Reports _) strays (operand T m page x a) _ (λ f e. failed (callee (node-fails T m page x a f e)))
       (λ i τ y. g-module (Reports _) strays (typeAt T τ) _ (λ μ t. g-test (Reports _) strays _ _ (λ o.
       reference-reports _ i μ _ (λ z. calleeUnset y z) (λ z. calleeEmpty y z)
-      (λ z. cases (free m (m i))
+      (λ z. cases (canServe m (m i))
       (λ e. rw e (g-got (Reports _) strays _ _ _ _ (arguments-got q c d) (λ f h. failed (callArgument y z (serves (m i) e) h))
       (λ ws u p. call-reports _ _ q (m i) ws (λ h. callArea y z (serves (m i) e) u h)
       (λ n. callsProcess y (t ∙ ap processType (sym (eqb-true _ μ (both-r _ _ o)))) z (serves (m i) e) p n))))
@@ -435,12 +435,12 @@ module _ (T : Table) (m page : Memory) (x : Context) where
 
   -- ---- a rule that holds says what the statement comes to, where it is not stuck
 
-  serves-free : (r : ℕ) → Serves T m page x r → free m r ≡ true
-  unfolding free
+  serves-free : (r : ℕ) → Serves T m page x r → canServe m r ≡ true
+  unfolding canServe
   serves-free r h = both-i _ _ (rw (ne-eqb _ 1 (h .started))) (eq-eqb _ 0 (h .unheld))
 
-  busy-free : (r : ℕ) → (m (statusAt r) ≡ 1) ⊎ (m (holderAt r) ≡ 0 → ⊥) → free m r ≡ false
-  unfolding free
+  busy-free : (r : ℕ) → (m (statusAt r) ≡ 1) ⊎ (m (holderAt r) ≡ 0 → ⊥) → canServe m r ≡ false
+  unfolding canServe
   busy-free r (inl e) = both-false-l _ _ (rw (eq-eqb _ 1 e))
   busy-free r (inr n) = both-false-r _ _ (ne-eqb _ 0 n)
 

@@ -17,13 +17,13 @@ use Rattle.machine.specs.Values.{holds}
 use Rattle.machine.specs.Rule.{isCreated}
 use Rattle.machine.proofs.Tests.{range-low, range-high, range-i}
 use Rattle.sound.specs.Claims.{Keeps, PlaceLaws}
-use Rattle.sound.specs.Ruled.{Bottom, Framed, Chained, bottom, called, Carries}
+use Rattle.sound.specs.Ruled.{Bottom, Framed, CallChain, bottom, called, ProcessesStay}
 use Rattle.sound.proofs.Memory.Writes.{location-add}
 use Rattle.sound.proofs.Values.BlockVariables.{variable-in, words-value, words-var}
 use Rattle.sound.proofs.Rule.WorkedProcesses.{Alike, alike-none, alike-more, lives-alike, works-by-same}
 
 -- references stay references
-pub carries-keeps : (m n : Memory) → Carries m n → Keeps m n
+pub carries-keeps : (m n : Memory) → ProcessesStay m n → Keeps m n
 unfolding refers
 carries-keeps m n c =
     record {
@@ -34,7 +34,7 @@ carries-keeps m n c =
           both-i _ _ (both-i _ _ (le-leb 2 r l) (le-leb r (n createdAt) (omega arith))) (rw (c .modules r (omega arith) h) (both-r _ _ e));
     }
 
-pub same-carries : (m : Memory) → Carries m m
+pub same-carries : (m : Memory) → ProcessesStay m m
 same-carries m = record { grows = omega arith; modules = λ q l g. refl; begun = λ q l g n. n }
 
 pub created-low : (m : Memory) (p : ℕ) → isCreated m p ≡ true → 1 ≤ p
@@ -50,16 +50,16 @@ unfolding isCreated
 created-i m p l h = range-i 1 (m createdAt) p l h
 
 -- the frames lie above the module's variables
-pub chain-over : (T : Table) (m : Memory) (p : ℕ) {d f w c top : ℕ} → Chained T m p d f w c top → moduleWords T (m (moduleAt p)) ≤ top
+pub chain-over : (T : Table) (m : Memory) (p : ℕ) {d f w c top : ℕ} → CallChain T m p d f w c top → moduleWords T (m (moduleAt p)) ≤ top
 chain-over T m p (bottom b) = let e = b .ends in omega arith
 chain-over T m p (called k r) = let x = chain-over T m p r in let e = k .ends in omega arith
 
 -- one more call, by the links of its frame
-pub called-by : (T : Table) (m : Memory) (p : ℕ) {d f w c top q g x s : ℕ} → m (linkAt p f 0) ≡ g → m (linkAt p f 1) ≡ s → m (linkAt p f 2) ≡ x → m (linkAt p f 3) ≡ q → Framed T m p d f w c top q → Chained T m p d g x s f → Chained T m p (suc d) f w c top
+pub called-by : (T : Table) (m : Memory) (p : ℕ) {d f w c top q g x s : ℕ} → m (linkAt p f 0) ≡ g → m (linkAt p f 1) ≡ s → m (linkAt p f 2) ≡ x → m (linkAt p f 3) ≡ q → Framed T m p d f w c top q → CallChain T m p d g x s f → CallChain T m p (suc d) f w c top
 called-by T m p {d = d} {f = f} {w = w} {c = c} {top = top} e0 e1 e2 e3 r k =
     called {d = d} {f = f} {w = w} {c = c} {top = top} (rw e3 r) (rw (e0, e1, e2) k)
 
-module _ (T : Table) (m n : Memory) (cs : Carries m n) (p : ℕ) where
+module _ (T : Table) (m n : Memory) (cs : ProcessesStay m n) (p : ℕ) where
   -- the words of the area of p from base on below top are the same
   unfoldable pub Same : ℕ → ℕ → Type 0
   Same base top = (j : ℕ) → base ≤ j → j < top → n (location p j) ≡ m (location p j)
@@ -72,7 +72,7 @@ module _ (T : Table) (m n : Memory) (cs : Carries m n) (p : ℕ) where
   unfolding Same
   same-below base top f h l j a b = h j a (omega arith)
 
-  pub alike-same : {d f w c top : ℕ} → Chained T m p d f w c top → Same (moduleWords T (m (moduleAt p))) top → Alike T m n p d f w
+  pub alike-same : {d f w c top : ℕ} → CallChain T m p d f w c top → Same (moduleWords T (m (moduleAt p))) top → Alike T m n p d f w
   alike-same {f = f} {w = w} (bottom b) s = alike-none T m n p f w
   alike-same {d = suc d} {f = f} {w = w} {top = top} (called q r) s =
       let x = chain-over T m p r in
@@ -84,7 +84,7 @@ module _ (T : Table) (m n : Memory) (cs : Carries m n) (p : ℕ) where
       (alike-same r (same-below (moduleWords T (m (moduleAt p))) top f s (omega arith)))
 
   -- a frame whose links and bound locations stay, and whose values are values
-  module _ (some : 1 ≤ p) (made : p ≤ m createdAt) {d f w c top q : ℕ} (r : Framed T m p d f w c top q) (k : Chained T m p d (callerFrame m p f) (callerWorks m p f) (callStatement m p f) f) where
+  module _ (some : 1 ≤ p) (made : p ≤ m createdAt) {d f w c top q : ℕ} (r : Framed T m p d f w c top q) (k : CallChain T m p d (callerFrame m p f) (callerWorks m p f) (callStatement m p f) f) where
     pub frame-new :
         n (linkAt p f 0) ≡ m (linkAt p f 0)
         → n (linkAt p f 1) ≡ m (linkAt p f 1)
@@ -113,12 +113,12 @@ module _ (T : Table) (m n : Memory) (cs : Carries m n) (p : ℕ) where
         }
 
 -- THE CHAIN stays where its words, the processes and their modules stay
-module _ (T : Table) (L : PlaceLaws T) (m n : Memory) (cs : Carries m n) (p : ℕ) (some : 1 ≤ p) (made : p ≤ m createdAt) where
+module _ (T : Table) (L : PlaceLaws T) (m n : Memory) (cs : ProcessesStay m n) (p : ℕ) (some : 1 ≤ p) (made : p ≤ m createdAt) where
   -- a value stays where its words stay
   pub value-same : (τ j : ℕ) → ((k : ℕ) → k < wordsOf T τ → n (location p (j + k)) ≡ m (location p (j + k))) → holds T m τ (location p j) ≡ true → holds T n τ (location p j) ≡ true
   value-same τ j h e = L .holds-same m n τ (location p j) (carries-keeps m n cs) (λ k l. rw (location-add p j k) (h k l)) e
 
-  pub frame-same : {d f w c top q : ℕ} → Framed T m p d f w c top q → Chained T m p d (callerFrame m p f) (callerWorks m p f) (callStatement m p f) f → Same T m n cs p (moduleWords T (m (moduleAt p))) top → Framed T n p d f w c top q
+  pub frame-same : {d f w c top q : ℕ} → Framed T m p d f w c top q → CallChain T m p d (callerFrame m p f) (callerWorks m p f) (callStatement m p f) f → Same T m n cs p (moduleWords T (m (moduleAt p))) top → Framed T n p d f w c top q
   unfolding Same
   frame-same {f = f} {top = top} {q = q} r k s =
       let x = chain-over T m p k in
@@ -136,7 +136,7 @@ module _ (T : Table) (L : PlaceLaws T) (m n : Memory) (cs : Carries m n) (p : �
       let e = cs .modules p some made in
       record { no-frame = b .no-frame; own = b .own; ends = rw e (b .ends); from = rw e (b .from); to = rw e (b .to) }
 
-  pub chain-same : {d f w c top : ℕ} → Chained T m p d f w c top → Same T m n cs p (moduleWords T (m (moduleAt p))) top → Chained T n p d f w c top
+  pub chain-same : {d f w c top : ℕ} → CallChain T m p d f w c top → Same T m n cs p (moduleWords T (m (moduleAt p))) top → CallChain T n p d f w c top
   chain-same (bottom b) s = bottom (bottom-same b)
   chain-same {f = f} {top = top} (called r k) s =
       let x = chain-over T m p k in

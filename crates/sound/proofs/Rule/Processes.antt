@@ -15,7 +15,7 @@ use Rattle.machine.specs.Rule.{worked}
 use Rattle.verdict.specs.Accepted.{Accepted}
 use Rattle.sound.specs.Claims.{PlaceLaws}
 use Rattle.sound.specs.InUse.{Created}
-use Rattle.sound.specs.Ruled.{Chained, bottom, called, Held, Worked, Process, Carries}
+use Rattle.sound.specs.Ruled.{CallChain, bottom, called, Held, Worked, Process, ProcessesStay}
 use Rattle.sound.proofs.Rule.RuleRecord.{block-there, block-kind}
 use Rattle.sound.proofs.Values.ModuleVariables.{module-plain, module-variables}
 use Rattle.sound.proofs.Rule.Chains.{Same, value-same, chain-same, alike-same}
@@ -23,7 +23,7 @@ use Rattle.sound.proofs.Values.BlockVariables.{variable-in, words-value
 use Rattle.sound.proofs.Rule.WorkedProcesses.{Alike, worked-created, held-same}
 
 -- a chain ends within the area
-pub chain-fits : (T : Table) (m : Memory) (p : ℕ) {d f w c top : ℕ} → moduleWords T (m (moduleAt p)) ≤ 256 → Chained T m p d f w c top → top ≤ 256
+pub chain-fits : (T : Table) (m : Memory) (p : ℕ) {d f w c top : ℕ} → moduleWords T (m (moduleAt p)) ≤ 256 → CallChain T m p d f w c top → top ≤ 256
 chain-fits T m p l (bottom b) = let e = b .ends in omega arith
 chain-fits T m p l (called k r) = k .fits
 
@@ -33,7 +33,7 @@ module _ (T : Table) (m n : Memory) (p : ℕ) (r : Process T m p) where
       → (1 ≤ n (statusAt p)) → (n (statusAt p) ≤ 3) → (p ≡ 1 → 2 ≤ n (statusAt p))
       → n (holderAt p) ≤ n createdAt
       → ((i : ℕ) → i < vars T (m (moduleAt p)) → holds T n (varType T (firstVar T (m (moduleAt p)) + i)) (location p (offsetOf T (m (moduleAt p)) (firstVar T (m (moduleAt p)) + i))) ≡ true)
-      → (n (statusAt p) ≡ 2 → Chained T n p (n (depthAt p)) (n (frameAt p)) (n (worksAt p)) (n (statementAt p)) (n (topAt p)))
+      → (n (statusAt p) ≡ 2 → CallChain T n p (n (depthAt p)) (n (frameAt p)) (n (worksAt p)) (n (statementAt p)) (n (topAt p)))
       → (n (statusAt p) ≡ 2 → (x : ℕ) → Worked T n p x → Held T n p x)
       → Process T n p
   process-by e l h f g v k o =
@@ -51,10 +51,10 @@ module _ (T : Table) (m n : Memory) (p : ℕ) (r : Process T m p) where
       }
 
   -- its record stays
-  module _ (same : (i : ℕ) → i < 8 → n (recordAt p i) ≡ m (recordAt p i)) (cs : Carries m n) where
+  module _ (same : (i : ℕ) → i < 8 → n (recordAt p i) ≡ m (recordAt p i)) (cs : ProcessesStay m n) where
     pub process-keeps :
         ((i : ℕ) → i < vars T (m (moduleAt p)) → holds T n (varType T (firstVar T (m (moduleAt p)) + i)) (location p (offsetOf T (m (moduleAt p)) (firstVar T (m (moduleAt p)) + i))) ≡ true)
-        → (m (statusAt p) ≡ 2 → Chained T n p (m (depthAt p)) (m (frameAt p)) (m (worksAt p)) (m (statementAt p)) (m (topAt p)))
+        → (m (statusAt p) ≡ 2 → CallChain T n p (m (depthAt p)) (m (frameAt p)) (m (worksAt p)) (m (statementAt p)) (m (topAt p)))
         → (m (statusAt p) ≡ 2 → (x : ℕ) → worked n p (m (depthAt p)) (m (frameAt p)) (m (worksAt p)) x ≡ true → Held T n p x)
         → Process T n p
     process-keeps v k o =
@@ -68,7 +68,7 @@ module _ (T : Table) (m n : Memory) (p : ℕ) (r : Process T m p) where
         (λ x. rw (same 7 (omega arith), same 3 (omega arith), same 5 (omega arith), same 2 (omega arith), same 4 (omega arith)) (k (sym e0 ∙ x)))
         (λ x. rw (same 7 (omega arith), same 3 (omega arith), same 5 (omega arith)) (o (sym e0 ∙ x)))
 
-module _ (T : Table) (ok : Accepted T) (L : PlaceLaws T) (m n : Memory) (cs : Carries m n) (p : ℕ) (some : 1 ≤ p) (made : p ≤ m createdAt) (r : Process T m p) where
+module _ (T : Table) (ok : Accepted T) (L : PlaceLaws T) (m n : Memory) (cs : ProcessesStay m n) (p : ℕ) (some : 1 ≤ p) (made : p ≤ m createdAt) (r : Process T m p) where
   pub base-fits : moduleWords T (m (moduleAt p)) ≤ 256
   base-fits = module-most T (ok .sizes) (m (moduleAt p)) (block-there T ok m p r) (block-kind T ok m p r)
 
@@ -87,12 +87,12 @@ module _ (T : Table) (ok : Accepted T) (L : PlaceLaws T) (m n : Memory) (cs : Ca
 
   -- its chain stays where the words above its module's variables stay
   pub chain-stays : ((j : ℕ) → moduleWords T (m (moduleAt p)) ≤ j → j < 256 → n (location p j) ≡ m (location p j))
-      → {d f w c top : ℕ} → Chained T m p d f w c top → Chained T n p d f w c top
+      → {d f w c top : ℕ} → CallChain T m p d f w c top → CallChain T n p d f w c top
   unfolding Same
   chain-stays h k = let x = chain-fits T m p base-fits k in chain-same T L m n cs p some made k (λ j a b. h j a (omega arith))
 
   pub alike-stays : ((j : ℕ) → moduleWords T (m (moduleAt p)) ≤ j → j < 256 → n (location p j) ≡ m (location p j))
-      → {d f w c top : ℕ} → Chained T m p d f w c top → Alike T m n p d f w
+      → {d f w c top : ℕ} → CallChain T m p d f w c top → Alike T m n p d f w
   unfolding Same
   alike-stays h k = let x = chain-fits T m p base-fits k in alike-same T m n cs p k (λ j a b. h j a (omega arith))
 

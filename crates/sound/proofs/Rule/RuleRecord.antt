@@ -24,7 +24,7 @@ use Rattle.machine.specs.Outcomes.{isFailure}
 pub use Rattle.machine.proofs.Tests.{range-low, range-high, range-i}
 use Rattle.verdict.specs.Accepted.{Accepted}
 use Rattle.sound.specs.InUse.{Created}
-use Rattle.sound.specs.Ruled.{Bottom, Framed, Chained, bottom, called, Held, held, given, Process, Ruled, Standing}
+use Rattle.sound.specs.Ruled.{Bottom, Framed, CallChain, bottom, called, Held, held, given, Process, Ruled, BlockOwned}
 
 module _ (m : Memory) (p : ℕ) where
   pub created-in : Created m p → between 1 (m createdAt) p ≡ true
@@ -150,7 +150,7 @@ module _ (T : Table) where
     holds-on p r (given e w) = either-r (eqb (m (holderAt r)) p) _ (both-i _ _ (eq-eqb r (m (worksAt p)) e) w)
 
     -- the chain as a family, with what is held, and back
-    pub chained : (p d f w c top : ℕ) → chain T m p d f w c top ≡ true → Chained T m p d f w c top
+    pub chained : (p d f w c top : ℕ) → chain T m p d f w c top ≡ true → CallChain T m p d f w c top
     unfolding chain
     chained p zero f w c top e = bottom (bottom-of p f w c top e)
     chained p (suc d) f w c top e =
@@ -167,7 +167,7 @@ module _ (T : Table) where
         (λ i. held-of p r (rw (eqb-true w r i) at (both-l _ _ rest)))
         (λ i. holding p d (callerFrame m p f) (callerWorks m p f) (callStatement m p f) f (both-r _ _ rest) r i)
 
-    pub chains : (p d f w c top : ℕ) → Chained T m p d f w c top → ((r : ℕ) → worked m p d f w r ≡ true → Held T m p r) → chain T m p d f w c top ≡ true
+    pub chains : (p d f w c top : ℕ) → CallChain T m p d f w c top → ((r : ℕ) → worked m p d f w r ≡ true → Held T m p r) → chain T m p d f w c top ≡ true
     unfolding chain worked
     chains p zero f w c top (bottom b) h =
         both-i _ _ (eq-eqb f 0 (b .no-frame))
@@ -308,10 +308,10 @@ module _ (m : Memory) (p : ℕ) where
   block-called d e = rw (ne-eqb (m (depthAt p)) 0 (λ z. omega arith))
 
 module _ (T : Table) (ok : Accepted T) (m : Memory) (p : ℕ) (some : 1 ≤ p) (made : p ≤ m createdAt) (r : Process T m p) (s : m (statusAt p) ≡ 2) where
-  pub stands : Standing T m p
+  pub stands : BlockOwned T m p
   stands = go (m (depthAt p)) refl (r .chain s)
     where
-      go : (d : ℕ) → m (depthAt p) ≡ d → Chained T m p d (m (frameAt p)) (m (worksAt p)) (m (statementAt p)) (m (topAt p)) → Standing T m p
+      go : (d : ℕ) → m (depthAt p) ≡ d → CallChain T m p d (m (frameAt p)) (m (worksAt p)) (m (statementAt p)) (m (topAt p)) → BlockOwned T m p
       go zero e (bottom b) =
           let x = block-bottom m p e in
           let w = b .own in

@@ -27,8 +27,8 @@ use Rattle.machine.specs.Rule.{owns, worked, lives, moduleHolds, modulesHold, f
 use Rattle.machine.proofs.Memories.{location-plus}
 use Rattle.machine.proofs.Entries.{type-integer, type-boolean, type-character, standard-record, standard-array, at-record, at-array}
 use Rattle.sound.specs.Answers.{Small}
-use Rattle.sound.specs.InUse.{Created, Reference, empty, names, HoldsValue, simple, reference, eachField, eachElement, Part, itself, ofField, ofElement, Call, innermost, caller, Of, moduleVariable, callVariable, InUse, ofModule, ofCall, Bound, ValuesHold}
-use Rattle.sound.specs.Ruled.{Chained}
+use Rattle.sound.specs.InUse.{Created, Reference, empty, names, HoldsValue, simple, reference, eachField, eachElement, Part, itself, ofField, ofElement, CallAt, innermost, caller, VariableOf, moduleVariableAt, callVariable, InUse, ofModule, ofCall, Bound, ValuesHold}
+use Rattle.sound.specs.Ruled.{CallChain}
 use Rattle.sound.proofs.Calls.BindingsKept.{call-created}
 use Rattle.sound.proofs.Rule.RuleRecord.{chained as chain-of}
 use Rattle.sound.proofs.Values.BlockVariables.{variable, InBlock, in-block}
@@ -134,7 +134,7 @@ unfolding location
 location-is a = omega arith
 
 -- the variable of a part is one of the block
-of-block : (T : Table) (b τ k : ℕ) (p : InBlock T b τ k) → Of T b (variable T b (p .i))
+of-block : (T : Table) (b τ k : ℕ) (p : InBlock T b τ k) → VariableOf T b (variable T b (p .i))
 of-block T b τ k p = let l = p .there in record { least = omega arith; most = omega arith }
 
 module _ (T : Table) (m : Memory) (small : Small m) (ruled : rule T m ≡ true) where
@@ -161,7 +161,7 @@ module _ (T : Table) (m : Memory) (small : Small m) (ruled : rule T m ≡ true) 
     top : ℕ
     chained : chain T m p (suc d) f works statement top ≡ true
 
-  call-framed : (p d f : ℕ) → Call T m p d f → Framed p d f
+  call-framed : (p d f : ℕ) → CallAt T m p d f → Framed p d f
   unfolding startedOk chain
   call-framed p d f (innermost c s e z) =
       record { works = m (worksAt p); statement = m (statementAt p); top = m (topAt p); chained = rw z (rw e at (started-ok p c s)) }
@@ -169,7 +169,7 @@ module _ (T : Table) (m : Memory) (small : Small m) (ruled : rule T m ≡ true) 
       let h = call-framed p (suc d) g c in
       record { works = callerWorks m p g; statement = callStatement m p g; top = g; chained = rw z (both-r _ _ (both-r _ _ (both-r _ _ (both-r _ _ (h .chained))))) }
 
-  frame-holds : (p d f v : ℕ) → Call T m p d f → Of T (calledBlock m p f) v → frameHolds T m p d f (calledBlock m p f) v ≡ true
+  frame-holds : (p d f v : ℕ) → CallAt T m p d f → VariableOf T (calledBlock m p f) v → frameHolds T m p d f (calledBlock m p f) v ≡ true
   unfolding chain framesHold
   frame-holds p d f v c o =
       let h = call-framed p d f c in
@@ -178,7 +178,7 @@ module _ (T : Table) (m : Memory) (small : Small m) (ruled : rule T m ≡ true) 
       let e : firstVar T (calledBlock m p f) + (v - firstVar T (calledBlock m p f)) ≡ v = omega arith in
       rw e at (all-at (vars T (calledBlock m p f)) (λ i. frameHolds T m p d f (calledBlock m p f) (firstVar T (calledBlock m p f) + i)) (both-l _ _ (both-r _ _ (h .chained))) (v - firstVar T (calledBlock m p f)) (omega arith))
 
-  module-value : (p v : ℕ) → Created m p → Of T (m (moduleAt p)) v → HoldsValue T m (varType T v) (moduleVariable T m p v)
+  module-value : (p v : ℕ) → Created m p → VariableOf T (m (moduleAt p)) v → HoldsValue T m (varType T v) (moduleVariableAt T m p v)
   unfolding modulesHold moduleHolds
   module-value p v c o =
       let l = o .least in
@@ -186,7 +186,7 @@ module _ (T : Table) (m : Memory) (small : Small m) (ruled : rule T m ≡ true) 
       let e : firstVar T (m (moduleAt p)) + (v - firstVar T (m (moduleAt p))) ≡ v = omega arith in
       holds-value T m small _ _ (rw e at (all-at (vars T (m (moduleAt p))) (λ i. moduleHolds T m p (m (moduleAt p)) (firstVar T (m (moduleAt p)) + i)) (modules-hold p c) (v - firstVar T (m (moduleAt p))) (omega arith)))
 
-  call-value : (p d f v : ℕ) → Call T m p d f → Of T (calledBlock m p f) v → (varMode T v ≡ 2 → ⊥) → HoldsValue T m (varType T v) (callVariable T m p f v)
+  call-value : (p d f v : ℕ) → CallAt T m p d f → VariableOf T (calledBlock m p f) v → (varMode T v ≡ 2 → ⊥) → HoldsValue T m (varType T v) (callVariable T m p f v)
   unfolding frameHolds
   call-value p d f v c o n = holds-value T m small _ _ (rw (ne-eqb _ 2 n) at (frame-holds p d f v c o))
 
@@ -207,7 +207,7 @@ module _ (T : Table) (m : Memory) (small : Small m) (ruled : rule T m ≡ true) 
     holds = rw e (part-value T m τ σ k b p (in-use-value σ b u));
   }
 
-  owned : (p d f τ k : ℕ) → ((e : ℕ) → d ≡ suc e → Call T m p e f) → owns T m p d f τ k ≡ true → Bound T m τ (location p k)
+  owned : (p d f τ k : ℕ) → ((e : ℕ) → d ≡ suc e → CallAt T m p e f) → owns T m p d f τ k ≡ true → Bound T m τ (location p k)
   unfolding owns
   owned p zero f τ k c e = no-true e
   owned p (suc d) f τ k c e =
@@ -220,7 +220,7 @@ module _ (T : Table) (m : Memory) (small : Small m) (ruled : rule T m ≡ true) 
       bound-at τ _ _ _ _ (ofCall p d f (variable T (calledBlock m p f) (b .i)) (c d refl) (of-block T _ _ _ b) (b .mode) refl refl) (part-of T τ _ _ (b .part)) (ap (location p) y ∙ location-plus p _ _))
       (λ h. owned p d (callerFrame m p f) τ k (λ i z. caller f (rw z at (c d refl)) refl) h)
 
-  lives-bound : (p d f w τ a : ℕ) → ((e : ℕ) → d ≡ suc e → Call T m p e f) → ((r : ℕ) → worked m p d f w r ≡ true → Created m r) → lives T m p d f w τ a ≡ true → Bound T m τ a
+  lives-bound : (p d f w τ a : ℕ) → ((e : ℕ) → d ≡ suc e → CallAt T m p e f) → ((r : ℕ) → worked m p d f w r ≡ true → Created m r) → lives T m p d f w τ a ≡ true → Bound T m τ a
   unfolding lives
   lives-bound p d f w τ a c n e =
       either-case _ _ e
@@ -235,17 +235,17 @@ module _ (T : Table) (m : Memory) (small : Small m) (ruled : rule T m ≡ true) 
       rw x (owned p d f τ (a % 256) c (both-r _ _ h)))
 
   -- what the caller of a call works on is created
-  call-worked : (p d f : ℕ) → Call T m p d f → (r : ℕ) → worked m p d (callerFrame m p f) (callerWorks m p f) r ≡ true → Created m r
+  call-worked : (p d f : ℕ) → CallAt T m p d f → (r : ℕ) → worked m p d (callerFrame m p f) (callerWorks m p f) r ≡ true → Created m r
   call-worked p d f c =
       let h = call-framed p d f c in
       let n = call-created T m p d f c in
       outer (chain-of T m p (suc d) f (h .works) (h .statement) (h .top) (h .chained))
       (n .least) (n .most)
     where
-      outer : {d f w c top : ℕ} → Chained T m p (suc d) f w c top → 1 ≤ p → p ≤ m createdAt → (r : ℕ) → worked m p d (callerFrame m p f) (callerWorks m p f) r ≡ true → Created m r
-      outer (Chained.called k q) a b = worked-created T m p a b q
+      outer : {d f w c top : ℕ} → CallChain T m p (suc d) f w c top → 1 ≤ p → p ≤ m createdAt → (r : ℕ) → worked m p d (callerFrame m p f) (callerWorks m p f) r ≡ true → Created m r
+      outer (CallChain.called k q) a b = worked-created T m p a b q
 
-  call-bound : (p d f v : ℕ) → Call T m p d f → Of T (calledBlock m p f) v → varMode T v ≡ 2 → Bound T m (varType T v) (m (callVariable T m p f v))
+  call-bound : (p d f v : ℕ) → CallAt T m p d f → VariableOf T (calledBlock m p f) v → varMode T v ≡ 2 → Bound T m (varType T v) (m (callVariable T m p f v))
   unfolding frameHolds
   call-bound p d f v c o e =
       lives-bound p d (callerFrame m p f) (callerWorks m p f) (varType T v) _ (λ i z. caller f (rw z at c) refl) (call-worked p d f c) (rw (eq-eqb _ 2 e) at (frame-holds p d f v c o))

@@ -16,7 +16,7 @@ use Rattle.machine.specs.Values.{partOfBlock}
 use Rattle.machine.specs.Rule.{isCreated, owns, worked, lives, mayWait, worksBy, calls}
 use Rattle.machine.proofs.Tests.{range-i}
 use Rattle.sound.specs.InUse.{Created}
-use Rattle.sound.specs.Ruled.{Chained, bottom, called, Held, held, given, Carries}
+use Rattle.sound.specs.Ruled.{CallChain, bottom, called, Held, held, given, ProcessesStay}
 
 module _ (m : Memory) (p : ℕ) where
   pub worked-first : (d f w r : ℕ) → w ≡ r → worked m p d f w r ≡ true
@@ -38,7 +38,7 @@ module _ (m : Memory) (p : ℕ) where
 
 module _ (T : Table) (m : Memory) (p : ℕ) where
   module _ (some : 1 ≤ p) (made : p ≤ m createdAt) where
-    pub worked-created : {d f w c top : ℕ} → Chained T m p d f w c top → (r : ℕ) → worked m p d f w r ≡ true → Created m r
+    pub worked-created : {d f w c top : ℕ} → CallChain T m p d f w c top → (r : ℕ) → worked m p d f w r ≡ true → Created m r
     worked-created {f = f} {w = w} (bottom k) r e =
         let i = worked-bottom m p f w r e in let j = k .own in record { least = omega arith; most = omega arith }
     worked-created {d = suc d} {f = f} {w = w} (called k c) r e =
@@ -47,7 +47,7 @@ module _ (T : Table) (m : Memory) (p : ℕ) where
         (λ i. worked-created c r i)
 
     -- a live variable is a module variable of a created process, or one of its process's calls
-    pub lives-there : {d f w c top : ℕ} → Chained T m p d f w c top → (τ a : ℕ) → lives T m p d f w τ a ≡ true
+    pub lives-there : {d f w c top : ℕ} → CallChain T m p d f w c top → (τ a : ℕ) → lives T m p d f w τ a ≡ true
         → either (both (isCreated m (a / 256 + 1)) (partOfBlock T (m (moduleAt (a / 256 + 1))) τ (a % 256))) (both (eqb (a / 256 + 1) p) (owns T m p d f τ (a % 256))) ≡ true
     unfolding lives isCreated
     lives-there {d = d} {f = f} {w = w} k τ a e =
@@ -55,7 +55,7 @@ module _ (T : Table) (m : Memory) (p : ℕ) where
         (λ h. let c = worked-created k (a / 256 + 1) (both-l _ _ h) in either-l _ _ (both-i _ _ (range-i 1 (m createdAt) (a / 256 + 1) (c .least) (c .most)) (both-r _ _ h)))
         (λ h. either-r _ _ h)
 
-  pub worked-begun : m (statusAt p) ≡ 2 → {d f w c top : ℕ} → Chained T m p d f w c top → (r : ℕ) → worked m p d f w r ≡ true → m (statusAt r) ≡ 1 → ⊥
+  pub worked-begun : m (statusAt p) ≡ 2 → {d f w c top : ℕ} → CallChain T m p d f w c top → (r : ℕ) → worked m p d f w r ≡ true → m (statusAt r) ≡ 1 → ⊥
   worked-begun s {f = f} {w = w} (bottom k) r e n =
       let i = worked-bottom m p f w r e in
       let j = k .own in
@@ -89,7 +89,7 @@ module _ (T : Table) (m n : Memory) (p : ℕ) where
       }
 
   -- a live variable stays one
-  pub lives-alike : Carries m n → 1 ≤ p → p ≤ m createdAt → {d f w c top : ℕ} → Chained T m p d f w c top → Alike T m n p d f w → (τ a : ℕ) → lives T m p d f w τ a ≡ true → lives T n p d f w τ a ≡ true
+  pub lives-alike : ProcessesStay m n → 1 ≤ p → p ≤ m createdAt → {d f w c top : ℕ} → CallChain T m p d f w c top → Alike T m n p d f w → (τ a : ℕ) → lives T m p d f w τ a ≡ true → lives T n p d f w τ a ≡ true
   unfolding lives
   lives-alike cs some made {d = d} {f = f} {w = w} k A τ a e =
       either-case (both (worked m p d f w (a / 256 + 1)) (partOfBlock T (m (moduleAt (a / 256 + 1))) τ (a % 256))) (both (eqb (a / 256 + 1) p) (owns T m p d f τ (a % 256))) e
@@ -120,7 +120,7 @@ module _ (T : Table) (m n : Memory) (p : ℕ) where
   held-same r e6 e5 e2 (given h w) = given (rw e5 h) (rw e2 w)
 
 -- a process works on itself, in its own block
-pub worked-own : (T : Table) (m : Memory) (p : ℕ) {d f w c top : ℕ} → Chained T m p d f w c top → worked m p d f w p ≡ true
+pub worked-own : (T : Table) (m : Memory) (p : ℕ) {d f w c top : ℕ} → CallChain T m p d f w c top → worked m p d f w p ≡ true
 worked-own T m p {f = f} {w = w} (bottom k) = worked-first m p 0 f w p (k .own)
 worked-own T m p {d = suc d} {f = f} {w = w} (called k c) = worked-outer m p d f w p (worked-own T m p c)
 

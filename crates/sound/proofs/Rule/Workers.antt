@@ -9,14 +9,14 @@ use Rattle.machine.specs.Memory.{Memory}
 use Rattle.machine.specs.Layout.{moduleAt, statementAt, frameAt, topAt, worksAt, holderAt, depthAt, callerFrame, callStatement, callerWorks, calledBlock}
 use Rattle.machine.specs.Entries.{stmtAt}
 use Rattle.machine.specs.Rule.{rule}
-use Rattle.sound.specs.InUse.{Call, innermost, caller}
-use Rattle.sound.specs.Ruled.{Chained, called, Ruled}
+use Rattle.sound.specs.InUse.{CallAt, innermost, caller}
+use Rattle.sound.specs.Ruled.{CallChain, called, Ruled}
 use Rattle.sound.specs.StateRule.{NotWaiting}
 use Rattle.sound.proofs.Rule.RuleRecord.{ruled}
 use Rattle.sound.proofs.Rule.WorkedProcesses.{worked-first, worked-own, works-outer, held-fast}
 
 -- a call that works on its process was made while the process worked on itself
-pub own-caller : (T : Table) (m : Memory) (p d f w c top : ℕ) → w ≡ p → Chained T m p (suc d) f w c top → callerWorks m p f ≡ p
+pub own-caller : (T : Table) (m : Memory) (p d f w c top : ℕ) → w ≡ p → CallChain T m p (suc d) f w c top → callerWorks m p f ≡ p
 own-caller T m p d f w c top i (called k r) =
     works-outer T m p d f w (stmtAt T (callStatement m p f)) (k .by) (rw i (worked-own T m p r)) ∙ i
 
@@ -38,11 +38,11 @@ module _ (T : Table) (m : Memory) (e : rule T m ≡ true) where
     works : ℕ
     statement : ℕ
     top : ℕ
-    chained : Chained T m p (suc d) f works statement top
+    chained : CallChain T m p (suc d) f works statement top
     own : works ≡ p
 
   -- what made it works on p too
-  own-outer : (p d f w c top : ℕ) → w ≡ p → Chained T m p (suc (suc d)) f w c top → OwnCall p d (callerFrame m p f)
+  own-outer : (p d f w c top : ℕ) → w ≡ p → CallChain T m p (suc (suc d)) f w c top → OwnCall p d (callerFrame m p f)
   own-outer p d f w c top i (called k r) =
       record {
         works = callerWorks m p f;
@@ -52,15 +52,15 @@ module _ (T : Table) (m : Memory) (e : rule T m ≡ true) where
         own = own-caller T m p (suc d) f w c top i (called k r);
       }
 
-  own-call : (p d f : ℕ) → m (worksAt p) ≡ p → Call T m p d f → OwnCall p d f
+  own-call : (p d f : ℕ) → m (worksAt p) ≡ p → CallAt T m p d f → OwnCall p d f
   own-call p d f w (innermost c s i z) =
       record { works = m (worksAt p); statement = m (statementAt p); top = m (topAt p); chained = rw z (rw i at (h .process p (c .least) (c .most) .chain s)); own = w }
   own-call p d f w (caller g c z) =
       let o = own-call p (suc d) g w c in
       rw z (own-outer p d g (o .works) (o .statement) (o .top) (o .own) (o .chained))
 
-  own-module : (p d f w c top : ℕ) → w ≡ p → Chained T m p (suc d) f w c top → owner T (calledBlock m p f) ≡ m (moduleAt p)
+  own-module : (p d f w c top : ℕ) → w ≡ p → CallChain T m p (suc d) f w c top → owner T (calledBlock m p f) ≡ m (moduleAt p)
   own-module p d f w c top i (called k r) = rw i at (k .owned)
 
-  pub works-own : (p : ℕ) → m (worksAt p) ≡ p → (d f : ℕ) → Call T m p d f → owner T (calledBlock m p f) ≡ m (moduleAt p)
+  pub works-own : (p : ℕ) → m (worksAt p) ≡ p → (d f : ℕ) → CallAt T m p d f → owner T (calledBlock m p f) ≡ m (moduleAt p)
   works-own p w d f c = let o = own-call p d f w c in own-module p d f (o .works) (o .statement) (o .top) (o .own) (o .chained)

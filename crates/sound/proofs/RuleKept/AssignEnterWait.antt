@@ -22,7 +22,7 @@ use Rattle.machine.specs.Rule.{isCreated, owns, lives, mayWait, liesIn, rule}
 use Rattle.machine.proofs.Memories.{update-at}
 use Rattle.verdict.specs.Accepted.{Accepted}
 use Rattle.sound.specs.Claims.{IsValue, PlaceLaws, Started}
-use Rattle.sound.specs.Ruled.{Chained, bottom, called, Held, held, given, Worked, Ruled, Standing}
+use Rattle.sound.specs.Ruled.{CallChain, bottom, called, Held, held, given, Worked, Ruled, BlockOwned}
 use Rattle.sound.proofs.Rule.RuleRecord.{ruled, rules, block-there, block-kind, stands}
 use Rattle.sound.proofs.Values.ModuleVariables.{module-variables, module-fits}
 use Rattle.sound.proofs.Memory.Writes.{location-of, area-before, area-after, area-other, area-record}
@@ -62,7 +62,7 @@ module _ (T : Table) (good : Accepted T) (L : PlaceLaws T) (m : Memory) (h : Rul
       let x = h .process p a b in
       chain-fits T m p (module-most T (good .sizes) (m (moduleAt p)) (block-there T good m p x) (block-kind T good m p x)) (x .chain st)
 
-  link-low : {d f w c top : ℕ} → Chained T m p d f w c top → (d ≡ 0 → ⊥) → f + 3 < 256
+  link-low : {d f w c top : ℕ} → CallChain T m p d f w c top → (d ≡ 0 → ⊥) → f + 3 < 256
   link-low (bottom x) n = absurd (n refl)
   link-low (called x r) n = let u = x .room in omega arith
 
@@ -74,7 +74,7 @@ module _ (T : Table) (good : Accepted T) (L : PlaceLaws T) (m : Memory) (h : Rul
 
   -- what is stored in a live variable leaves where the process stands
   module _ (τ : ℕ) (ws : List ℕ) (v : IsValue T m τ ws) where
-    own-link : {d f w c top : ℕ} → Chained T m p d f w c top → (d ≡ 0 → ⊥) → (k : ℕ) → owns T m p d f τ k ≡ true → store m (location p k) ws (linkAt p f 3) ≡ m (linkAt p f 3)
+    own-link : {d f w c top : ℕ} → CallChain T m p d f w c top → (d ≡ 0 → ⊥) → (k : ℕ) → owns T m p d f τ k ≡ true → store m (location p k) ws (linkAt p f 3) ≡ m (linkAt p f 3)
     unfolding owns linkAt
     own-link (bottom x) n k e = absurd (n refl)
     own-link {d = suc d} {f = f} (called x r) n k e =
@@ -83,7 +83,7 @@ module _ (T : Table) (good : Accepted T) (L : PlaceLaws T) (m : Memory) (h : Rul
         (λ y. let u = leb-true (f + 4) k (both-l _ _ y) in area-before m p k ws (f + 3) (omega arith))
         (λ y. let z = owns-in T good L m p r τ k y .1 in area-after m p k ws (f + 3) (omega arith))
 
-    module-link : {d f w c top : ℕ} → Chained T m p d f w c top → (d ≡ 0 → ⊥) → (k : ℕ) → k + wordsOf T τ ≤ moduleWords T (m (moduleAt p)) → store m (location p k) ws (linkAt p f 3) ≡ m (linkAt p f 3)
+    module-link : {d f w c top : ℕ} → CallChain T m p d f w c top → (d ≡ 0 → ⊥) → (k : ℕ) → k + wordsOf T τ ≤ moduleWords T (m (moduleAt p)) → store m (location p k) ws (linkAt p f 3) ≡ m (linkAt p f 3)
     unfolding linkAt
     module-link (bottom x) n k e = absurd (n refl)
     module-link {f = f} (called x r) n k e = let g = v .long in let u = chain-over T m p r in area-after m p k ws (f + 3) (omega arith)
@@ -180,7 +180,7 @@ module _ (T : Table) (good : Accepted T) (L : PlaceLaws T) (m : Memory) (h : Rul
     abbrev w : ℕ
     w = m (worksAt p)
 
-    place : Standing T m p
+    place : BlockOwned T m p
     place = stands T good m p a b (h .process p a b) st
 
     enter-word : (k : ℕ) → k < 20 → (k ≡ 6 → ⊥) → update m (holderAt w) p (recordAt p k) ≡ m (recordAt p k)

@@ -21,7 +21,7 @@ use Rattle.machine.specs.Rule.{calls, mayWait, worked, rule}
 use Rattle.machine.proofs.Memories.{update-at}
 use Rattle.verdict.specs.Accepted.{Accepted}
 use Rattle.sound.specs.Claims.{PlaceLaws, Started}
-use Rattle.sound.specs.Ruled.{Chained, Worked, Ruled, Carries, Fills, Calling, enters, full}
+use Rattle.sound.specs.Ruled.{CallChain, Worked, Ruled, ProcessesStay, Fills, CallOutcome, enters, full}
 use Rattle.sound.proofs.Rule.RuleRecord.{ruled, rules, stands}
 use Rattle.sound.proofs.Rule.Chains.{Same, carries-keeps, created-low, created-high, alike-same}
 use Rattle.sound.proofs.Rule.Processes.{chain-fits, base-fits}
@@ -32,8 +32,8 @@ use Rattle.sound.proofs.Rule.WorkedProcesses.{Alike, worked-first, work
 use Rattle.sound.proofs.RuleKept.Push.{chain-depth, fills-short, frameOf, push-kept}
 
 -- arguments stay arguments where the processes, the calls and their words stay
-pub fills-same : (T : Table) (m s : Memory) (p b : ℕ) (ws : List ℕ) → Carries m s → 1 ≤ p → p ≤ m createdAt → s (depthAt p) ≡ m (depthAt p) → s (frameAt p) ≡ m (frameAt p) → s (worksAt p) ≡ m (worksAt p)
-    → Chained T m p (m (depthAt p)) (m (frameAt p)) (m (worksAt p)) (m (statementAt p)) (m (topAt p)) → Alike T m s p (m (depthAt p)) (m (frameAt p)) (m (worksAt p))
+pub fills-same : (T : Table) (m s : Memory) (p b : ℕ) (ws : List ℕ) → ProcessesStay m s → 1 ≤ p → p ≤ m createdAt → s (depthAt p) ≡ m (depthAt p) → s (frameAt p) ≡ m (frameAt p) → s (worksAt p) ≡ m (worksAt p)
+    → CallChain T m p (m (depthAt p)) (m (frameAt p)) (m (worksAt p)) (m (statementAt p)) (m (topAt p)) → Alike T m s p (m (depthAt p)) (m (frameAt p)) (m (worksAt p))
     → Fills T m p b ws → Fills T s p b ws
 fills-same T m s p b ws cs some made e7 e3 e5 k A F =
     record {
@@ -62,7 +62,7 @@ module _ (T : Table) (good : Accepted T) (L : PlaceLaws T) (m page : Memory) (p 
     shallow : m (topAt p) + 4 + frameWords T q ≤ 256 → m (depthAt p) < 64
     shallow l = let x = chain-depth T s p (h .process p a b .chain st) in omega arith
 
-    pub called-from : Calling T (call T m page (contextOf m p) s q r ws)
+    pub called-from : CallOutcome T (call T m page (contextOf m p) s q r ws)
     unfolding call topAfter contextOf need failWhere
     called-from =
         let w = le-leb (length ws) (frameWords T q) (fills-short T good s p q ws there F) in
@@ -81,11 +81,11 @@ module _ (T : Table) (good : Accepted T) (L : PlaceLaws T) (m page : Memory) (p 
     b : p ≤ m createdAt
     b = created-high m p (st .created)
 
-    chain : Chained T m p (m (depthAt p)) (m (frameAt p)) (m (worksAt p)) (m (statementAt p)) (m (topAt p))
+    chain : CallChain T m p (m (depthAt p)) (m (frameAt p)) (m (worksAt p)) (m (statementAt p)) (m (topAt p))
     chain = h .process p a b .chain (st .started)
 
     -- THE LOCAL CALL
-    pub local-call-rule : (c n : ℕ) → stmtAt T (m (statementAt p)) ≡ localCall q c n → owner T q ≡ m (moduleAt (m (worksAt p))) → Calling T (call T m page (contextOf m p) m q (m (worksAt p)) ws)
+    pub local-call-rule : (c n : ℕ) → stmtAt T (m (statementAt p)) ≡ localCall q c n → owner T q ≡ m (moduleAt (m (worksAt p))) → CallOutcome T (call T m page (contextOf m p) m q (m (worksAt p)) ws)
     unfolding mayWait
     local-call-rule c n is owned =
         let k = stands T good m p a b (h .process p a b) (st .started) in
@@ -128,7 +128,7 @@ module _ (T : Table) (good : Accepted T) (L : PlaceLaws T) (m page : Memory) (p 
           (λ q. let i : x ≡ r = eqb-true x r q in rw i (update-at m (holderAt r) p (holderAt r) refl))
           (λ q. set-other m r 6 p r1 (omega arith) (λ z. omega arith) (λ z. omega arith) x 6 (c .least) (omega arith) (eqb-false x r q) ∙ strict x w)
 
-      pub process-call-rule : (m (statusAt r) ≡ 1 → ⊥) → owner T q ≡ m (moduleAt r) → Calling T (call T m page (contextOf m p) s q r ws)
+      pub process-call-rule : (m (statusAt r) ≡ 1 → ⊥) → owner T q ≡ m (moduleAt r) → CallOutcome T (call T m page (contextOf m p) s q r ws)
       unfolding Same
       process-call-rule begun owned =
           let u = h .most in

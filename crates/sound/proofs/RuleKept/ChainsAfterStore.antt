@@ -20,7 +20,7 @@ use Rattle.machine.specs.Values.{holds, partOfBlock}
 use Rattle.machine.specs.Rule.{owns}
 use Rattle.verdict.specs.Accepted.{Accepted}
 use Rattle.sound.specs.Claims.{IsValue, PlaceLaws}
-use Rattle.sound.specs.Ruled.{Framed, Chained, bottom, called, Carries}
+use Rattle.sound.specs.Ruled.{Framed, CallChain, bottom, called, ProcessesStay}
 use Rattle.sound.proofs.Memory.Writes.{location-add, area-before, area-after}
 use Rattle.sound.proofs.Rule.Chains.{Same, carries-keeps, chain-over, called-by, alike-same, frame-new, value-same, chain-same}
 use Rattle.sound.proofs.Rule.WorkedProcesses.{Alike, alike-more}
@@ -28,7 +28,7 @@ use Rattle.sound.proofs.Values.BlockVariables.{variables-apart, words-v
 
 module _ (T : Table) (ok : Accepted T) (L : PlaceLaws T) where
   -- the variables of block b from word o on, when a value is stored in a part of one
-  module _ (m : Memory) (p o b τ k : ℕ) (there : b < blockCount T) (x : InBlock T b τ k) (ws : List ℕ) (v : IsValue T m τ ws) (cs : Carries m (store m (location p (o + k)) ws)) where
+  module _ (m : Memory) (p o b τ k : ℕ) (there : b < blockCount T) (x : InBlock T b τ k) (ws : List ℕ) (v : IsValue T m τ ws) (cs : ProcessesStay m (store m (location p (o + k)) ws)) where
     pub other-word : (i : ℕ) → (i ≡ x .i → ⊥) → (j : ℕ) → j < varWords T (firstVar T b + i) → store m (location p (o + k)) ws (location p (o + offsetOf T b (firstVar T b + i) + j)) ≡ m (location p (o + offsetOf T b (firstVar T b + i) + j))
     other-word i d j l =
         let u = part-inside T ok b there τ k x .1 in
@@ -63,13 +63,13 @@ module _ (T : Table) (ok : Accepted T) (L : PlaceLaws T) where
         (λ j l. other-word i (eqb-false i (x .i) q) j (let e = words-value T (firstVar T b + i) n in omega arith)) h)
 
   -- the same at the beginning of an area
-  pub module-kept : (m : Memory) (p b τ k : ℕ) → b < blockCount T → InBlock T b τ k → (ws : List ℕ) → IsValue T m τ ws → Carries m (store m (location p k) ws) → 1 ≤ p → p ≤ m createdAt
+  pub module-kept : (m : Memory) (p b τ k : ℕ) → b < blockCount T → InBlock T b τ k → (ws : List ℕ) → IsValue T m τ ws → ProcessesStay m (store m (location p k) ws) → 1 ≤ p → p ≤ m createdAt
       → (i : ℕ) → (varMode T (firstVar T b + i) ≡ 2 → ⊥) → holds T m (varType T (firstVar T b + i)) (location p (offsetOf T b (firstVar T b + i))) ≡ true
       → holds T (store m (location p k) ws) (varType T (firstVar T b + i)) (location p (offsetOf T b (firstVar T b + i))) ≡ true
   module-kept m p b τ k l x ws v cs y z i n h = simp zero-add at (value-kept m p 0 b τ k l x ws v (simp zero-add cs) y z i n (simp zero-add h))
 
   -- what a process owns lies above its module's variables and below its top
-  pub owns-in : (m : Memory) (p : ℕ) {d f w c top : ℕ} → Chained T m p d f w c top → (τ k : ℕ) → owns T m p d f τ k ≡ true → (moduleWords T (m (moduleAt p)) ≤ k) × (k + wordsOf T τ ≤ top)
+  pub owns-in : (m : Memory) (p : ℕ) {d f w c top : ℕ} → CallChain T m p d f w c top → (τ k : ℕ) → owns T m p d f τ k ≡ true → (moduleWords T (m (moduleAt p)) ≤ k) × (k + wordsOf T τ ≤ top)
   unfolding owns
   owns-in m p (bottom b) τ k e = no-true e
   owns-in m p {d = suc d} {f = f} {top = top} (called q r) τ k e =
@@ -82,7 +82,7 @@ module _ (T : Table) (ok : Accepted T) (L : PlaceLaws T) where
       (λ y. let z = owns-in m p r τ k y in (z .0, let u = z .1 in omega arith))
 
   -- a value stored in a value parameter or local of a call
-  module _ (m : Memory) (p τ k : ℕ) (ws : List ℕ) (v : IsValue T m τ ws) (some : 1 ≤ p) (made : p ≤ m createdAt) (cs : Carries m (store m (location p k) ws)) where
+  module _ (m : Memory) (p τ k : ℕ) (ws : List ℕ) (v : IsValue T m τ ws) (some : 1 ≤ p) (made : p ≤ m createdAt) (cs : ProcessesStay m (store m (location p k) ws)) where
     link-before : (f i : ℕ) → f + i < k → store m (location p k) ws (linkAt p f i) ≡ m (linkAt p f i)
     unfolding linkAt
     link-before f i l = area-before m p k ws (f + i) l
@@ -95,7 +95,7 @@ module _ (T : Table) (ok : Accepted T) (L : PlaceLaws T) where
     unfolding Same
     below-same base f l = λ j a b. area-before m p k ws j (omega arith)
 
-    pub store-alike : {d f w c top : ℕ} → Chained T m p d f w c top → owns T m p d f τ k ≡ true → Alike T m (store m (location p k) ws) p d f w
+    pub store-alike : {d f w c top : ℕ} → CallChain T m p d f w c top → owns T m p d f τ k ≡ true → Alike T m (store m (location p k) ws) p d f w
     unfolding owns
     store-alike (bottom b) e = no-true e
     store-alike {d = suc d} {f = f} {w = w} {top = top} (called q r) e =
@@ -107,7 +107,7 @@ module _ (T : Table) (ok : Accepted T) (L : PlaceLaws T) where
         alike-more T m (store m (location p k) ws) p d f w (link-after f 0 z) (link-after f 2 z) (link-after f 3 z) (store-alike r y))
 
     -- the frame that has the variable
-    store-frame : {d f w c top q : ℕ} → Framed T m p d f w c top q → Chained T m p d (callerFrame m p f) (callerWorks m p f) (callStatement m p f) f → f + 4 ≤ k → partOfBlock T q τ (k - (f + 4)) ≡ true → Framed T (store m (location p k) ws) p d f w c top q
+    store-frame : {d f w c top q : ℕ} → Framed T m p d f w c top q → CallChain T m p d (callerFrame m p f) (callerWorks m p f) (callStatement m p f) f → f + 4 ≤ k → partOfBlock T q τ (k - (f + 4)) ≡ true → Framed T (store m (location p k) ws) p d f w c top q
     store-frame {f = f} {q = q} r h l e =
         let x = in-block T q τ (k - (f + 4)) e in
         let j : f + 4 + (k - (f + 4)) ≡ k = omega arith in
@@ -118,7 +118,7 @@ module _ (T : Table) (ok : Accepted T) (L : PlaceLaws T) where
         (λ i u n. rw j at (bound-kept m p (f + 4) q τ (k - (f + 4)) (r .there) x ws v (rw j cs) i n))
 
     -- a frame above the variable
-    store-over : {d f w c top q : ℕ} → Framed T m p d f w c top q → Chained T m p d (callerFrame m p f) (callerWorks m p f) (callStatement m p f) f → owns T m p d (callerFrame m p f) τ k ≡ true → Framed T (store m (location p k) ws) p d f w c top q
+    store-over : {d f w c top q : ℕ} → Framed T m p d f w c top q → CallChain T m p d (callerFrame m p f) (callerWorks m p f) (callStatement m p f) f → owns T m p d (callerFrame m p f) τ k ≡ true → Framed T (store m (location p k) ws) p d f w c top q
     store-over {f = f} {q = q} r h e =
         let z = owns-in m p h τ k e .1 in
         let g = v .long in
@@ -128,7 +128,7 @@ module _ (T : Table) (ok : Accepted T) (L : PlaceLaws T) where
         (λ i u n. value-same T L m (store m (location p k) ws) cs p some made (varType T (firstVar T q + i)) (f + 4 + offsetOf T q (firstVar T q + i)) (λ j y. area-after m p k ws (f + 4 + offsetOf T q (firstVar T q + i) + j) (omega arith)) (r .values i u n))
         (λ i u n. area-after m p k ws (f + 4 + offsetOf T q (firstVar T q + i)) (omega arith))
 
-    pub store-chain : {d f w c top : ℕ} → Chained T m p d f w c top → owns T m p d f τ k ≡ true → Chained T (store m (location p k) ws) p d f w c top
+    pub store-chain : {d f w c top : ℕ} → CallChain T m p d f w c top → owns T m p d f τ k ≡ true → CallChain T (store m (location p k) ws) p d f w c top
     unfolding owns
     store-chain (bottom b) e = no-true e
     store-chain {d = suc d} {f = f} (called q r) e =

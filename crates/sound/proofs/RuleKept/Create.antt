@@ -23,7 +23,7 @@ use Rattle.verdict.specs.Accepted.{Accepted}
 use Rattle.sound.specs.Claims.{IsValue, PlaceLaws, Started}
 use Rattle.sound.specs.Answers.{Small}
 use Rattle.sound.specs.InUse.{Created}
-use Rattle.sound.specs.Ruled.{Chained, Worked, Process, Ruled, Carries}
+use Rattle.sound.specs.Ruled.{CallChain, Worked, Process, Ruled, ProcessesStay}
 use Rattle.sound.proofs.Rule.RuleRecord.{ruled, rules}
 use Rattle.sound.proofs.Values.ModuleVariables.{module-plain, module-fits}
 use Rattle.sound.proofs.Memory.Writes.{location-add, location-low, location-up, areas-apart, record-high, records-apart, words-apart, update-small, clear-small}
@@ -144,7 +144,7 @@ module _ (T : Table) (good : Accepted T) (L : PlaceLaws T) (m : Memory) (h : Rul
   most : next ≤ 64
   most = omega arith
 
-  pub created-carries : Carries m (created m next μ)
+  pub created-carries : ProcessesStay m (created m next μ)
   created-carries =
       let e = created-count m next μ in
       record {
@@ -218,7 +218,7 @@ module _ (T : Table) (good : Accepted T) (L : PlaceLaws T) (m : Memory) (h : Rul
     same-area : (j : ℕ) → j < 256 → created m next μ (location p j) ≡ m (location p j)
     same-area j l = created-area m next μ two most p j a (omega arith) l apart
 
-    chain : Chained T m p (m (depthAt p)) (m (frameAt p)) (m (worksAt p)) (m (statementAt p)) (m (topAt p))
+    chain : CallChain T m p (m (depthAt p)) (m (frameAt p)) (m (worksAt p)) (m (statementAt p)) (m (topAt p))
     chain = h .process p a b .chain st
 
     same-alike : Alike T m (created m next μ) p (m (depthAt p)) (m (frameAt p)) (m (worksAt p))

@@ -16,7 +16,7 @@ use Rattle.machine.proofs.MarkLaws as marks
 use Rattle.verdict.specs.Accepted.{Accepted}
 use Rattle.sound.specs.Claims.{PlaceLaws}
 use Rattle.sound.specs.Answers.{Small}
-use Rattle.sound.specs.Ruled.{Ruled, Carries}
+use Rattle.sound.specs.Ruled.{Ruled, ProcessesStay}
 use Rattle.sound.proofs.Rule.RuleRecord.{ruled, rules}
 use Rattle.sound.proofs.Rule.Processes.{process-alike}
 
@@ -41,7 +41,7 @@ module _ (m s : Memory) (h : SameWords m s) where
   pub marks-area : (p j : ℕ) → 1 ≤ p → p ≤ 64 → j < 256 → s (location p j) ≡ m (location p j)
   marks-area p j a b l = h .plain (location p j) (location-plain p j a b l)
 
-  pub marks-carries : m createdAt ≤ 64 → Carries m s
+  pub marks-carries : m createdAt ≤ 64 → ProcessesStay m s
   marks-carries u =
       let e = marks-record 1 8 (omega arith) (omega arith) (omega arith) in
       record {

@@ -19,7 +19,7 @@ use Rattle.machine.proofs.Memories.{update-at, update-other}
 use Rattle.verdict.specs.Accepted.{Accepted}
 use Rattle.sound.specs.Claims.{PlaceLaws}
 use Rattle.sound.specs.Answers.{Small}
-use Rattle.sound.specs.Ruled.{Chained, held, Process, Ruled, Carries}
+use Rattle.sound.specs.Ruled.{CallChain, held, Process, Ruled, ProcessesStay}
 use Rattle.sound.proofs.Memory.Writes.{location-low, location-up, record-high, records-apart, words-apart, update-small}
 use Rattle.sound.proofs.Rule.Processes.{process-by, variables-same, chain-stays, alike-stays, process-alike, base-fits}
 use Rattle.sound.proofs.Rule.WorkedProcesses.{worked-created}
@@ -121,7 +121,7 @@ module _ (s : Memory) (p c f top w d : ℕ) where
         (λ e. let x = record-high p 2 in omega arith) (λ e. let x = record-high p 3 in omega arith) (λ e. let x = record-high p 4 in omega arith)
         (λ e. let x = record-high p 5 in omega arith) (λ e. let x = record-high p 7 in omega arith)
 
-    pub stand-carries : Carries s (standing s p c f top w d)
+    pub stand-carries : ProcessesStay s (standing s p c f top w d)
     stand-carries =
         let e = stand-same 1 8 (omega arith) (omega arith) (λ z. omega arith) (λ z. omega arith) (λ z. omega arith) (λ z. omega arith) (λ z. omega arith) in
         record {
@@ -146,7 +146,7 @@ module _ (s : Memory) (p c f top w d : ℕ) where
           update-swap _ (holderAt r) v (depthAt p) d (n 7 (omega arith) (λ z. omega arith)),
         )
 
-    module _ (T : Table) (ok : Accepted T) (L : PlaceLaws T) (h : Ruled T s) (b : p ≤ s createdAt) (k : Chained T s p d f w c top)
+    module _ (T : Table) (ok : Accepted T) (L : PlaceLaws T) (h : Ruled T s) (b : p ≤ s createdAt) (k : CallChain T s p d f w c top)
         (o : (x : ℕ) → worked s p d f w x ≡ true → s (holderAt x) ≡ p) where
       stand-process : Process T (standing s p c f top w d) p
       stand-process =

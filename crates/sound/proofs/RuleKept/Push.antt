@@ -23,7 +23,7 @@ use Rattle.machine.specs.Rule.{calls, worked, lives, worksBy}
 use Rattle.machine.proofs.Memories.{store-at}
 use Rattle.verdict.specs.Accepted.{Accepted}
 use Rattle.sound.specs.Claims.{PlaceLaws}
-use Rattle.sound.specs.Ruled.{Framed, Chained, bottom, called, Ruled, Carries, Fills}
+use Rattle.sound.specs.Ruled.{Framed, CallChain, bottom, called, Ruled, ProcessesStay, Fills}
 use Rattle.sound.proofs.Memory.Writes.{location-add, area-before, area-record}
 use Rattle.sound.proofs.Rule.Chains.{Same, carries-keeps, chain-over, called-by, alike-same, chain-same}
 use Rattle.sound.proofs.Rule.Processes.{process-keeps, variables-same, holding-stays}
@@ -34,7 +34,7 @@ use Rattle.sound.proofs.RuleKept.Position.{block-begins, stand-kept}
 use Rattle.sound.proofs.Values.BlockVariables.{begins-at, next-begins, begins-up, variable-in, words-value, words-var, variable-type}
 
 -- each call takes at least the four words of its links
-pub chain-depth : (T : Table) (m : Memory) (p : ℕ) {d f w c top : ℕ} → Chained T m p d f w c top → d * 4 ≤ top
+pub chain-depth : (T : Table) (m : Memory) (p : ℕ) {d f w c top : ℕ} → CallChain T m p d f w c top → d * 4 ≤ top
 chain-depth T m p (bottom b) = omega arith
 chain-depth T m p (called k r) = let x = chain-depth T m p r in let e = k .ends in omega arith
 
@@ -66,15 +66,15 @@ module _ (g c w q : ℕ) (ws : List ℕ) (z : ℕ) where
       frame-rest j ∙ rw (← e) (getD-append-add ws (replicate z 0) (j - length ws) 0 ∙ getD-replicate z (j - length ws) 0 0 (omega arith))
 
 module _ (T : Table) (good : Accepted T) (L : PlaceLaws T) (s : Memory) (h : Ruled T s) (p : ℕ) (a : 1 ≤ p) (b : p ≤ s createdAt) (st : s (statusAt p) ≡ 2) where
-  top-chain : Chained T s p (s (depthAt p)) (s (frameAt p)) (s (worksAt p)) (s (statementAt p)) (s (topAt p))
+  top-chain : CallChain T s p (s (depthAt p)) (s (frameAt p)) (s (worksAt p)) (s (statementAt p)) (s (topAt p))
   top-chain = h .process p a b .chain st
 
   -- the words above its top are free
   module _ (k : ℕ) (ws : List ℕ) (over : s (topAt p) ≤ k) (fits : k + length ws ≤ 256) where
-    free-carries : Carries s (store s (location p k) ws)
+    free-carries : ProcessesStay s (store s (location p k) ws)
     free-carries = let u = h .most in store-carries s p k ws a (omega arith) fits
 
-    free-chain : Chained T (store s (location p k) ws) p (s (depthAt p)) (s (frameAt p)) (s (worksAt p)) (s (statementAt p)) (s (topAt p))
+    free-chain : CallChain T (store s (location p k) ws) p (s (depthAt p)) (s (frameAt p)) (s (worksAt p)) (s (statementAt p)) (s (topAt p))
     unfolding Same
     free-chain = chain-same T L s (store s (location p k) ws) free-carries p a b top-chain (λ j x y. area-before s p k ws j (omega arith))
 
@@ -119,7 +119,7 @@ module _ (T : Table) (good : Accepted T) (L : PlaceLaws T) (s : Memory) (h : Rul
     top-top : s (topAt p) ≤ s (topAt p)
     top-top = omega arith
 
-    new-carries : Carries s new
+    new-carries : ProcessesStay s new
     new-carries = free-carries (s (topAt p)) fr top-top fits
 
     new-word : (j : ℕ) → j < 4 + frameWords T q → new (location p (s (topAt p) + j)) ≡ getD fr j 0

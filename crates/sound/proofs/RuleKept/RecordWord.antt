@@ -18,7 +18,7 @@ use Rattle.machine.proofs.Memories.{update-at, update-other}
 use Rattle.verdict.specs.Accepted.{Accepted}
 use Rattle.sound.specs.Claims.{PlaceLaws, Started}
 use Rattle.sound.specs.InUse.{Created}
-use Rattle.sound.specs.Ruled.{Chained, bottom, called, Held, held, Worked, Process, Ruled, Carries}
+use Rattle.sound.specs.Ruled.{CallChain, bottom, called, Held, held, Worked, Process, Ruled, ProcessesStay}
 use Rattle.sound.proofs.Rule.RuleRecord.{ruled, rules, lies-from, lies-to, block-bottom}
 use Rattle.sound.proofs.Memory.Writes.{location-low, location-up, record-high, records-apart, words-apart}
 use Rattle.sound.proofs.Rule.Chains.{same-carries, created-low, created-high}
@@ -43,7 +43,7 @@ module _ (m : Memory) (r i v : ℕ) (a : 1 ≤ r) (l : i < 20) (no-module : i �
       let z = location-low q 256 b c (omega arith) in
       update-other m (recordAt r i) v (location q j) (λ e. omega arith)
 
-  pub set-carries : (i ≡ 0 → v ≡ 1 → ⊥) → Carries m (update m (recordAt r i) v)
+  pub set-carries : (i ≡ 0 → v ≡ 1 → ⊥) → ProcessesStay m (update m (recordAt r i) v)
   set-carries begins =
       let e = set-unlike 1 8 (omega arith) (omega arith) (λ x. no-created (sym x)) in
       record {
@@ -93,7 +93,7 @@ module _ (m : Memory) (r i v : ℕ) (a : 1 ≤ r) (l : i < 20) (no-module : i �
     -- nor do its own variables; its chain is one of m
     pub set-own : (1 ≤ update m (recordAt r i) v (statusAt r)) → (update m (recordAt r i) v (statusAt r) ≤ 3) → (r ≡ 1 → 2 ≤ update m (recordAt r i) v (statusAt r))
         → update m (recordAt r i) v (holderAt r) ≤ m createdAt
-        → (update m (recordAt r i) v (statusAt r) ≡ 2 → Chained T m r (update m (recordAt r i) v (depthAt r)) (update m (recordAt r i) v (frameAt r)) (update m (recordAt r i) v (worksAt r)) (update m (recordAt r i) v (statementAt r)) (update m (recordAt r i) v (topAt r)))
+        → (update m (recordAt r i) v (statusAt r) ≡ 2 → CallChain T m r (update m (recordAt r i) v (depthAt r)) (update m (recordAt r i) v (frameAt r)) (update m (recordAt r i) v (worksAt r)) (update m (recordAt r i) v (statementAt r)) (update m (recordAt r i) v (topAt r)))
         → (update m (recordAt r i) v (statusAt r) ≡ 2 → (x : ℕ) → worked m r (update m (recordAt r i) v (depthAt r)) (update m (recordAt r i) v (frameAt r)) (update m (recordAt r i) v (worksAt r)) x ≡ true → Held T (update m (recordAt r i) v) r x)
         → Process T (update m (recordAt r i) v) r
     set-own x y z w k o =
@@ -112,7 +112,7 @@ module _ (m : Memory) (r i v : ℕ) (a : 1 ≤ r) (l : i < 20) (no-module : i �
     set-failed d = rw (set-unlike 1 9 (omega arith) (omega arith) (λ x. d (sym x))) (h .failed)
 
 -- a chain at another statement of its block
-pub chain-at : (T : Table) (m : Memory) (p : ℕ) {d f w c top : ℕ} (b c' : ℕ) → (d ≡ 0 → b ≡ m (moduleAt p)) → ((d ≡ 0 → ⊥) → b ≡ calledBlock m p f) → firstStmt T b ≤ c' → c' < stmtLimit T b → Chained T m p d f w c top → Chained T m p d f w c' top
+pub chain-at : (T : Table) (m : Memory) (p : ℕ) {d f w c top : ℕ} (b c' : ℕ) → (d ≡ 0 → b ≡ m (moduleAt p)) → ((d ≡ 0 → ⊥) → b ≡ calledBlock m p f) → firstStmt T b ≤ c' → c' < stmtLimit T b → CallChain T m p d f w c top → CallChain T m p d f w c' top
 chain-at T m p b c' x y l h (bottom k) =
     let e = x refl in
     bottom (record { no-frame = k .no-frame; own = k .own; ends = k .ends; from = rw e at l; to = rw e at h })

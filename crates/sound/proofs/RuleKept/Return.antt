@@ -16,7 +16,7 @@ use Rattle.machine.specs.Calls.{standing, popped, returns, return}
 use Rattle.machine.specs.Rule.{calls, mayWait, worked, worksBy, rule}
 use Rattle.verdict.specs.Accepted.{Accepted}
 use Rattle.sound.specs.Claims.{PlaceLaws, Started}
-use Rattle.sound.specs.Ruled.{Chained, bottom, called, Worked, Process, Ruled}
+use Rattle.sound.specs.Ruled.{CallChain, bottom, called, Worked, Process, Ruled}
 use Rattle.sound.proofs.Rule.RuleRecord.{ruled, rules, block-there, stands}
 use Rattle.sound.proofs.Rule.Chains.{created-low, created-high}
 use Rattle.sound.proofs.Rule.Processes.{alike-stays}
@@ -26,7 +26,7 @@ use Rattle.sound.proofs.RuleKept.Position.{block-goes, call-kind, stand
 use Rattle.sound.proofs.Rule.WorkedProcesses.{worked-first, worked-outer}
 
 -- where a chain stands at no block end, it may stand at the next statement
-pub chain-next : (T : Table) → Accepted T → (m : Memory) (p : ℕ) → Process T m p → {d f w c top : ℕ} → (stmtKind T c ≡ 13 → ⊥) → Chained T m p d f w c top → Chained T m p d f w (c + 1) top
+pub chain-next : (T : Table) → Accepted T → (m : Memory) (p : ℕ) → Process T m p → {d f w c top : ℕ} → (stmtKind T c ≡ 13 → ⊥) → CallChain T m p d f w c top → CallChain T m p d f w (c + 1) top
 chain-next T good m p x {c = c} n (bottom k) =
     let fr = k .from in
     let u : firstStmt T (m (moduleAt p)) ≤ c + 1 = omega arith in
@@ -54,10 +54,10 @@ chain-next T good m p x {f = f} {c = c} n (called k r) =
 
 -- the chain without its innermost call, after the call statement
 module _ (T : Table) (good : Accepted T) (L : PlaceLaws T) (m : Memory) (h : Ruled T m) (p : ℕ) (a : 1 ≤ p) (b : p ≤ m createdAt) where
-  popped-chain : {d f w c top : ℕ} → Chained T m p (suc d) f w c top → Chained T m p d (callerFrame m p f) (callerWorks m p f) (callStatement m p f + 1) f
+  popped-chain : {d f w c top : ℕ} → CallChain T m p (suc d) f w c top → CallChain T m p d (callerFrame m p f) (callerWorks m p f) (callStatement m p f + 1) f
   popped-chain {f = f} (called k r) = chain-next T good m p (h .process p a b) (call-kind T (calledBlock m p f) (callStatement m p f) (k .calling)) r
 
-  pub pop-kept : {d f w c top : ℕ} → Chained T m p (suc d) f w c top → ((x : ℕ) → worked m p (suc d) f w x ≡ true → m (holderAt x) ≡ p) → Ruled T (standing m p (callStatement m p f + 1) (callerFrame m p f) f (callerWorks m p f) d)
+  pub pop-kept : {d f w c top : ℕ} → CallChain T m p (suc d) f w c top → ((x : ℕ) → worked m p (suc d) f w x ≡ true → m (holderAt x) ≡ p) → Ruled T (standing m p (callStatement m p f + 1) (callerFrame m p f) f (callerWorks m p f) d)
   pop-kept {d = d} {f = f} {w = w} k o = stand-kept m p (callStatement m p f + 1) (callerFrame m p f) f (callerWorks m p f) d a T good L h b (popped-chain k) (λ x e. o x (worked-outer m p d f w x e))
 
 -- a call's end comes to a state that meets the rule
@@ -77,7 +77,7 @@ module _ (T : Table) (good : Accepted T) (L : PlaceLaws T) (m page : Memory) (p 
   b = created-high m p (st .created)
 
   module _ (d : ℕ) (e : m (depthAt p) ≡ suc d) where
-    chain-of : Chained T m p (suc d) (m (frameAt p)) (m (worksAt p)) (m (statementAt p)) (m (topAt p))
+    chain-of : CallChain T m p (suc d) (m (frameAt p)) (m (worksAt p)) (m (statementAt p)) (m (topAt p))
     chain-of = rw e at (h .process p a b .chain (st .started))
 
     popped-is : (s : Memory) (c : ℕ) → popped T m page (contextOf m p) s c ≡ standing s p (c + 1) (callerFrame m p (m (frameAt p))) (m (frameAt p)) (callerWorks m p (m (frameAt p))) d
@@ -139,10 +139,10 @@ module _ (T : Table) (good : Accepted T) (L : PlaceLaws T) (m page : Memory) (p 
     by-statement q blockEnd c w = no-true c
     by-statement q noStatement c w = no-true c
 
-    working-of : {d f w c top : ℕ} → Chained T m p (suc d) f w c top → worksBy T m p d f w (stmtAt T (callStatement m p f)) ≡ true
+    working-of : {d f w c top : ℕ} → CallChain T m p (suc d) f w c top → worksBy T m p d f w (stmtAt T (callStatement m p f)) ≡ true
     working-of (called k r) = k .by
 
-    calling-of : {d f w c top : ℕ} → Chained T m p (suc d) f w c top → calls (calledBlock m p f) (stmtAt T (callStatement m p f)) ≡ true
+    calling-of : {d f w c top : ℕ} → CallChain T m p (suc d) f w c top → calls (calledBlock m p f) (stmtAt T (callStatement m p f)) ≡ true
     calling-of (called k r) = k .calling
 
     -- THE RETURN is not stuck and keeps the rule

@@ -26,7 +26,7 @@ use Rattle.machine.proofs.Memories.{update-at, store-at}
 use Rattle.verdict.specs.Accepted.{Accepted}
 use Rattle.sound.specs.Claims.{PlaceLaws, Started}
 use Rattle.sound.specs.InUse.{Created}
-use Rattle.sound.specs.Ruled.{Bottom, Chained, bottom, Held, Worked, Process, Ruled, Carries, Fills}
+use Rattle.sound.specs.Ruled.{Bottom, CallChain, bottom, Held, Worked, Process, Ruled, ProcessesStay, Fills}
 use Rattle.sound.specs.Ruled as records
 use Rattle.sound.proofs.Rule.RuleRecord.{ruled, rules, block-there, block-kind}
 use Rattle.sound.proofs.Values.ModuleVariables.{module-plain, module-fits}
@@ -46,7 +46,7 @@ module _ (T : Table) (good : Accepted T) (L : PlaceLaws T) (m n : Memory) (h : R
     (fresh : m (statusAt r) ≡ 1) (count : n createdAt ≡ m createdAt) (failure : n failureAt ≡ m failureAt) (number : n numberAt ≡ m numberAt) (same-module : n (moduleAt r) ≡ m (moduleAt r))
     (records : (q k : ℕ) → 1 ≤ q → k < 8 → (q ≡ r → ⊥) → n (recordAt q k) ≡ m (recordAt q k))
     (areas : (q j : ℕ) → 1 ≤ q → q ≤ 64 → j < 256 → n (location q j) ≡ m (location q j)) where
-  pub rewritten-carries : Carries m n
+  pub rewritten-carries : ProcessesStay m n
   rewritten-carries =
       record {
         grows = omega arith;
@@ -105,7 +105,7 @@ module _ (T : Table) (good : Accepted T) (L : PlaceLaws T) (m : Memory) (h : Rul
   abbrev passed : Memory
   passed = store m (location r 0) ws
 
-  passed-carries : Carries m passed
+  passed-carries : ProcessesStay m passed
   passed-carries = store-carries m r 0 ws one most fits
 
   passed-word : (j : ℕ) → j < length ws → passed (location r 0 + j) ≡ getD ws j 0
@@ -189,7 +189,7 @@ module _ (T : Table) (good : Accepted T) (L : PlaceLaws T) (m : Memory) (h : Rul
   begun-areas : (q j : ℕ) → 1 ≤ q → q ≤ 64 → j < 256 → begun (location q j) ≡ passed (location q j)
   begun-areas q j a b l = stand-area held r (firstStmt T μ) 0 (moduleWords T μ) r 0 one q j a b l ∙ held-area q j a b l
 
-  begun-carries : Carries passed begun
+  begun-carries : ProcessesStay passed begun
   begun-carries = rewritten-carries T good L passed begun passed-ruled r passed-fresh begun-count begun-failure begun-number begun-module begun-records begun-areas
 
   begun-is : begun (moduleAt r) ≡ μ
@@ -198,7 +198,7 @@ module _ (T : Table) (good : Accepted T) (L : PlaceLaws T) (m : Memory) (h : Rul
   begun-bottom : Bottom T begun r 0 r (firstStmt T μ) (moduleWords T μ)
   begun-bottom = record { no-frame = refl; own = refl; ends = rw begun-is; from = rw begun-is (omega arith); to = rw begun-is (block-begins T good μ there) }
 
-  begun-chain : Chained T begun r 0 0 r (firstStmt T μ) (moduleWords T μ)
+  begun-chain : CallChain T begun r 0 0 r (firstStmt T μ) (moduleWords T μ)
   begun-chain = bottom begun-bottom
 
   begun-process : Process T begun r
@@ -216,7 +216,7 @@ module _ (T : Table) (good : Accepted T) (L : PlaceLaws T) (m : Memory) (h : Rul
       (λ z. rw (stand-depth held r (firstStmt T μ) 0 (moduleWords T μ) r 0, stand-frame held r (firstStmt T μ) 0 (moduleWords T μ) r 0, stand-works held r (firstStmt T μ) 0 (moduleWords T μ) r 0)
       (λ x t. let i = worked-bottom begun r 0 r x t in rw (← i) (records.held e6)))
 
-  started-carries : Carries m begun
+  started-carries : ProcessesStay m begun
   started-carries =
       let x = passed-carries in
       let y = begun-carries in
@@ -248,7 +248,7 @@ module _ (T : Table) (good : Accepted T) (L : PlaceLaws T) (m : Memory) (h : Rul
     unfolding started
     same-count = begun-count ∙ area-record m r 0 ws 1 8 one most fits
 
-    chain : Chained T m p (m (depthAt p)) (m (frameAt p)) (m (worksAt p)) (m (statementAt p)) (m (topAt p))
+    chain : CallChain T m p (m (depthAt p)) (m (frameAt p)) (m (worksAt p)) (m (statementAt p)) (m (topAt p))
     chain = h .process p a b .chain st
 
     same-alike : Alike T m (started T m r μ ws) p (m (depthAt p)) (m (frameAt p)) (m (worksAt p))

@@ -18,7 +18,7 @@ use Rattle.machine.specs.Values.{partOfBlock}
 use Rattle.machine.specs.Rule.{isCreated, owns, lives, rule}
 use Rattle.verdict.specs.Accepted.{Accepted}
 use Rattle.sound.specs.Claims.{IsValue, PlaceLaws, Started}
-use Rattle.sound.specs.Ruled.{Process, Ruled, Carries}
+use Rattle.sound.specs.Ruled.{Process, Ruled, ProcessesStay}
 use Rattle.sound.proofs.Rule.RuleRecord.{ruled, rules, block-there, block-kind}
 use Rattle.sound.proofs.Values.ModuleVariables.{module-plain, module-variables, module-fits}
 use Rattle.sound.proofs.Memory.Writes.{location-of, area-before, area-after, area-other, area-record}
@@ -29,7 +29,7 @@ use Rattle.sound.proofs.RuleKept.ChainsAfterStore.{module-kept, owns-in
 use Rattle.sound.proofs.Values.BlockVariables.{in-block, block-in}
 
 -- the same processes, of the same modules
-pub store-carries : (m : Memory) (r k : ℕ) (ws : List ℕ) → 1 ≤ r → r ≤ 64 → k + length ws ≤ 256 → Carries m (store m (location r k) ws)
+pub store-carries : (m : Memory) (r k : ℕ) (ws : List ℕ) → 1 ≤ r → r ≤ 64 → k + length ws ≤ 256 → ProcessesStay m (store m (location r k) ws)
 store-carries m r k ws a b c =
     let e = area-record m r k ws 1 8 a b c in
     record { grows = omega arith; modules = λ p l h. area-record m r k ws p 1 a b c; begun = λ p l h n e. n (sym (area-record m r k ws p 0 a b c) ∙ e) }

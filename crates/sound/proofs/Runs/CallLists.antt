@@ -21,7 +21,7 @@ use Rattle.machine.proofs.Memories.{bytes-memory, length-bytes-at}
 use Rattle.machine.specs.Layout.{stateWords, stateSize, pageSize}
 use Rattle.sound.specs.Answers.{Listed}
 use Rattle.sound.specs.Reached.{Reached, Page, StepLaws, BeginLaw}
-use Rattle.sound.specs.Histories.{Seen, stateBytes, pageBytes, seen, trace, asked, told, processes, answers, finally, Threaded, Seeing, devicesAfter, Every, begunResult, begunState, result, stateLeft, pageLeft, answersLeft, Ask, callOf, refused, stepsOf, orderOf, writtenOf, history, order, written, Served, Devices, Handed, stateAfter, Fits, Calls, begunWith}
+use Rattle.sound.specs.Histories.{Seen, stateBytes, pageBytes, seen, trace, asked, told, processes, answers, finally, Threaded, Seeing, devicesAfter, Every, begunResult, begunState, result, stateLeft, pageLeft, answersLeft, Ask, callOf, refused, stepsOf, orderOf, writtenOf, history, order, written, Served, Devices, Handed, stateAfter, AskFits, Calls, begunWith}
 use Rattle.sound.proofs.Steps.WritesInside.{step-sized}
 use Rattle.sound.proofs.Memory.Bytes.{memory-small, memory-sized, memory-whole}
 
@@ -307,7 +307,7 @@ module _ (verdict : ℕ → List ℕ → ℕ) (w : ℕ) where
           answered = r .answered ∙ sym (written-answers (r .given) (x .answers) (length (x .schedule)) (r .long));
         })
 
-    call-follows : (s : List ℕ) (x : Ask) → At (tableOf w t) s → Fits verdict w t s x
+    call-follows : (s : List ℕ) (x : Ask) → At (tableOf w t) s → AskFits verdict w t s x
         → Follows (tableOf w t) s (stateLeft (callOf verdict w s x)) (orderOf verdict w s x) (writtenOf verdict w s x) (stepsOf verdict w s x)
     call-follows s x h f =
         cases (refused verdict w s x)
@@ -361,7 +361,7 @@ module _ (verdict : ℕ → List ℕ → ℕ) (w : ℕ) where
           state = sym (call-run s x m i h e k g .course .last);
         }
 
-    call-devices : (s : List ℕ) (x : Ask) → At (tableOf w t) s → Fits verdict w t s x → Devices verdict w s x
+    call-devices : (s : List ℕ) (x : Ask) → At (tableOf w t) s → AskFits verdict w t s x → Devices verdict w s x
     unfolding stepsOf Seeing devicesAfter
     call-devices s x h f =
         cases (refused verdict w s x)

@@ -74,12 +74,12 @@ module _ (number : ℕ) where
       (λ e. let x = record-high 1 10 in omega arith) (λ e. let x = record-high 1 8 in omega arith) (λ e. let x = record-high 1 6 in omega arith) (λ e. let x = record-high 1 0 in omega arith)
 
 module _ (T : Table) (ok : Accepted T) (number : ℕ) (zero-or-one : number ≤ 1) where
-  first-is : run.first T number ≡ standing (empty number) 1 (firstStmt T 0) 0 (moduleWords T 0) 1 0
-  unfolding run.first empty
+  first-is : run.initialState T number ≡ standing (empty number) 1 (firstStmt T 0) 0 (moduleWords T 0) 1 0
+  unfolding run.initialState empty
   first-is = refl
 
   -- the marks stand after all other words
-  begin-words : SameWords (run.first T number) (begin T number)
+  begin-words : SameWords (run.initialState T number) (begin T number)
   unfolding begin fill within
   begin-words = record { plain = λ i l. rw (both-false-l (leb plainWords i) (ltb i (plainWords + markWords)) (lt-leb plainWords i l)) refl }
 
@@ -172,4 +172,4 @@ module _ (T : Table) (ok : Accepted T) (number : ℕ) (zero-or-one : number ≤ 
         }
 
     pub begin-ruled : rule T (begin T number) ≡ true
-    begin-ruled = marks-rule T ok L (run.first T number) (begin T number) begin-words (rw first-is (rules T first first-ruled))
+    begin-ruled = marks-rule T ok L (run.initialState T number) (begin T number) begin-words (rw first-is (rules T first first-ruled))

@@ -19,7 +19,7 @@ use Rattle.numbers.proofs.BlockPromise.{program-there, program-kind}
 use Rattle.machine.specs.Memory.{Memory, update, within, fill, zeros}
 use Rattle.machine.specs.Layout.{recordAt, moduleAt, createdAt, failureAt, numberAt}
 use Rattle.machine.specs.Calls.{standing}
-use Rattle.machine.specs.Run.{first, begin}
+use Rattle.machine.specs.Run.{initialState, begin}
 use Rattle.machine.specs.Rule.{rule}
 use Rattle.verdict.specs.Accepted.{Accepted}
 use Rattle.sound.specs.Answers.{Small}
@@ -51,8 +51,8 @@ fill-small : (m : Memory) (a n v : ℕ) → Small m → v < 65536 → Small (fil
 unfolding fill
 fill-small m a n v h l = record { small = λ j. cases (within a n j) (λ e. rw e l) (λ e. rw e (h .small j)) }
 
-first-small : (T : Table) (number : ℕ) → number ≤ 1 → firstStmt T 0 < 65536 → moduleWords T 0 < 65536 → Small (first T number)
-unfolding first standing zeros
+first-small : (T : Table) (number : ℕ) → number ≤ 1 → firstStmt T 0 < 65536 → moduleWords T 0 < 65536 → Small (initialState T number)
+unfolding initialState standing zeros
 first-small T number u f w =
     update-small _ _ _ (update-small _ _ _ (update-small _ _ _ (update-small _ _ _ (update-small _ _ _
     (update-small _ _ _ (update-small _ _ _ (update-small _ _ _ (update-small zeros _ _ (record { small = λ i. omega arith }) (omega arith)) (omega arith)) (omega arith)) (omega arith))
@@ -75,18 +75,18 @@ begin-reached T ok words ruled =
 -- it has one process, which runs block 0
 module _ (T : Table) (number : ℕ) where
   pub begin-created : begin T number createdAt ≡ 1
-  unfolding begin first fill within both standing update zeros recordAt
+  unfolding begin initialState fill within both standing update zeros recordAt
   begin-created = refl
 
   pub begin-block : begin T number (moduleAt 1) ≡ 0
-  unfolding begin first fill within both standing update zeros recordAt
+  unfolding begin initialState fill within both standing update zeros recordAt
   begin-block = refl
 
   pub begin-mark : begin T number failureAt ≡ 0
-  unfolding begin first fill within both standing update zeros recordAt
+  unfolding begin initialState fill within both standing update zeros recordAt
   begin-mark = refl
 
   -- and its number
   pub begin-number : begin T number numberAt ≡ number
-  unfolding begin first fill within both standing update zeros recordAt
+  unfolding begin initialState fill within both standing update zeros recordAt
   begin-number = refl

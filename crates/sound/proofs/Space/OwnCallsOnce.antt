@@ -18,7 +18,7 @@ use Rattle.machine.specs.Layout.{moduleAt, callerFrame, callStatement, callerWo
 use Rattle.machine.specs.Entries.{Statement, skip, assign, localCall, processCall, create, start, opener, arm, endArms, write, blockEnd, noStatement, stmtAt}
 use Rattle.machine.specs.Space.{callWords, isProcedureOf, eachOnce, ownWords}
 use Rattle.machine.specs.Rule.{worked, worksBy, calls}
-use Rattle.sound.specs.Ruled.{Chained, bottom, called}
+use Rattle.sound.specs.Ruled.{CallChain, bottom, called}
 use Rattle.sound.specs.Space.{HasCall, LeadsToCall, atOnce, by, NoRecursion}
 use Rattle.sound.proofs.Rule.RuleRecord.{procedure-there, procedure-i, lies-i}
 use Rattle.sound.proofs.Rule.WorkedProcesses.{worked-own}
@@ -95,7 +95,7 @@ module _ (T : Table) where
 
 module _ (T : Table) (m : Memory) (p : ℕ) (none : NoRecursion T (m (moduleAt p))) where
   -- the d calls of the process stand at a local call of q, and g counts procedures that q leads to
-  once : (d f w c top : ℕ) → w ≡ p → Chained T m p d f w c top → (g : ℕ → ℕ) → ((i : ℕ) → g i ≤ wordsIn T (m (moduleAt p)) i)
+  once : (d f w c top : ℕ) → w ≡ p → CallChain T m p d f w c top → (g : ℕ → ℕ) → ((i : ℕ) → g i ≤ wordsIn T (m (moduleAt p)) i)
       → (q first count : ℕ) → stmtAt T c ≡ localCall q first count → isProcedureOf T (m (moduleAt p)) q ≡ true
       → ((i : ℕ) → (g i ≡ 0 → ⊥) → LeadsToCall T q i)
       → sumBelow (blockCount T) g + callWords T q + ownWords T m p d f ≤ sumBelow (blockCount T) (wordsIn T (m (moduleAt p)))
@@ -118,7 +118,7 @@ module _ (T : Table) (m : Memory) (p : ℕ) (none : NoRecursion T (m (moduleAt p
       let z = own-more T m p d f o in
       omega arith
 
-  pub own-once : (d f w c top : ℕ) → w ≡ p → Chained T m p d f w c top → (q first count : ℕ) → stmtAt T c ≡ localCall q first count
+  pub own-once : (d f w c top : ℕ) → w ≡ p → CallChain T m p d f w c top → (q first count : ℕ) → stmtAt T c ≡ localCall q first count
       → isProcedureOf T (m (moduleAt p)) q ≡ true → ownWords T m p d f + callWords T q ≤ eachOnce T (m (moduleAt p)) (blockCount T)
   unfolding eachOnce wordsIn
   own-once d f w c top i r q first count s P =

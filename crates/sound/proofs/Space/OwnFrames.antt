@@ -11,7 +11,7 @@ use Rattle.machine.specs.Layout.{statusAt, moduleAt, statementAt, frameAt, topA
 use Rattle.machine.specs.Rule.{rule}
 use Rattle.machine.specs.Space.{callWords, ownWords}
 use Rattle.sound.specs.InUse.{Created}
-use Rattle.sound.specs.Ruled.{Chained, bottom, called}
+use Rattle.sound.specs.Ruled.{CallChain, bottom, called}
 use Rattle.sound.proofs.Rule.RuleRecord.{ruled}
 use Rattle.sound.proofs.Rule.Workers.{own-caller}
 
@@ -21,7 +21,7 @@ module _ (T : Table) (m : Memory) (p : ℕ) where
   unfolding ownWords
   own-more d f e = rw (eq-eqb (callerWorks m p f) p e)
 
-  chain-words : (d f w c top : ℕ) → w ≡ p → Chained T m p d f w c top → top ≡ moduleWords T (m (moduleAt p)) + ownWords T m p d f
+  chain-words : (d f w c top : ℕ) → w ≡ p → CallChain T m p d f w c top → top ≡ moduleWords T (m (moduleAt p)) + ownWords T m p d f
   unfolding ownWords callWords
   chain-words zero f w c top i (bottom k) = let e = k .ends in omega arith
   chain-words (suc d) f w c top i (called k r) =

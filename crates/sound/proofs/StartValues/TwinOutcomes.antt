@@ -7,7 +7,7 @@ use lib.ListN.{length}
 use lib.Dec.{eqb}
 use Rattle.basics.specs.Choice.{pick}
 use Rattle.types.specs.Types.{NodeType, numbered, string}
-use Rattle.machine.specs.Outcomes.{Outcome, ok, fail, stuck, andThen, need, failWhere, Operand, place, value, text, placed, valued, typed, onPlace, onValue, onTyped, wordOf, onWord}
+use Rattle.machine.specs.Outcomes.{Outcome, ok, fail, stuck, andThen, need, failWhere, Operand, place, value, text, placed, valued, typedWords, onPlace, onValue, onTyped, wordOf, onWord}
 use Rattle.machine.specs.Entries.{TypeEntry, integer, boolean, character, recordType, arrayType, processType, noType, Opener, Statement, skip, assign, localCall, processCall, create, start, opener, arm, endArms, write, blockEnd, noStatement}
 use Rattle.machine.specs.Operands.{onArray}
 use Rattle.machine.specs.Processes.{onModule}
@@ -74,8 +74,8 @@ module _ {B : Type 0} (R : B → B → Type 0) where
   valued-meets (text ws) f g h = strays
 
   typed-meets : (y : Operand) (f g : NodeType → List ℕ → Outcome B) → ((τ : ℕ) (ws : List ℕ) → y ≡ value τ ws → Meets R (f (numbered τ) ws) (g (numbered τ) ws))
-      → ((ws : List ℕ) → y ≡ text ws → Meets R (f (string (length ws)) ws) (g (string (length ws)) ws)) → Meets R (typed y f) (typed y g)
-  unfolding typed
+      → ((ws : List ℕ) → y ≡ text ws → Meets R (f (string (length ws)) ws) (g (string (length ws)) ws)) → Meets R (typedWords y f) (typedWords y g)
+  unfolding typedWords
   typed-meets (place a τ) f g h k = strays
   typed-meets (value τ ws) f g h k = h τ ws refl
   typed-meets (text ws) f g h k = k ws refl

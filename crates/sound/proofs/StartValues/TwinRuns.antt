@@ -29,8 +29,8 @@ use Rattle.sound.proofs.StartValues.TwinSteps.{TwinStep, twin-step}
 -- ---- begin
 
 -- the number says no other word of the areas and control records
-first-same : (T : Table) (n k i : ℕ) → (i ≡ numberAt → ⊥) → start.first T k i ≡ start.first T n i
-unfolding start.first standing update
+first-same : (T : Table) (n k i : ℕ) → (i ≡ numberAt → ⊥) → start.initialState T k i ≡ start.initialState T n i
+unfolding start.initialState standing update
 first-same T n k i d = rw (ne-eqb i numberAt d)
 
 begin-same : (T : Table) (n k i : ℕ) → i < plainWords → (i ≡ numberAt → ⊥) → begin T k i ≡ begin T n i

@@ -28,9 +28,9 @@ use Rattle.machine.specs.Variables.{frameWords}
 use Rattle.machine.specs.Operands.{operand}
 use Rattle.machine.specs.Calls.{arguments, frame, topAfter, pushed, frameMarked, call, popped, returns, return}
 use Rattle.machine.specs.Processes.{onProcess, refers, onReference, created, started}
-use Rattle.machine.specs.Statements.{Effect, effect, Choice, enters, skips, endOf, free, goTo, goOn, wait, moved, doAssign, doLocalCall, doProcessCall, doCreate, doStart, choose, chosen, doOpener, doEnd, doWrite, doBlockEnd, perform}
+use Rattle.machine.specs.Statements.{Effect, effect, Choice, enters, skips, endOf, canServe, goTo, goOn, wait, moved, doAssign, doLocalCall, doProcessCall, doCreate, doStart, choose, chosen, doOpener, doEnd, doWrite, doBlockEnd, perform}
 use Rattle.sound.specs.Conditions.{Selects, Gives, aValue, aText}
-use Rattle.sound.specs.Ruled.{Chained}
+use Rattle.sound.specs.Ruled.{CallChain}
 use Rattle.sound.proofs.Evaluation.OperandSizes.{place-fits, place-area, gives-long}
 use Rattle.sound.proofs.Memory.ProcessRecords.{location-end, refers-most, refers-some}
 use Rattle.sound.proofs.StartValues.TwinOutcomes.{Meets, Equal, Same, same, gives, fails, strays, unset, m-then, m-test, m-where, m-unset, m-pick, m-place, m-typed, m-word, m-module, m-arms, m-opener}
@@ -44,7 +44,7 @@ pub data Alike : Effect → Effect → Type 0 where
 module _ (T : Table) (m s page : Memory) (x : Context) (t : Twin m s) (some : 1 ≤ x .process) (most : x .process ≤ 64)
     (works : 1 ≤ x .works) (last : x .works ≤ 64) (few : m createdAt ≤ 64)
     (room : (m (depthAt (x .process)) ≡ 0 → ⊥) → x .frame + 4 ≤ 256)
-    (chained : Chained T m (x .process) (m (depthAt (x .process))) (x .frame) (x .works) (x .statement) (m (topAt (x .process)))) where
+    (chained : CallChain T m (x .process) (m (depthAt (x .process))) (x .frame) (x .works) (x .statement) (m (topAt (x .process)))) where
   own : (k : ℕ) → k < 10 → s (recordAt (x .process) k) ≡ m (recordAt (x .process) k)
   own k l = at-record m s t (x .process) k (omega arith)
 
@@ -168,8 +168,8 @@ module _ (T : Table) (m s page : Memory) (x : Context) (t : Twin m s) (some : 1 
       m-place Alike (operand T m page x a) (operand T s page x a) _ _ (operands a) (λ i τ e.
       m-module Alike (typeAt T τ) _ _ (λ μ. h i μ (place-area T m page x a i τ e)))
 
-  free-same : (r : ℕ) → 1 ≤ r → r ≤ 64 → free s r ≡ free m r
-  unfolding free
+  free-same : (r : ℕ) → 1 ≤ r → r ≤ 64 → canServe s r ≡ canServe m r
+  unfolding canServe
   free-same r a b = rw (at-record m s t r 0 (omega arith), at-record m s t r 6 (omega arith))
 
   process-calls : (a q c d : ℕ) → Meets Alike (doProcessCall T m page x a q c d) (doProcessCall T s page x a q c d)
@@ -177,7 +177,7 @@ module _ (T : Table) (m s page : Memory) (x : Context) (t : Twin m s) (some : 1 
   process-calls a q c d =
       m-process a _ _ (λ i μ l. m-test Alike _ _ _ (λ h. m-reference i μ _ _ l (λ r u v.
       rw (free-same r u v)
-      (m-pick Alike (free m r) _ _ _ _
+      (m-pick Alike (canServe m r) _ _ _ _
       (λ e. m-then Alike (arguments T m page x q c d) (arguments T s page x q c d) _ _ (arguments-same T m s page x t most q c d)
       (λ ws g. moves _ _ (calls _ _ q r ws (twin-word m s t r 6 (x .process) (omega arith)))))
       (λ e. waits-alike m s t)))))

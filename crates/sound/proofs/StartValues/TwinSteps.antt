@@ -15,7 +15,7 @@ use Rattle.machine.specs.Outcomes.{Outcome}
 use Rattle.machine.specs.Entries.{stmtAt}
 use Rattle.machine.specs.Context.{Context, blockOf, contextOf, contextual}
 use Rattle.machine.specs.Statements.{Effect, perform}
-use Rattle.machine.specs.Step.{done, settled, answers, performs, proceeds, exists, turn, step}
+use Rattle.machine.specs.Step.{done, settled, answersOnly, performs, proceeds, exists, turn, step}
 use Rattle.machine.specs.Rule.{rule}
 use Rattle.machine.proofs.Tests.{range-low, range-high}
 use Rattle.sound.proofs.Rule.RuleRecord.{ruled}
@@ -77,7 +77,7 @@ module _ (T : Table) (m s page : Memory) (p : ℕ) (t : Twin m s) (meets : rule 
           (stmtAt T (contextOf m p .statement)) one)))
 
     proceeds-same : p ≤ m createdAt → m (statusAt p) ≡ 2 → 1 ≤ m createdAt → m createdAt ≤ 64 → Meets Alike (proceeds T m page p) (proceeds T s page p)
-    unfolding proceeds answers
+    unfolding proceeds answersOnly
     proceeds-same made begun one few =
         rw (own 5 (omega arith), at-record m s t 1 8 (omega arith))
         (m-test Alike (between 1 (m createdAt) (m (worksAt p))) _ _ (λ e.
@@ -88,7 +88,7 @@ module _ (T : Table) (m s page : Memory) (p : ℕ) (t : Twin m s) (meets : rule 
         (λ h. performs-same a (omega arith) made begun one few) (λ h. gives (alike t)))))
 
     exists-same : p ≤ m createdAt → 1 ≤ m createdAt → m createdAt ≤ 64 → Meets Alike (exists T m page p) (exists T s page p)
-    unfolding exists answers
+    unfolding exists answersOnly
     exists-same made one few =
         rw (own 0 (omega arith))
         (m-pick Alike (eqb (m (statusAt p)) 3) _ _ _ _ (λ e. gives (alike t)) (λ e.
@@ -96,7 +96,7 @@ module _ (T : Table) (m s page : Memory) (p : ℕ) (t : Twin m s) (meets : rule 
         m-test Alike _ _ _ (λ g. proceeds-same made (eqb-true _ 2 g) one few))))
 
   turn-same : Meets Alike (turn T m page p) (turn T s page p)
-  unfolding turn answers
+  unfolding turn answersOnly
   turn-same =
       rw (at-record m s t 1 9 (omega arith), at-record m s t 1 8 (omega arith))
       (m-pick Alike (eqb (m failureAt) 0) _ _ _ _

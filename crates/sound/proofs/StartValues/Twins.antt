@@ -16,7 +16,7 @@ use Rattle.machine.specs.Space.{ownWords}
 use Rattle.machine.specs.Calls.{standing}
 use Rattle.machine.proofs.Memories.{update-other, store-above, clear-above, clear-below}
 use Rattle.machine.proofs.MarkLaws.{marks-word, marks-kept, each-all}
-use Rattle.sound.specs.Ruled.{Chained, bottom, called}
+use Rattle.sound.specs.Ruled.{CallChain, bottom, called}
 use Rattle.sound.proofs.Memory.ProcessRecords.{location-end}
 
 pub record Twin (m s : Memory) : Type 0 where
@@ -64,7 +64,7 @@ module _ (m s : Memory) (t : Twin m s) where
   at-link p f k h l z = at-area p (f + k) h (omega arith)
 
   -- the links of calls that have not ended lie in the area
-  pub same-own : (T : Table) (p d f w c top : ℕ) → p ≤ 64 → Chained T m p d f w c top → ownWords T s p d f ≡ ownWords T m p d f
+  pub same-own : (T : Table) (p d f w c top : ℕ) → p ≤ 64 → CallChain T m p d f w c top → ownWords T s p d f ≡ ownWords T m p d f
   unfolding ownWords
   same-own T p _ f w c top h (bottom b) = refl
   same-own T p _ f w c top h (called {d = d} r k) =

@@ -21,8 +21,8 @@ use Rattle.machine.specs.Variables.{frameWords}
 use Rattle.machine.specs.Operands.{operand}
 use Rattle.machine.specs.Calls.{arguments, frame, topAfter, pushed, call, popped}
 use Rattle.machine.specs.Processes.{onProcess, onReference, started}
-use Rattle.machine.specs.Statements.{Effect, effect, goTo, goOn, wait, moved, doLocalCall, free, doProcessCall, doStart, perform}
-use Rattle.machine.specs.Step.{done, settled, answers, performs, proceeds, exists, turn, step}
+use Rattle.machine.specs.Statements.{Effect, effect, goTo, goOn, wait, moved, doLocalCall, canServe, doProcessCall, doStart, perform}
+use Rattle.machine.specs.Step.{done, settled, answersOnly, performs, proceeds, exists, turn, step}
 use Rattle.machine.proofs.MarkLaws.{same-words, same-marks}
 use Rattle.machine.proofs.Tests.{range-low, range-high, failure-low}
 use Rattle.machine.proofs.Outcomes.{g-then, g-test, g-need, g-where, g-pick, g-place, g-module}
@@ -110,7 +110,7 @@ module _ (T : Table) (m page : Memory) (x : Context) where
         g-place Keeping none (operand T m page x a) _ (λ f e. fails)
         (λ i τ e. g-module Keeping none (typeAt T τ) _ (λ μ t. g-need Keeping none _ _
         (g-where Keeping none _ 31 _ (λ z. fails) (λ z. g-where Keeping none _ 19 _ (λ z. fails) (λ z. g-need Keeping none _ _
-        (cases (free m (m i))
+        (cases (canServe m (m i))
         (λ k. rw k (g-then Keeping none (arguments T m page x q c d) _ (λ f u. fails)
         (λ ws u. moved-keeps _ (within-call _ q (m i) ws (holder-still (m i) _)))))
         (λ k. rw k (keeps (still m)))))))))
@@ -196,8 +196,8 @@ module _ (T : Table) (m page : Memory) (p : ℕ) where
     fails : {n : ℕ} → isFailure n ≡ true → Left (fail n)
     none : Left stuck
 
-  answers-left : (a : ℕ) → (a ≡ 0 → ⊥) → Left (answers T m page p a)
-  unfolding answers
+  answers-left : (a : ℕ) → (a ≡ 0 → ⊥) → Left (answersOnly T m page p a)
+  unfolding answersOnly
   answers-left a e = left (other-step a e)
 
   comes-left : m createdAt ≤ 64 → (S : Statement) (o : Outcome Effect) → next T m page p ≡ S → Comes T m page (contextOf m p) S o → Left o

@@ -26,7 +26,7 @@ use Rattle.machine.specs.Processes.{refers, created, started}
 use Rattle.machine.specs.Context.{contextOf, blockOf}
 use Rattle.machine.specs.Calls.{frame, topAfter, pushed, frameMarked, call, return}
 use Rattle.machine.specs.Statements.{Effect, effect, perform}
-use Rattle.machine.specs.Step.{settled, answers, proceeds, exists, turn, step}
+use Rattle.machine.specs.Step.{settled, answersOnly, proceeds, exists, turn, step}
 use Rattle.machine.specs.Step as steps
 use Rattle.machine.specs.Rule.{liesIn, rule}
 use Rattle.machine.proofs.Tests.{range-low, range-high, range-i, failure-byte}
@@ -35,10 +35,10 @@ use Rattle.machine.proofs.MarkLaws.{SameWords, same-words, same-marks, same-upd
 use Rattle.verdict.specs.Accepted.{Accepted}
 use Rattle.sound.specs.Claims.{PlaceLaws, Started}
 use Rattle.sound.specs.Answers.{Small, Listed, regular, failure, Sound}
-use Rattle.sound.specs.Ruled.{Ruled, Calling}
+use Rattle.sound.specs.Ruled.{Ruled, CallOutcome}
 use Rattle.sound.specs.Ruled as called
 use Rattle.sound.specs.Reached.{WordTable}
-use Rattle.sound.specs.Evaluated.{SmallWords, Live, Pushable, Passing, Performed, goes, holds-on, gives-up, assigns, calls, serves, waits, creates, starts, writes, ends, returns, fails}
+use Rattle.sound.specs.Evaluated.{SmallWords, Live, Pushable, CannotWait, Performed, goes, holds-on, gives-up, assigns, calls, serves, waits, creates, starts, writes, ends, returns, fails}
 use Rattle.sound.proofs.Rule.RuleRecord.{ruled, stands, contexts}
 use Rattle.sound.proofs.Memory.Writes.{update-small, store-small}
 use Rattle.sound.proofs.RuleKept.Marks.{marks-small, frame-marks-small, marks-rule}
@@ -71,7 +71,7 @@ zeros-small n = record { words = go n }
     go (suc n) zero = omega arith
     go (suc n) (suc i) = go n i
 
-entered : (T : Table) (o : Outcome Memory) (n : Memory) → Calling T o → o ≡ ok n → rule T n ≡ true
+entered : (T : Table) (o : Outcome Memory) (n : Memory) → CallOutcome T o → o ≡ ok n → rule T n ≡ true
 entered T _ n (called.enters s h) e = let z : s ≡ n = cc in rw z at h
 entered T _ n called.full e = let z : _≡_ {A = ℕ} 0 1 = cc in absurd (omega arith)
 
@@ -155,7 +155,7 @@ module _ (T : Table) (acc : Accepted T) (inner : scoped T ≡ true) (L : PlaceLa
   goes-on-small u on h = update-small u (statementAt p) (m (statementAt p) + 1) h (lies-small T W (blockOf m p) (m (statementAt p) + 1) on)
 
   -- creation and start
-  create-kept : (τ a : ℕ) → Passing T m p → liesIn T (blockOf m p) (m (statementAt p) + 1) ≡ true → Live T m p τ a → typeKind T τ ≡ 3 → m createdAt < 64
+  create-kept : (τ a : ℕ) → CannotWait T m p → liesIn T (blockOf m p) (m (statementAt p) + 1) ≡ true → Live T m p τ a → typeKind T τ ≡ 3 → m createdAt < 64
       → Kept T (ok (effect 0 (update (mark (fresh (update (created m (m createdAt + 1) (typeP T τ)) a (m createdAt + 1)) (location (m createdAt + 1) 0) 256) a 1) (statementAt p) (m (statementAt p) + 1)) page))
   create-kept τ a y on l k room =
       let μ = process-module T (acc .numbers) τ (l .type) k in
@@ -176,7 +176,7 @@ module _ (T : Table) (acc : Accepted T) (inner : scoped T ≡ true) (L : PlaceLa
       (update-small _ (holderAt r) r (update-small _ (statusAt r) 2 (store-small m (location r 0) ws ms (λ k g. w .words k)) (omega arith)) s)
       (W .cells 3 μ 5) (omega arith) (omega arith) s (omega arith)
 
-  return-kept : (n : Memory) → Passing T m p → (m (depthAt p) ≡ 0 → ⊥) → return T m page (contextOf m p) ≡ ok n → Small n → Kept T (ok (effect 0 n page))
+  return-kept : (n : Memory) → CannotWait T m p → (m (depthAt p) ≡ 0 → ⊥) → return T m page (contextOf m p) ≡ ok n → Small n → Kept T (ok (effect 0 n page))
   return-kept n y d e v =
       let z : m (depthAt p) ≡ suc (m (depthAt p) - 1) = omega arith in
       let r = return-rule T acc L m page p S y (m (depthAt p) - 1) z in
@@ -219,8 +219,8 @@ module _ (T : Table) (acc : Accepted T) (inner : scoped T ≡ true) (L : PlaceLa
   Rm : Ruled T m
   Rm = ruled T m rm
 
-  answers-kept : (a : ℕ) → Listed a → Kept T (answers T m page p a)
-  unfolding answers
+  answers-kept : (a : ℕ) → Listed a → Kept T (answersOnly T m page p a)
+  unfolding answersOnly
   answers-kept a l = kept a m page l rm ms ps
 
   needs : (b : Bool) (o : Outcome Effect) → b ≡ true → Kept T o → Kept T (need b o)

@@ -27,15 +27,15 @@ use Rattle.machine.specs.Variables.{frameWords, fits}
 use Rattle.machine.specs.Operands.{operand}
 use Rattle.machine.specs.Calls.{standing, arguments, frame, topAfter, pushed, frameMarked, call, popped}
 use Rattle.machine.specs.Processes.{onProcess, onReference, created, started}
-use Rattle.machine.specs.Statements.{Effect, effect, goTo, goOn, wait, moved, doLocalCall, free, doProcessCall, doStart, perform}
-use Rattle.machine.specs.Step.{done, settled, answers, performs, proceeds, exists, turn, step}
-use Rattle.machine.specs.Run.{first, begin}
+use Rattle.machine.specs.Statements.{Effect, effect, goTo, goOn, wait, moved, doLocalCall, canServe, doProcessCall, doStart, perform}
+use Rattle.machine.specs.Step.{done, settled, answersOnly, performs, proceeds, exists, turn, step}
+use Rattle.machine.specs.Run.{initialState, begin}
 use Rattle.machine.proofs.Memories.{location-plus}
 use Rattle.machine.proofs.MarkLaws.{marks-others}
 use Rattle.machine.proofs.Tests.{range-low, range-high}
 use Rattle.machine.proofs.Outcomes.{g-then, g-test, g-need, g-where, g-pick, g-place, g-module}
 use Rattle.sound.specs.Carried.{Carries, skips, assigns, callsLocal, callsProcess, creates, starts, enters, passes, leaves, again, writes, returnsLocal, returnsProcess}
-use Rattle.sound.specs.Reached.{Sized, Kept}
+use Rattle.sound.specs.Reached.{ZeroFrom, WithinSizes}
 use Rattle.sound.proofs.Rows.StatementRules.{gives, keeps, Reports, went, waited, ended, failed, strays, reports}
 use Rattle.sound.proofs.Evaluation.OperandSizes.{device-word, place-fits, place-area, gives-long}
 use Rattle.sound.proofs.Memory.ProcessRecords.{refers-most}
@@ -43,25 +43,25 @@ use Rattle.sound.proofs.StartValues.NumberStays.{Numbered, numbered, nu
 
 -- ---- writes
 
-module _ (n : ℕ) (m : Memory) (h : Sized n m) where
-  update-sized : (i v : ℕ) → i < n → Sized n (update m i v)
+module _ (n : ℕ) (m : Memory) (h : ZeroFrom n m) where
+  update-sized : (i v : ℕ) → i < n → ZeroFrom n (update m i v)
   unfolding update
   update-sized i v l = record { beyond = λ j k. rw (ne-eqb j i (λ e. omega arith)) (h .beyond j k) }
 
-  store-sized : (a : ℕ) (ws : List ℕ) → a + length ws ≤ n → Sized n (store m a ws)
+  store-sized : (a : ℕ) (ws : List ℕ) → a + length ws ≤ n → ZeroFrom n (store m a ws)
   unfolding store within
   store-sized a ws l = record { beyond = λ j k. rw (both-false-r (leb a j) (ltb j (a + length ws)) (le-ltb j (a + length ws) (omega arith))) (h .beyond j k) }
 
-  clear-sized : (a k : ℕ) → Sized n (clear m a k)
+  clear-sized : (a k : ℕ) → ZeroFrom n (clear m a k)
   unfolding clear
   clear-sized a k = record { beyond = λ j l. cases (within a k j) (λ e. rw e) (λ e. rw e (h .beyond j l)) }
 
-  fill-sized : (a k v : ℕ) → a + k ≤ n → Sized n (fill m a k v)
+  fill-sized : (a k v : ℕ) → a + k ≤ n → ZeroFrom n (fill m a k v)
   unfolding fill within
   fill-sized a k v l = record { beyond = λ j g. rw (both-false-r (leb a j) (ltb j (a + k)) (le-ltb j (a + k) (omega arith))) (h .beyond j g) }
 
 -- the marks of locations
-marks-sized : (m : Memory) (a n : ℕ) (v : Bool) → Sized stateWords m → a + n ≤ locations → Sized stateWords (setMarks m a n v)
+marks-sized : (m : Memory) (a n : ℕ) (v : Bool) → ZeroFrom stateWords m → a + n ≤ locations → ZeroFrom stateWords (setMarks m a n v)
 unfolding markWord
 marks-sized m a n v h l = record { beyond = λ j g. marks-others m a n j v (λ k i e. omega arith) ∙ h .beyond j g }
 
@@ -74,11 +74,11 @@ location-in : (p k : ℕ) → p ≤ 64 → k ≤ 256 → location p k ≤ locati
 unfolding location
 location-in p k h l = omega arith
 
-module _ (m : Memory) (h : Sized stateWords m) (p : ℕ) (l : p ≤ 64) where
-  record-sized : (k v : ℕ) → k < 20 → Sized stateWords (update m (recordAt p k) v)
+module _ (m : Memory) (h : ZeroFrom stateWords m) (p : ℕ) (l : p ≤ 64) where
+  record-sized : (k v : ℕ) → k < 20 → ZeroFrom stateWords (update m (recordAt p k) v)
   record-sized k v g = update-sized stateWords m h (recordAt p k) v (record-in p k l g)
 
-standing-sized : (m : Memory) (p c f t w d : ℕ) → Sized stateWords m → p ≤ 64 → Sized stateWords (standing m p c f t w d)
+standing-sized : (m : Memory) (p c f t w d : ℕ) → ZeroFrom stateWords m → p ≤ 64 → ZeroFrom stateWords (standing m p c f t w d)
 unfolding standing
 standing-sized m p c f t w d h l =
     record-sized _ (record-sized _ (record-sized _ (record-sized _ (record-sized m h p l 2 c (omega arith)) p l 3 f (omega arith)) p l 4 t (omega arith)) p l 5 w (omega arith)) p l 7 d (omega arith)
@@ -95,7 +95,7 @@ room T i τ κ ws f l e =
 -- ---- what is written to state m: s is a state, with the number of m and, under 1, its marks
 
 record Written (m s : Memory) : Type 0 where
-  sized : Sized stateWords s
+  sized : ZeroFrom stateWords s
   numbered : Numbered m s
 
 module _ (m s : Memory) (h : Written m s) where
@@ -120,7 +120,7 @@ module _ (m s : Memory) (h : Written m s) where
 -- ---- statements
 
 data Inside (m : Memory) : Outcome Effect → Type 0 where
-  inside : {a : ℕ} {s d : Memory} → Written m s → Sized pageWords d → Inside m (ok (effect a s d))
+  inside : {a : ℕ} {s d : Memory} → Written m s → ZeroFrom pageWords d → Inside m (ok (effect a s d))
   fails : {n : ℕ} → Inside m (fail n)
   none : Inside m stuck
 
@@ -129,7 +129,7 @@ data Within (m : Memory) : Outcome Memory → Type 0 where
   fails : {n : ℕ} → Within m (fail n)
   none : Within m stuck
 
-module _ (T : Table) (m page : Memory) (x : Context) (hm : Sized stateWords m) (hp : Sized pageWords page)
+module _ (T : Table) (m page : Memory) (x : Context) (hm : ZeroFrom stateWords m) (hp : ZeroFrom pageWords page)
     (lp : x .process ≤ 64) (lw : x .works ≤ 64) (lc : m createdAt ≤ 64) (some : 1 ≤ m createdAt) where
   unwritten : Written m m
   unwritten = record { sized = hm; numbered = numbered m }
@@ -186,12 +186,12 @@ module _ (T : Table) (m page : Memory) (x : Context) (hm : Sized stateWords m) (
       g-place (Inside m) none (operand T m page x a) _ (λ f e. fails)
       (λ i τ e. g-module (Inside m) none (typeAt T τ) _ (λ μ t. g-need (Inside m) none _ _
       (g-where (Inside m) none _ 31 _ (λ z. fails) (λ z. g-where (Inside m) none _ 19 _ (λ z. fails) (λ z. g-test (Inside m) none _ _ (λ r.
-      cases (free m (m i))
+      cases (canServe m (m i))
       (λ k. rw k (g-then (Inside m) none (arguments T m page x q c d) _ (λ f u. fails)
       (λ ws u. moved-in _ (within-call _ q (m i) ws (record-written m m unwritten (m i) (refers-most m lc μ (m i) r) 6 _ (omega arith))))))
       (λ k. rw k (inside unwritten hp))))))))
 
-  created-sized : (n μ : ℕ) → n ≤ 64 → Sized stateWords (created m n μ)
+  created-sized : (n μ : ℕ) → n ≤ 64 → ZeroFrom stateWords (created m n μ)
   unfolding created
   created-sized n μ l =
       record-sized _ (record-sized _ (record-sized _ (clear-sized stateWords _ (clear-sized stateWords m hm _ _) _ _) n l 0 1 (omega arith)) n l 1 μ (omega arith)) 1 (omega arith) 8 n (omega arith)
@@ -258,12 +258,12 @@ module _ (T : Table) (m page : Memory) (x : Context) (hm : Sized stateWords m) (
 
 -- ---- steps
 
-module _ (T : Table) (m page : Memory) (p : ℕ) (hm : Sized stateWords m) (hp : Sized pageWords page) where
+module _ (T : Table) (m page : Memory) (p : ℕ) (hm : ZeroFrom stateWords m) (hp : ZeroFrom pageWords page) where
   same : Written m m
   same = record { sized = hm; numbered = numbered m }
 
-  answers-in : (a : ℕ) → Inside m (answers T m page p a)
-  unfolding answers
+  answers-in : (a : ℕ) → Inside m (answersOnly T m page p a)
+  unfolding answersOnly
   answers-in a = inside same hp
 
   performs-in : p ≤ 64 → m (worksAt p) ≤ 64 → m createdAt ≤ 64 → 1 ≤ m createdAt → Inside m (performs T m page p)
@@ -287,7 +287,7 @@ module _ (T : Table) (m page : Memory) (p : ℕ) (hm : Sized stateWords m) (hp :
       (λ l. exists-in (let u = range-high _ _ _ c in let v = range-high _ _ _ l in omega arith) (range-high _ _ _ c) (range-low _ _ _ c)) (λ l. answers-in 3)))
       (λ e. g-need (Inside m) none _ _ (answers-in (m failureAt)))
 
-  settled-in : (o : Outcome Effect) → Inside m o → (a : ℕ) (s d : Memory) → settled m page o ≡ done a s d → Written m s × Sized pageWords d
+  settled-in : (o : Outcome Effect) → Inside m o → (a : ℕ) (s d : Memory) → settled m page o ≡ done a s d → Written m s × ZeroFrom pageWords d
   unfolding settled
   settled-in _ (inside {s = s'} {d = d'} h g) a s d e =
       let x : s' ≡ s = cc in
@@ -300,7 +300,7 @@ module _ (T : Table) (m page : Memory) (p : ℕ) (hm : Sized stateWords m) (hp :
   settled-in _ none a s d e = let x : _≡_ {A = ℕ} 0 1 = cc in absurd (omega arith)
 
   -- A STEP WRITES INSIDE ITS STATE AND PAGE
-  pub step-sized : (a : ℕ) (s d : Memory) → step T m page p ≡ done a s d → Kept s d
+  pub step-sized : (a : ℕ) (s d : Memory) → step T m page p ≡ done a s d → WithinSizes s d
   unfolding step
   step-sized a s d e = let x = settled-in _ turn-in a s d e in record { state = x .0 .sized; page = x .1 }
 
@@ -310,12 +310,12 @@ module _ (T : Table) (m page : Memory) (p : ℕ) (hm : Sized stateWords m) (hp :
   step-numbered a s d e = settled-in _ turn-in a s d e .0 .numbered
 
 -- begin too
-first-sized : (T : Table) (number : ℕ) → Sized stateWords (first T number)
-unfolding first zeros
+first-sized : (T : Table) (number : ℕ) → ZeroFrom stateWords (initialState T number)
+unfolding initialState zeros
 first-sized T number =
     standing-sized _ 1 _ _ _ _ _
     (record-sized _ (record-sized _ (record-sized _ (record-sized zeros (record { beyond = λ i h. refl }) 1 (omega arith) 0 2 (omega arith)) 1 (omega arith) 6 1 (omega arith)) 1 (omega arith) 8 1 (omega arith)) 1 (omega arith) 10 number (omega arith)) (omega arith)
 
-pub begin-sized : (T : Table) (number : ℕ) → Sized stateWords (begin T number)
+pub begin-sized : (T : Table) (number : ℕ) → ZeroFrom stateWords (begin T number)
 unfolding begin
 begin-sized T number = fill-sized stateWords _ (first-sized T number) _ _ _ (omega arith)

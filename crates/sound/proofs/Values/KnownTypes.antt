@@ -10,7 +10,7 @@ use Rattle.basics.proofs.Courses.{upto-below, strong}
 use Rattle.table.specs.Table.{Table}
 use Rattle.table.specs.Entries.{typeCount, fieldCount, blockCount, typeKind, typeP, typeQ, blockKind}
 use Rattle.numbers.proofs.TypePromise.{fields-there, array-index}
-use Rattle.machine.specs.Variables.{isModule, knownType, knownAt, known}
+use Rattle.machine.specs.Variables.{isModule, knownType, knownAt, typeExists}
 use Rattle.machine.proofs.Entries.{at-integer, at-boolean, at-character, at-record, at-array, at-process}
 use Rattle.verdict.specs.Accepted.{Accepted}
 use Rattle.sound.proofs.Values.TypeKinds.{fieldAt, Form, is-integer, is-boolean, is-character, is-record, is-array, is-process, is-none, form, lower-field, lower-element, of-module, some-kind}
@@ -24,14 +24,14 @@ names-module T ok τ l e =
 
 module _ (T : Table) (ok : Accepted T) where
   unfoldable Knows : ℕ → Type 0
-  Knows τ = τ < 3 + typeCount T → known T τ ≡ true
+  Knows τ = τ < 3 + typeCount T → typeExists T τ ≡ true
 
-  lower-known : (τ σ : ℕ) → σ < τ → known T σ ≡ true → upto false (knownAt T) τ σ ≡ true
-  unfolding known
+  lower-known : (τ σ : ℕ) → σ < τ → typeExists T σ ≡ true → upto false (knownAt T) τ σ ≡ true
+  unfolding typeExists
   lower-known τ σ l h = upto-below false (knownAt T) τ σ l ∙ h
 
   known-step : (τ : ℕ) → ((k : ℕ) → k < τ → Knows k) → Form T τ → Knows τ
-  unfolding Knows known course knownAt knownType
+  unfolding Knows typeExists course knownAt knownType
   known-step τ ih (is-integer q) l = rw (q, at-integer T)
   known-step τ ih (is-boolean q) l = rw (q, at-boolean T)
   known-step τ ih (is-character q) l = rw (q, at-character T)
@@ -47,6 +47,6 @@ module _ (T : Table) (ok : Accepted T) where
   known-step τ ih (is-process e) l = rw (at-process T τ e) (names-module T ok τ l e)
   known-step τ ih (is-none g a b c e) l = absurd (some-kind T ok τ l g a b c)
 
-  pub known-type : (τ : ℕ) → τ < 3 + typeCount T → known T τ ≡ true
+  pub known-type : (τ : ℕ) → τ < 3 + typeCount T → typeExists T τ ≡ true
   unfolding Knows
   known-type = strong Knows (λ τ ih. known-step τ ih (form T τ))

@@ -5,13 +5,13 @@ use Rattle.code.specs.Code.{decoded}
 use Rattle.machine.specs.Memory.{memoryOf}
 use Rattle.machine.specs.Variables.{firstWords}
 use Rattle.values.specs.Walks.{Walked}
-use Rattle.state_rule.specs.Frames.{variableRow, frameVariable}
+use Rattle.state_rule.specs.Frames.{variableRow, frameVariableOk}
 use Rattle.state_rule.proofs.Frames.{walking, walked-more, walked-small}
 use Rattle.state_rule.proofs.areas.frames_hold.Statement.{statement}
 use Rattle.state_rule.proofs.areas.frames_hold.Tie as tie
 
 abbrev Inv-loop : tie.InvT-loop
-Inv-loop c sizes heads jumps state p d f q first count at₀ i₀ at i = (i ≤ count) × Walked (firstWords (decoded c) q) (variableRow (decoded c) q (frameVariable (decoded c) (memoryOf state) p d f)) i at
+Inv-loop c sizes heads jumps state p d f q first count at₀ i₀ at i = (i ≤ count) × Walked (firstWords (decoded c) q) (variableRow (decoded c) q (frameVariableOk (decoded c) (memoryOf state) p d f)) i at
 
 abbrev μ-loop : tie.MeasureT-loop
 μ-loop c sizes heads jumps state p d f q first count at₀ i₀ at i = count - i
