@@ -25,7 +25,7 @@
 int LLVMFuzzerTestOneInput(const uint8_t *data, size_t size);
 
 enum { WRONG_STATE = 1, WRONG_PAGE = 2, SHORT_ANSWERS = 4, LONG_ANSWERS = 8, WARM = 16, SINGLE_STEPS = 32, ZEROS = 64, REPEATED = 128 };
-/* A run goes by a plan where it has as many steps as the table has nodes (crates/stepper), at most 255. */
+/* A run goes by a plan where it has at least as many steps as the table has nodes (crates/stepper), at most 255. */
 enum { REPEATS = 4, SCHEDULE_MAX = REPEATS * 255, TAIL = 64 };
 
 struct input {

@@ -86,7 +86,7 @@ extern "C" {
 #define JOYCE_VERSION_MAJOR 2
 #define JOYCE_VERSION_MINOR 2
 #define JOYCE_VERSION_PATCH 1
-#define JOYCE_VERSION "2.2.1"
+#define JOYCE_VERSION "2.2.2"
 
 /* Sizes, in bytes. */
 #define JOYCE_STATE_SIZE 37376 /* a state: 64 areas of 512 bytes, 64 control records of 40, then a mark for each word of the areas */

@@ -26,7 +26,7 @@ use Rattle.code.specs.Code.{slotIn, decoded}
 use Rattle.operands.specs.declared.Context.{Context}
 use Rattle.operands.specs.Answers.{firstWord, Unstuck, Selectable, Evaluable, OneWord}
 use Rattle.operands.specs.Packed.{PlaceIs, Located, Evaluated}
-use Rattle.operands.specs.Places.{numbered, frameOffset, frameVariableAt, wholeAt, Named, elementAt}
+use Rattle.operands.specs.Places.{numbered, frameVariableWord, frameVariableAt, wholeAt, Named, elementAt}
 use Rattle.operands.specs.Ready.{contextIn, Working, Ready, Naming, Fielded, Sized, Indexed}
 use Rattle.operands.proofs.Packing.{told-word, told-failure, told-place, told-no-place, tell-place, tell-no-place}
 use Rattle.operands.proofs.Nodes.{is-whole, is-field, is-element, type-whole, type-field, type-element}
@@ -117,10 +117,10 @@ module _ (T : Table) (m page : Memory) (x : Context) (w : Working T x) (v : ℕ)
   inModule = need (ltb (offsetOf T (x .owner) v) 256) (placeAt T (location (x .works) (offsetOf T (x .owner) v)) (varType T v))
 
   unfoldable inFrame : Outcome Operand
-  inFrame = need (ltb (frameOffset T x v) 256) (placeAt T (frameVariableAt T m x v) (varType T v))
+  inFrame = need (ltb (frameVariableWord T x v) 256) (placeAt T (frameVariableAt T m x v) (varType T v))
 
   whole-is : wholePlace T m page (contextIn x) v ≡ pick (belongs T (x .owner) v) inModule (need (belongs T (x .block) v) inFrame)
-  unfolding wholePlace contextIn moduleVariable frameVariable frameOffset frameVariableAt inModule inFrame
+  unfolding wholePlace contextIn moduleVariable frameVariable frameVariableWord frameVariableAt inModule inFrame
   whole-is = need-is (typeExists T (varType T v)) _ u ∙ rw (← w .owns)
 
   -- belonging to a block is a matter of numbers, for a variable that exists
@@ -168,7 +168,7 @@ module _ (T : Table) (m page : Memory) (x : Context) (w : Working T x) (v : ℕ)
             (b, ltb-true (offsetOf T (x .owner) v) 256 (through (ltb (offsetOf T (x .owner) v) 256) _ (module-unstuck b)));
         ofFrame = λ e.
             let b = not-belongs e in
-            (frame-belongs b, ltb-true (frameOffset T x v) 256 (through (ltb (frameOffset T x v) 256) _ (frame-unstuck b)));
+            (frame-belongs b, ltb-true (frameVariableWord T x v) 256 (through (ltb (frameVariableWord T x v) 256) _ (frame-unstuck b)));
       }
 
   pub whole-done : wholePlace T m page (contextIn x) v ≡ ok (place (wholeAt T m x v) (varType T v))
@@ -182,7 +182,7 @@ module _ (T : Table) (m page : Memory) (x : Context) (w : Working T x) (v : ℕ)
       whole-is ∙ rw (e, belongs-numbered (x .owner) e) (d ∙ need-is (fits T a (varType T v)) _ (subst Unstuck d g)))
       (λ e.
       let g = frame-unstuck e in
-      let d = need-is (ltb (frameOffset T x v) 256) _ g in
+      let d = need-is (ltb (frameVariableWord T x v) 256) _ g in
       whole-is ∙ rw (e, frame-belongs e, not-numbered e) (d ∙ need-is (fits T (frameVariableAt T m x v) (varType T v)) _ (subst Unstuck d g)))
     where
       not-numbered : belongs T (x .owner) v ≡ false → numbered T (x .owner) v ≡ false

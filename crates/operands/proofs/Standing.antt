@@ -34,7 +34,7 @@ use Rattle.code.proofs.Slots.{slot-none}
 use Rattle.operands.specs.declared.Context.{Context}
 use Rattle.operands.specs.Bases.{contextAt, BaseNumbers}
 use Rattle.operands.specs.Packed.{PlaceIs}
-use Rattle.operands.specs.Places.{numbered, frameOffset, frameVariableAt, wholeAt, IndexIs, elementAt, Matched}
+use Rattle.operands.specs.Places.{numbered, frameVariableWord, frameVariableAt, wholeAt, IndexIs, elementAt, Matched}
 use Rattle.operands.specs.Ready.{Naming, Fielded, Sized, Indexed, Valued, Counted}
 
 pub memory-word : (s : List ℕ) (a r : ℕ) → r ≡ wordAt s a → r ≡ memoryOf s a
@@ -53,14 +53,14 @@ module _ (t : List ℕ) (x : Context) (v : ℕ) (h : Naming t x v) (w : ℕ) (e 
   module-low n = let g = module-is n in let u = h .named .ofModule n .1 in omega arith
 
   frame-is : numbered (decoded t) (x .owner) v ≡ false → w ≡ offsetOf (decoded t) (x .block) v
-  unfolding frameOffset
+  unfolding frameVariableWord
   frame-is n =
       let u = h .named .ofFrame n in
       let g = h .code .offsets (x .block) v (u .0) in
       let l = u .1 in omega arith
 
   frame-low : numbered (decoded t) (x .owner) v ≡ false → x .frame + 4 + w < 256
-  unfolding frameOffset
+  unfolding frameVariableWord
   frame-low n = let u = h .named .ofFrame n .1 in let g = frame-is n in omega arith
 
 -- the same by the numbers that a context is lent as
@@ -87,8 +87,8 @@ module _ (t l : List ℕ) (v : ℕ) (h : Naming t (contextAt l) v) (g : BaseNumb
         let a = g .owned in rw (n, ← i) (omega arith)
 
   module _ (e : b ≡ false) where
-    framed-sum : getD l 9 0 + w ≡ location (contextAt l .process) (frameOffset (decoded t) (contextAt l) v)
-    unfolding frameOffset location
+    framed-sum : getD l 9 0 + w ≡ location (contextAt l .process) (frameVariableWord (decoded t) (contextAt l) v)
+    unfolding frameVariableWord location
     framed-sum =
         let n = sym is-numbered ∙ e in
         let i = frame-is t (contextAt l) v h w hw n in
@@ -96,7 +96,7 @@ module _ (t l : List ℕ) (v : ℕ) (h : Naming t (contextAt l) v) (g : BaseNumb
         let a = g .framed (omega arith) in rw (← i) (omega arith)
 
     pub framed-low : getD l 9 0 + w < locations
-    unfolding frameOffset location
+    unfolding frameVariableWord location
     framed-low =
         let a = framed-sum in
         let i = h .named .ofFrame (sym is-numbered ∙ e) .1 in let j = h .context .processHigh in omega arith

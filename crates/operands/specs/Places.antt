@@ -21,14 +21,14 @@ use Rattle.operands.specs.declared.Context.{Context}
 unfoldable pub numbered : Table → ℕ → ℕ → Bool
 numbered T b v = within (firstVar T b) (vars T b) v
 
--- variable v of the process's block stands at word k of its own area
-unfoldable pub frameOffset : Table → Context → ℕ → ℕ
-frameOffset T x v = x .frame + 4 + offsetOf T (x .block) v
+-- the word of its own area where variable v of the process's block stands
+unfoldable pub frameVariableWord : Table → Context → ℕ → ℕ
+frameVariableWord T x v = x .frame + 4 + offsetOf T (x .block) v
 
 -- the location of a variable in a frame; a var parameter is bound to the location that stands there (12.1)
 unfoldable pub frameVariableAt : Table → Memory → Context → ℕ → ℕ
 frameVariableAt T m x v =
-    pick (eqb (varMode T v) 2) (m (location (x .process) (frameOffset T x v))) (location (x .process) (frameOffset T x v))
+    pick (eqb (varMode T v) 2) (m (location (x .process) (frameVariableWord T x v))) (location (x .process) (frameVariableWord T x v))
 
 -- the location of a whole variable: the module's or the procedure's (8.3, 13)
 unfoldable pub wholeAt : Table → Memory → Context → ℕ → ℕ
@@ -39,7 +39,7 @@ wholeAt T m x v =
 pub record Named (T : Table) (x : Context) (v : ℕ) : Type 0 where
   pub there : v < varCount T
   pub ofModule : numbered T (x .owner) v ≡ true → (belongs T (x .owner) v ≡ true) × (offsetOf T (x .owner) v < 256)
-  pub ofFrame : numbered T (x .owner) v ≡ false → (belongs T (x .block) v ≡ true) × (frameOffset T x v < 256)
+  pub ofFrame : numbered T (x .owner) v ≡ false → (belongs T (x .block) v ≡ true) × (frameVariableWord T x v < 256)
 
 -- how many elements lie before the one with index value i, of index values from low to high (8.5); 65,536 where i is outside
 pub record IndexIs (low high i r : ℕ) : Type 0 where

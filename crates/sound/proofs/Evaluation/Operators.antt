@@ -24,7 +24,7 @@ use Rattle.words.proofs.Integers.{word-lt, in-range-mag}
 use Rattle.words.proofs.StandardTypes.{boolean-is, character-is}
 use Rattle.words.proofs.BitLaws.{and-word, or-word, not-boolean, and-boolean, or-boolean}
 use Rattle.machine.specs.Memory.{Memory}
-use Rattle.machine.specs.Outcomes.{Outcome, fail, need, wordOf, isFailure}
+use Rattle.machine.specs.Outcomes.{fail, need, wordOf, isFailure}
 use Rattle.machine.specs.Entries.{unaryAt, binaryAt}
 use Rattle.machine.specs.Operands.{oneWord, truth, given, deviceWord, unaryValue, ordered, integral, logical, binaryValue, outside}
 use Rattle.machine.proofs.Tests.{failure-i}
