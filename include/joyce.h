@@ -85,7 +85,7 @@ extern "C" {
  * statically with the header that it came with. */
 #define JOYCE_VERSION_MAJOR 2
 #define JOYCE_VERSION_MINOR 2
-#define JOYCE_VERSION_PATCH 1
+#define JOYCE_VERSION_PATCH 2
 #define JOYCE_VERSION "2.2.2"
 
 /* Sizes, in bytes. */
