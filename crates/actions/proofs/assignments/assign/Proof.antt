@@ -11,7 +11,7 @@ assign-spec =
     (tie.spec
     (λ c κs. search needs)
     (λ c κs. (search needs, (search assigns, search roots)))
-    (λ c κs. (search needs, listed-fails _ (c .before .before .variable-at .ensures .listed) (search needs)))
+    (λ c κs. (search needs, listed-fails _ (c .before .before .select .ensures .listed) (search needs)))
     (λ c. search needs)
     (λ c. search answers)
     (λ c κs. search needs)
