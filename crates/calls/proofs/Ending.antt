@@ -4,12 +4,11 @@ use mathlib.Core.Path.{_≡_, refl, sym, ap, _∙_}
 use mathlib.Core.Bool.{Bool, true, false}
 use mathlib.Core.List.{List}
 use native.Mathlib.Omega.{arith}
-use borrow.Author.Tests.{eqb-true, ne-eqb, leb-true, ltb-true, lt-ltb}
-use lib.Dec.{eqb, ltb}
+use borrow.Author.Tests.{ne-eqb, leb-true, ltb-true, lt-ltb}
+use lib.Dec.{ltb}
 use mir.Val.{Fits}
 use mir.Syntax.{w64}
 use Rattle.basics.specs.Choice.{pick}
-use Rattle.basics.specs.Cases.{cases}
 use Rattle.basics.proofs.Bools.{both-l}
 use Rattle.table.specs.Table.{Table}
 use Rattle.table.specs.Entries.{stmtCount, stmtKind, stmtA, stmtB, stmtC, stmtD, stmtLink}

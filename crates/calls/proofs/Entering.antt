@@ -28,7 +28,7 @@ use Rattle.machine.specs.Statements.{Effect, effect, moved, doLocalCall, perfor
 use Rattle.code.specs.Code.{decoded}
 use Rattle.prepare.specs.Prepared.{Prepared}
 use Rattle.operands.specs.declared.Context.{Context}
-use Rattle.operands.specs.Ready.{contextIn, Ready}
+use Rattle.operands.specs.Ready.{contextIn}
 use Rattle.frames.specs.Frames.{FrameFits}
 use Rattle.frames.proofs.Asking.{call-room, call-over, call-fits, call-done}
 use Rattle.effects.specs.Effects.{statementStep, Stepped, Standing}
@@ -218,9 +218,6 @@ invoked-ok T m page x full st q r o ws e = rw e
 
 module _ (t m p : List ℕ) (x : Context) (q c d k : ℕ) (st : Memory) (r : ℕ)
     (h : Invoking t m p x q c d k st r) where
-  pub invoking-ready : Ready t m p x
-  invoking-ready = h .standing .ready
-
   pub invoking-lent : State m
   invoking-lent = stands-lent t m p x (h .standing)
 

@@ -16,7 +16,6 @@ use Rattle.types.specs.Types.{typeOf, numbered}
 use Rattle.types.specs.Match.{matching, isFit}
 use Rattle.types.proofs.Matching.{numbered-type}
 use Rattle.sizes.specs.Sizes.{wordsOf}
-use Rattle.numbers.proofs.OperandPromise.{arg-node}
 use Rattle.numbers.proofs.TypePromise.{var-type}
 use Rattle.words.specs.Outcomes as words
 use Rattle.words.specs.Values.{failureNumber, outcomeOf}
@@ -24,7 +23,6 @@ use Rattle.words.specs.declared.values.Failure.{Failure}
 use Rattle.words.specs.declared.values.Value.{Value}
 use Rattle.words.specs.declared.values.Value.the-variants as value
 use Rattle.machine.specs.Memory.{Memory, memoryOf, wordsAt}
-use Rattle.machine.specs.Lent.{State}
 use Rattle.machine.specs.Texts.{fit, textAt}
 use Rattle.machine.specs.Outcomes.{Outcome, ok, fail, stuck, andThen, need, Operand, place, value, text, placed, typedWords, onPlace, onTyped, wordOf}
 use Rattle.machine.specs.Context as machine
@@ -36,14 +34,18 @@ use Rattle.code.specs.Code.{decoded}
 use Rattle.operands.specs.declared.Context.{Context}
 use Rattle.operands.specs.declared.Place.{Place}
 use Rattle.operands.specs.declared.Place.the-variants as place
-use Rattle.operands.specs.Answers.{selected, firstWord, Unstuck, goes, fails, OneWord, Retrieval, Retrieved}
-use Rattle.operands.specs.Ready.{contextIn, Ready, Sized, Valued}
-use Rattle.operands.proofs.Lending.{expression-valued}
+use Rattle.operands.specs.Answers.{selected, firstWord, single, Unstuck, goes, fails, OneWord, Retrieval, Retrieved}
+use Rattle.operands.specs.Ready.{contextIn, Ready, Sized, Valued, Counted}
+use Rattle.operands.proofs.Lending.{expression-valued, expression-counted}
 use Rattle.operands.proofs.Nodes.{is-string}
+use Rattle.operands.proofs.OneWords.{one-true}
 use Rattle.operands.proofs.Typed.{OfType, a-place, a-value, a-failure, a-stuck, typed-variable, typed-expression}
-use Rattle.operands.proofs.Yielding.{place-fits, failed, single}
+use Rattle.operands.proofs.Yielding.{place-fits, failed}
+use Rattle.operands.proofs.Yielding as yielding
 use Rattle.operands.proofs.Selecting.{out, Sel, fits-low, fits-high}
-use Rattle.operands.proofs.Evaluating.{Ev, one-other, got-failed, got-fits, got-value}
+use Rattle.operands.proofs.Evaluating.{Ev, only-retrieval, got-failed, got-fits, got-value}
+use Rattle.engine.specs.Planning.{Rooted}
+use Rattle.evaluation.proofs.Roots.{arg-rooted}
 use Rattle.calls.specs.Gathering.{Appended, Added, Adds, valueOf, placeOf, Valuable, Passable, Bindable, Passing}
 use Rattle.calls.specs.declared.Gathered.{Gathered}
 use Rattle.calls.proofs.Fitting.{text-passed, value-passed, fit-one}
@@ -95,7 +97,7 @@ no-word : {A : Type 0} (w : ℕ) (k : ℕ) → words.word w ≡ words.fail k →
 no-word w k e = let q : _≡_ {A = ℕ} 0 1 = cc in absurd (omega arith)
 
 one-word : (us : List ℕ) (w : ℕ) → length us ≡ 1 → words.word w ≡ words.word (wordOf us) → us ≡ w ∷ []
-one-word us w l e = let d : wordOf us ≡ w = cc in rw d at (single us l)
+one-word us w l e = let d : wordOf us ≡ w = cc in rw d at (yielding.single us l)
 
 -- a value of one word
 value-word : (T : Table) (τ : ℕ) (o : Outcome Operand) (w : ℕ) → (valueOf 1 o ≡ stuck → ⊥) → OfType T τ o → wordsOf T τ ≡ 1
@@ -169,22 +171,13 @@ module _ (T : Table) (m page : Memory) (x : machine.Context) (v i : ℕ) (g : ar
 
 -- ---- the laws of the code
 
-pub other-kind : (k r a : ℕ) → k ≡ r → (k ≡ a → ⊥) → r ≡ a → ⊥
-other-kind k r a e n q = n (e ∙ q)
-
-pub lent-state : (t m p : List ℕ) (x : Context) → Ready t m p x → State m
-lent-state t m p x h = record { long = h .state }
-
 module _ (t m p : List ℕ) (x : Context) (h : Ready t m p x) where
   -- `word_argument`
   module _ (n k : ℕ) (c : Valuable (decoded t) (memoryOf m) (memoryOf p) (contextIn x) n k) where
     pub word-evaluable : Ev t m p x n
     word-evaluable = record { expression = c .expression; unstuck = value-goes k (out t m p x n) (c .unstuck) }
 
-  module _ (n : ℕ) (c : Valuable (decoded t) (memoryOf m) (memoryOf p) (contextIn x) n 1) (k4 : nodeKind (decoded t) n ≡ 4 → ⊥) (k8 : nodeKind (decoded t) n ≡ 8 → ⊥) where
-    pub word-single : OneWord (decoded t) n
-    word-single = one-other t m p x h n (c .expression) k4 k8
-
+  module _ (n : ℕ) (c : Valuable (decoded t) (memoryOf m) (memoryOf p) (contextIn x) n 1) (o : OneWord (decoded t) n) where
     module _ (v : Value) (hv : outcomeOf v ≡ firstWord (out t m p x n)) where
       pub word-fails : (e : Failure) → v ≡ value.Fail e → valueOf 1 (out t m p x n) ≡ fail (failureNumber e)
       word-fails e g = value-failed 1 (out t m p x n) (failureNumber e) (failed _ _ (rw g at hv))
@@ -195,8 +188,8 @@ module _ (t m p : List ℕ) (x : Context) (h : Ready t m p x) where
           record {
             words = w ∷ [];
             is = value-word (decoded t) (typeOf (decoded t) n) (out t m p x n) w (c .unstuck)
-                (typed-expression (decoded t) (memoryOf m) (memoryOf p) (contextIn x) (h .ranged) n (c .expression) k8)
-                (word-single .is) (rw g at hv);
+                (typed-expression (decoded t) (memoryOf m) (memoryOf p) (contextIn x) (h .ranged) n (c .expression) (o .numbered))
+                (o .is) (rw g at hv);
             put = a;
           }
 
@@ -254,6 +247,9 @@ module _ (t m p : List ℕ) (x : Context) (h : Ready t m p x) where
     pub value-sized : Sized t y
     value-sized = record { code = h .code; sized = h .sized; there = c .type }
 
+    pub value-counted : Counted t n
+    value-counted = expression-counted t m p x h n (c .expression)
+
     -- an expression whose type has a number
     module _ (k8 : nodeKind (decoded t) n ≡ 8 → ⊥) where
       value-fits : valueArgument (decoded t) (memoryOf m) (memoryOf p) (contextIn x) y (out t m p x n) ≡ valueOf (wordsOf (decoded t) y) (out t m p x n)
@@ -268,47 +264,52 @@ module _ (t m p : List ℕ) (x : Context) (h : Ready t m p x) where
         fitted-valuable : Valuable (decoded t) (memoryOf m) (memoryOf p) (contextIn x) n w
         fitted-valuable = record { expression = c .expression; unstuck = kept _ _ fitted-here (c .unstuck) }
 
-      -- one of one word
-      one-here : OneWord (decoded t) n → 1 ≡ wordsOf (decoded t) y
-      one-here o =
-          let f : isFit (matching (decoded t) (numbered (typeOf (decoded t) n)) (numbered y)) ≡ true = rw (numbered-type (decoded t) n k8) at (c .fit) in
-          sym (fit-one (decoded t) y (typeOf (decoded t) n) (h .sized) (expression-valued t m p x h n (c .expression) k8 .type .there) (o .is) f)
+    pub constant-returns : (k w : ℕ) → k ≡ nodeKind (decoded t) n → k ≡ 8 → w ≡ wordsOf (decoded t) y → (l : List ℕ) (count : ℕ) (r : Gathered) (q : List ℕ)
+        → Adds r l count q (ok (fit w (textAt (decoded t) (nodeP (decoded t) n) (nodeQ (decoded t) n))))
+        → Adds r l count q (valueArgument (decoded t) (memoryOf m) (memoryOf p) (contextIn x) y (out t m p x n))
+    constant-returns k w hk e hw l count r q a =
+        let o = is-string (decoded t) (memoryOf m) (memoryOf p) (contextIn x) n (c .expression .below) (sym hk ∙ e) in
+        let d = ap (valueArgument (decoded t) (memoryOf m) (memoryOf p) (contextIn x) y) o in
+        rw (d ∙ text-is (decoded t) y (memoryOf m) (memoryOf p) (contextIn x) _ (kept _ _ d (c .unstuck)), ← hw) a
 
-    module _ (k : ℕ) (hk : k ≡ nodeKind (decoded t) n) where
-      module _ (e : k ≡ 4) (w : ℕ) (hw : w ≡ wordsOf (decoded t) y) where
-        no-text : nodeKind (decoded t) n ≡ 8 → ⊥
-        no-text q = omega arith
+    module _ (s : Bool) (hs : s ≡ single (decoded t) n) where
+      module _ (e : s ≡ true) where
+        pub value-single : OneWord (decoded t) n
+        value-single = one-true (decoded t) n (sym hs ∙ e)
 
-        pub value-copied : Valuable (decoded t) (memoryOf m) (memoryOf p) (contextIn x) n w
-        value-copied = fitted-valuable no-text w hw
-
-        pub copied-returns : (l : List ℕ) (count : ℕ) (r : Gathered) (q : List ℕ) → Adds r l count q (valueOf w (out t m p x n))
-            → Adds r l count q (valueArgument (decoded t) (memoryOf m) (memoryOf p) (contextIn x) y (out t m p x n))
-        copied-returns l count r q a = rw (fitted-here no-text w hw) a
-
-      pub constant-returns : (w : ℕ) → w ≡ wordsOf (decoded t) y → k ≡ 8 → (l : List ℕ) (count : ℕ) (r : Gathered) (q : List ℕ)
-          → Adds r l count q (ok (fit w (textAt (decoded t) (nodeP (decoded t) n) (nodeQ (decoded t) n))))
-          → Adds r l count q (valueArgument (decoded t) (memoryOf m) (memoryOf p) (contextIn x) y (out t m p x n))
-      constant-returns w hw e l count r q a =
-          let o = is-string (decoded t) (memoryOf m) (memoryOf p) (contextIn x) n (c .expression .below) (sym hk ∙ e) in
-          let d = ap (valueArgument (decoded t) (memoryOf m) (memoryOf p) (contextIn x) y) o in
-          rw (d ∙ text-is (decoded t) y (memoryOf m) (memoryOf p) (contextIn x) _ (kept _ _ d (c .unstuck)), ← hw) a
-
-      module _ (n4 : k ≡ 4 → ⊥) (n8 : k ≡ 8 → ⊥) where
         one-only : 1 ≡ wordsOf (decoded t) y
-        one-only = one-here (λ q. n8 (hk ∙ q)) (one-other t m p x h n (c .expression) (λ q. n4 (hk ∙ q)) (λ q. n8 (hk ∙ q)))
+        one-only =
+            let k8 = value-single .numbered in
+            let f : isFit (matching (decoded t) (numbered (typeOf (decoded t) n)) (numbered y)) ≡ true = rw (numbered-type (decoded t) n k8) at (c .fit) in
+            sym (fit-one (decoded t) y (typeOf (decoded t) n) (h .sized) (expression-valued t m p x h n (c .expression) k8 .type .there) (value-single .is) f)
 
         pub value-one : Valuable (decoded t) (memoryOf m) (memoryOf p) (contextIn x) n 1
-        value-one = fitted-valuable (λ q. n8 (hk ∙ q)) 1 one-only
+        value-one = fitted-valuable (value-single .numbered) 1 one-only
 
         pub one-returns : (l : List ℕ) (count : ℕ) (r : Gathered) (q : List ℕ) → Adds r l count q (valueOf 1 (out t m p x n))
             → Adds r l count q (valueArgument (decoded t) (memoryOf m) (memoryOf p) (contextIn x) y (out t m p x n))
-        one-returns l count r q a = rw (fitted-here (λ q. n8 (hk ∙ q)) 1 one-only) a
+        one-returns l count r q a = rw (fitted-here (value-single .numbered) 1 one-only) a
+
+      pub value-several : s ≡ false → single (decoded t) n ≡ false
+      value-several e = sym hs ∙ e
+
+      module _ (e : s ≡ false) (k : ℕ) (hk : k ≡ nodeKind (decoded t) n) (n8 : k ≡ 8 → ⊥) where
+        pub value-retrieved : nodeKind (decoded t) n ≡ 4
+        value-retrieved =
+            only-retrieval (decoded t) (nodeCount (decoded t)) n (h .ranged) (h .typed) (c .expression .below) (c .expression) (value-several e) (λ g. n8 (hk ∙ g))
+
+        module _ (w : ℕ) (hw : w ≡ wordsOf (decoded t) y) where
+          pub value-copied : Valuable (decoded t) (memoryOf m) (memoryOf p) (contextIn x) n w
+          value-copied = fitted-valuable (λ g. n8 (hk ∙ g)) w hw
+
+          pub copied-returns : (l : List ℕ) (count : ℕ) (r : Gathered) (q : List ℕ) → Adds r l count q (valueOf w (out t m p x n))
+              → Adds r l count q (valueArgument (decoded t) (memoryOf m) (memoryOf p) (contextIn x) y (out t m p x n))
+          copied-returns l count r q a = rw (fitted-here (λ g. n8 (hk ∙ g)) w hw) a
 
   -- `argument`
   module _ (v i n d : ℕ) (c : Passing (decoded t) (memoryOf m) (memoryOf p) (contextIn x) v i) (hn : n ≡ argNode (decoded t) i) (hd : d ≡ varMode (decoded t) v) where
-    node-there : n < nodeCount (decoded t)
-    node-there = rw hn (arg-node (decoded t) (h .ranged) i (argument-there (decoded t) (memoryOf m) (memoryOf p) (contextIn x) v i (c .unstuck)))
+    pub argument-rooted : Rooted (decoded t) n
+    argument-rooted = arg-rooted t m p x h i n (argument-there (decoded t) (memoryOf m) (memoryOf p) (contextIn x) v i (c .unstuck)) hn
 
     module _ (e : d ≡ 2) where
       var-here : argument (decoded t) (memoryOf m) (memoryOf p) (contextIn x) v i ≡ placeOf (out t m p x n)
@@ -317,7 +318,7 @@ module _ (t m p : List ℕ) (x : Context) (h : Ready t m p x) where
       pub argument-bindable : Bindable (decoded t) (memoryOf m) (memoryOf p) (contextIn x) n
       argument-bindable =
           let q = c .suits .variable (sym hd ∙ e) in
-          record { variable = record { below = node-there; low = rw hn (q .0); high = rw hn (q .1) }; unstuck = kept _ _ var-here (c .unstuck) }
+          record { variable = record { below = argument-rooted .there; low = rw hn (q .0); high = rw hn (q .1) }; unstuck = kept _ _ var-here (c .unstuck) }
 
       pub bound-returns : (l : List ℕ) (count : ℕ) (r : Gathered) (k : List ℕ) → Adds r l count k (placeOf (out t m p x n))
           → Adds r l count k (argument (decoded t) (memoryOf m) (memoryOf p) (contextIn x) v i)
@@ -331,7 +332,7 @@ module _ (t m p : List ℕ) (x : Context) (h : Ready t m p x) where
       argument-passable =
           let q = c .suits .expression (λ q. e (hd ∙ q)) in
           record {
-            expression = record { below = node-there; sort = rw hn (q .1); high = rw hn (q .0) };
+            expression = record { below = argument-rooted .there; sort = rw hn (q .1); high = rw hn (q .0) };
             type = rw hy (var-type (decoded t) (h .ranged) v (parameter-there (decoded t) (memoryOf m) (memoryOf p) (contextIn x) v i (c .unstuck)));
             fit = rw (hn, hy) (c .suits .fit (λ q. e (hd ∙ q)));
             unstuck = kept _ _ value-here (c .unstuck);
@@ -342,6 +343,6 @@ module _ (t m p : List ℕ) (x : Context) (h : Ready t m p x) where
       passed-returns l count r k a = rw value-here a
 
 pub ruleset passes =
-    (word-evaluable, word-single, word-fails, word-returns, copy-valued, copy-retrieval, copy-fails, copy-room, copy-returns, bind-selectable, bind-fails, bind-low, bind-returns, argument-bindable, bound-returns, argument-passable, passed-returns)
+    (word-evaluable, word-fails, word-returns, copy-valued, copy-retrieval, copy-fails, copy-room, copy-returns, bind-selectable, bind-fails, bind-low, bind-returns, argument-rooted, argument-bindable, bound-returns, argument-passable, passed-returns)
 
-pub ruleset values = (value-sized, value-copied, copied-returns, constant-returns, value-one, one-returns)
+pub ruleset values = (value-sized, value-counted, constant-returns, value-single, value-one, one-returns, value-several, value-retrieved, value-copied, copied-returns)

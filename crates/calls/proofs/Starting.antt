@@ -37,7 +37,7 @@ use Rattle.machine.specs.Processes.{started}
 use Rattle.machine.specs.Statements.{Effect, goOn, doStart, perform}
 use Rattle.code.specs.Code.{slotIn, decoded}
 use Rattle.operands.specs.declared.Context.{Context}
-use Rattle.operands.specs.Ready.{contextIn, Ready}
+use Rattle.operands.specs.Ready.{contextIn}
 use Rattle.operands.proofs.Lending.{lends-type, variable-valued}
 use Rattle.effects.specs.Effects.{statementStep, Stepped, Standing}
 use Rattle.effects.proofs.Carrying.{performs-start}
@@ -121,9 +121,6 @@ module _ (t m p : List ℕ) (x : Context) (r : ℕ) (h : Starting t m p x r) whe
 
   pub starting-high : r ≤ 64
   starting-high = h .high
-
-  pub starting-ready : Ready t m p x
-  starting-ready = h .standing .ready
 
   module _ (w : ℕ) (hw : w ≡ memoryOf m (statusAt r)) where
     pub starting-twice : (a : ℕ) (s1 : List ℕ) → (w ≡ 1 → ⊥) → a ≡ 20 → Becomes s1 (update (memoryOf m) failureAt 20)

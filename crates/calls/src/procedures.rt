@@ -3,6 +3,7 @@ use super::Gathered;
 use super::arguments::arguments;
 use super::frame::procedure_words;
 use code::kinds;
+use evaluation::Stack;
 use operands::Context;
 use words::values::Failure;
 ghost use mathlib.Core.Path.{_≡_};
@@ -15,6 +16,7 @@ ghost use Rattle.machine.specs.Lent.{State};
 ghost use Rattle.code.specs.Code.{decoded};
 ghost use Rattle.prepare.specs.Prepared.{Prepared};
 ghost use Rattle.effects.specs.Effects.{StatementLeaves, Standing};
+ghost use Rattle.evaluation.specs.Acting.{PlanOf, Acting};
 ghost use Rattle.calls.specs.Entering.{limitOf, Invoking, Entering};
 
 // The word of its area up to which a process may call: while it works on its own variables its module tells it (13; 02, i).
@@ -63,6 +65,8 @@ fn enter_local(
 // A call with arguments: they are all evaluated before anything is stored.
 fn call_local(
     c: &code::Slots,
+    k: &mut [u16],
+    stack: &mut Stack,
     state: &mut [u8],
     page: &[u8],
     x: Context,
@@ -70,12 +74,14 @@ fn call_local(
     from: usize,
     d: usize,
 ) -> u8
+    requires { ⌜ Acting (now c) (now k) (now state) (now page) x ⌝ }
     requires { ⌜ Invoking (now c) (now state) (now page) x q from d (limitOf (decoded (now c)) x) (memoryOf (now state)) (x .works) ⌝ }
     requires { ⌜ (from < 65536) × (d < 65536) ⌝ }
-    ensures { λ r. ⌜ StatementLeaves (now (c .entry)) (now (state .entry)) (now (page .entry)) x r (now (state .exit)) (now (page .entry)) ⌝ }
+    ensures answer { λ r. ⌜ StatementLeaves (now (c .entry)) (now (state .entry)) (now (page .entry)) x r (now (state .exit)) (now (page .entry)) ⌝ }
+    ensures plan { λ _. ⌜ PlanOf (now (c .entry)) (now (k .exit)) ⌝ }
 {
     let mut buffer = [0u16; 256];
-    let g = arguments(c, state, page, x, &mut buffer[..], q, from, d);
+    let g = arguments(c, k, stack, state, page, x, &mut buffer[..], q, from, d);
     match g {
         Gathered::Fail(f) => effects::fail(state, f),
         Gathered::Count(n) => enter_local(c, state, page, x, q, &buffer[..], n),
@@ -83,10 +89,18 @@ fn call_local(
 }
 
 // 11.3: a call within the module.
-pub fn local_call(c: &code::Slots, state: &mut [u8], page: &[u8], x: Context) -> u8
-    requires { ⌜ Standing (now c) (now state) (now page) x ⌝ }
+pub fn local_call(
+    c: &code::Slots,
+    k: &mut [u16],
+    stack: &mut Stack,
+    state: &mut [u8],
+    page: &[u8],
+    x: Context,
+) -> u8
+    requires { ⌜ Acting (now c) (now k) (now state) (now page) x ⌝ }
     requires { ⌜ stmtKind (decoded (now c)) (x .statement) ≡ 2 ⌝ }
-    ensures { λ r. ⌜ StatementLeaves (now (c .entry)) (now (state .entry)) (now (page .entry)) x r (now (state .exit)) (now (page .entry)) ⌝ }
+    ensures answer { λ r. ⌜ StatementLeaves (now (c .entry)) (now (state .entry)) (now (page .entry)) x r (now (state .exit)) (now (page .entry)) ⌝ }
+    ensures plan { λ _. ⌜ PlanOf (now (c .entry)) (now (k .exit)) ⌝ }
 {
     let q = code::stmt_a(c, x.statement);
     let from = code::stmt_c(c, x.statement);
@@ -95,7 +109,7 @@ pub fn local_call(c: &code::Slots, state: &mut [u8], page: &[u8], x: Context) ->
         let none = [0u16; 1];
         return enter_local(c, state, page, x, q, &none[..], 0);
     }
-    call_local(c, state, page, x, q, from, d)
+    call_local(c, k, stack, state, page, x, q, from, d)
 }
 
 // The end of a call: the process stands after the call statement, where it stood before (12.2, 13).

@@ -4,6 +4,7 @@ use super::arguments::arguments;
 use super::frame::frame_words;
 use super::frame::procedure_words;
 use super::procedures::is_over;
+use evaluation::Stack;
 use operands::Context;
 use transfers::Reference;
 use transfers::references::reference;
@@ -16,7 +17,8 @@ ghost use Rattle.machine.specs.Memory.{memoryOf, update};
 ghost use Rattle.machine.specs.Layout.{statusAt, holderAt};
 ghost use Rattle.machine.specs.Lent.{State};
 ghost use Rattle.code.specs.Code.{decoded};
-ghost use Rattle.effects.specs.Effects.{StatementLeaves, Standing};
+ghost use Rattle.effects.specs.Effects.{StatementLeaves};
+ghost use Rattle.evaluation.specs.Acting.{PlanOf, Acting};
 ghost use Rattle.calls.specs.Entering.{Invoking, Entering};
 ghost use Rattle.machine.specs.Statements.{canServe};
 ghost use Rattle.calls.specs.Serving.{Serving, Starting, Beginning};
@@ -59,6 +61,8 @@ fn enter_process(
 // A call with arguments: they are all evaluated before anything is stored.
 fn call_process(
     c: &code::Slots,
+    k: &mut [u16],
+    stack: &mut Stack,
     state: &mut [u8],
     page: &[u8],
     x: Context,
@@ -67,12 +71,14 @@ fn call_process(
     d: usize,
     r: usize,
 ) -> u8
+    requires { ⌜ Acting (now c) (now k) (now state) (now page) x ⌝ }
     requires { ⌜ Invoking (now c) (now state) (now page) x q from d 256 (update (memoryOf (now state)) (holderAt r) (x .process)) r ⌝ }
     requires { ⌜ (from < 65536) × ((d < 65536) × ((1 ≤ r) × (r ≤ 64))) ⌝ }
-    ensures { λ a. ⌜ StatementLeaves (now (c .entry)) (now (state .entry)) (now (page .entry)) x a (now (state .exit)) (now (page .entry)) ⌝ }
+    ensures answer { λ a. ⌜ StatementLeaves (now (c .entry)) (now (state .entry)) (now (page .entry)) x a (now (state .exit)) (now (page .entry)) ⌝ }
+    ensures plan { λ _. ⌜ PlanOf (now (c .entry)) (now (k .exit)) ⌝ }
 {
     let mut buffer = [0u16; 256];
-    let g = arguments(c, state, page, x, &mut buffer[..], q, from, d);
+    let g = arguments(c, k, stack, state, page, x, &mut buffer[..], q, from, d);
     match g {
         Gathered::Fail(f) => effects::fail(state, f),
         Gathered::Count(n) => enter_process(c, state, page, x, q, r, &buffer[..], n),
@@ -80,10 +86,20 @@ fn call_process(
 }
 
 // A call of process r, which can serve it.
-fn call_on(c: &code::Slots, state: &mut [u8], page: &[u8], x: Context, r: usize) -> u8
+fn call_on(
+    c: &code::Slots,
+    k: &mut [u16],
+    stack: &mut Stack,
+    state: &mut [u8],
+    page: &[u8],
+    x: Context,
+    r: usize,
+) -> u8
+    requires { ⌜ Acting (now c) (now k) (now state) (now page) x ⌝ }
     requires { ⌜ Serving (now c) (now state) (now page) x r ⌝ }
     requires { ⌜ canServe (memoryOf (now state)) r ≡ true ⌝ }
-    ensures { λ a. ⌜ StatementLeaves (now (c .entry)) (now (state .entry)) (now (page .entry)) x a (now (state .exit)) (now (page .entry)) ⌝ }
+    ensures answer { λ a. ⌜ StatementLeaves (now (c .entry)) (now (state .entry)) (now (page .entry)) x a (now (state .exit)) (now (page .entry)) ⌝ }
+    ensures plan { λ _. ⌜ PlanOf (now (c .entry)) (now (k .exit)) ⌝ }
 {
     let q = code::stmt_b(c, x.statement);
     let from = code::stmt_c(c, x.statement);
@@ -92,31 +108,49 @@ fn call_on(c: &code::Slots, state: &mut [u8], page: &[u8], x: Context, r: usize)
         let none = [0u16; 1];
         return enter_process(c, state, page, x, q, r, &none[..], 0);
     }
-    call_process(c, state, page, x, q, from, d, r)
+    call_process(c, k, stack, state, page, x, q, from, d, r)
 }
 
 // The caller waits where process r cannot serve.
-pub fn serve(c: &code::Slots, state: &mut [u8], page: &[u8], x: Context, r: usize) -> u8
+fn serve(
+    c: &code::Slots,
+    k: &mut [u16],
+    stack: &mut Stack,
+    state: &mut [u8],
+    page: &[u8],
+    x: Context,
+    r: usize,
+) -> u8
+    requires { ⌜ Acting (now c) (now k) (now state) (now page) x ⌝ }
     requires { ⌜ Serving (now c) (now state) (now page) x r ⌝ }
-    ensures { λ a. ⌜ StatementLeaves (now (c .entry)) (now (state .entry)) (now (page .entry)) x a (now (state .exit)) (now (page .entry)) ⌝ }
+    ensures answer { λ a. ⌜ StatementLeaves (now (c .entry)) (now (state .entry)) (now (page .entry)) x a (now (state .exit)) (now (page .entry)) ⌝ }
+    ensures plan { λ _. ⌜ PlanOf (now (c .entry)) (now (k .exit)) ⌝ }
 {
     if is_free(state, r) {
-        return call_on(c, state, page, x, r);
+        return call_on(c, k, stack, state, page, x, r);
     }
     1
 }
 
 // 11.3: a call of the process that a variable refers to.
-pub fn process_call(c: &code::Slots, state: &mut [u8], page: &[u8], x: Context) -> u8
-    requires { ⌜ Standing (now c) (now state) (now page) x ⌝ }
+pub fn process_call(
+    c: &code::Slots,
+    k: &mut [u16],
+    stack: &mut Stack,
+    state: &mut [u8],
+    page: &[u8],
+    x: Context,
+) -> u8
+    requires { ⌜ Acting (now c) (now k) (now state) (now page) x ⌝ }
     requires { ⌜ stmtKind (decoded (now c)) (x .statement) ≡ 3 ⌝ }
-    ensures { λ a. ⌜ StatementLeaves (now (c .entry)) (now (state .entry)) (now (page .entry)) x a (now (state .exit)) (now (page .entry)) ⌝ }
+    ensures answer { λ a. ⌜ StatementLeaves (now (c .entry)) (now (state .entry)) (now (page .entry)) x a (now (state .exit)) (now (page .entry)) ⌝ }
+    ensures plan { λ _. ⌜ PlanOf (now (c .entry)) (now (k .exit)) ⌝ }
 {
     let a = code::stmt_a(c, x.statement);
-    let l = reference(c, state, page, x, a);
+    let l = reference(c, k, stack, state, page, x, a);
     match l {
         Reference::Fail(f) => effects::fail(state, f),
-        Reference::To(r) => serve(c, state, page, x, r),
+        Reference::To(r) => serve(c, k, stack, state, page, x, r),
     }
 }
 
@@ -141,10 +175,20 @@ fn begin(
 }
 
 // The start of process r, which is created and not started.
-fn start_created(c: &code::Slots, state: &mut [u8], page: &[u8], x: Context, r: usize) -> u8
+fn start_created(
+    c: &code::Slots,
+    k: &mut [u16],
+    stack: &mut Stack,
+    state: &mut [u8],
+    page: &[u8],
+    x: Context,
+    r: usize,
+) -> u8
+    requires { ⌜ Acting (now c) (now k) (now state) (now page) x ⌝ }
     requires { ⌜ Starting (now c) (now state) (now page) x r ⌝ }
     requires { ⌜ memoryOf (now state) (statusAt r) ≡ 1 ⌝ }
-    ensures { λ a. ⌜ StatementLeaves (now (c .entry)) (now (state .entry)) (now (page .entry)) x a (now (state .exit)) (now (page .entry)) ⌝ }
+    ensures answer { λ a. ⌜ StatementLeaves (now (c .entry)) (now (state .entry)) (now (page .entry)) x a (now (state .exit)) (now (page .entry)) ⌝ }
+    ensures plan { λ _. ⌜ PlanOf (now (c .entry)) (now (k .exit)) ⌝ }
 {
     let a = code::stmt_a(c, x.statement);
     let y = code::type_of(c, a);
@@ -152,7 +196,7 @@ fn start_created(c: &code::Slots, state: &mut [u8], page: &[u8], x: Context, r: 
     let from = code::stmt_c(c, x.statement);
     let d = code::stmt_d(c, x.statement);
     let mut buffer = [0u16; 256];
-    let g = arguments(c, state, page, x, &mut buffer[..], b, from, d);
+    let g = arguments(c, k, stack, state, page, x, &mut buffer[..], b, from, d);
     match g {
         Gathered::Fail(f) => effects::fail(state, f),
         Gathered::Count(n) => begin(c, state, page, x, r, b, &buffer[..], n),
@@ -160,27 +204,45 @@ fn start_created(c: &code::Slots, state: &mut [u8], page: &[u8], x: Context, r: 
 }
 
 // A process is started once (01).
-fn start_once(c: &code::Slots, state: &mut [u8], page: &[u8], x: Context, r: usize) -> u8
+fn start_once(
+    c: &code::Slots,
+    k: &mut [u16],
+    stack: &mut Stack,
+    state: &mut [u8],
+    page: &[u8],
+    x: Context,
+    r: usize,
+) -> u8
+    requires { ⌜ Acting (now c) (now k) (now state) (now page) x ⌝ }
     requires { ⌜ Starting (now c) (now state) (now page) x r ⌝ }
-    ensures { λ a. ⌜ StatementLeaves (now (c .entry)) (now (state .entry)) (now (page .entry)) x a (now (state .exit)) (now (page .entry)) ⌝ }
+    ensures answer { λ a. ⌜ StatementLeaves (now (c .entry)) (now (state .entry)) (now (page .entry)) x a (now (state .exit)) (now (page .entry)) ⌝ }
+    ensures plan { λ _. ⌜ PlanOf (now (c .entry)) (now (k .exit)) ⌝ }
 {
     let status = machine::record_word(state, r, machine::STATUS);
     if status == machine::UNSTARTED {
-        return start_created(c, state, page, x, r);
+        return start_created(c, k, stack, state, page, x, r);
     }
     effects::fail(state, Failure::StartedTwice)
 }
 
 // 11.5: the start of the process that a variable refers to.
-pub fn start(c: &code::Slots, state: &mut [u8], page: &[u8], x: Context) -> u8
-    requires { ⌜ Standing (now c) (now state) (now page) x ⌝ }
+pub fn start(
+    c: &code::Slots,
+    k: &mut [u16],
+    stack: &mut Stack,
+    state: &mut [u8],
+    page: &[u8],
+    x: Context,
+) -> u8
+    requires { ⌜ Acting (now c) (now k) (now state) (now page) x ⌝ }
     requires { ⌜ stmtKind (decoded (now c)) (x .statement) ≡ 5 ⌝ }
-    ensures { λ a. ⌜ StatementLeaves (now (c .entry)) (now (state .entry)) (now (page .entry)) x a (now (state .exit)) (now (page .entry)) ⌝ }
+    ensures answer { λ a. ⌜ StatementLeaves (now (c .entry)) (now (state .entry)) (now (page .entry)) x a (now (state .exit)) (now (page .entry)) ⌝ }
+    ensures plan { λ _. ⌜ PlanOf (now (c .entry)) (now (k .exit)) ⌝ }
 {
     let a = code::stmt_a(c, x.statement);
-    let l = reference(c, state, page, x, a);
+    let l = reference(c, k, stack, state, page, x, a);
     match l {
         Reference::Fail(f) => effects::fail(state, f),
-        Reference::To(r) => start_once(c, state, page, x, r),
+        Reference::To(r) => start_once(c, k, stack, state, page, x, r),
     }
 }

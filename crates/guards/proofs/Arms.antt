@@ -4,15 +4,11 @@ use mathlib.Core.Path.{_≡_, refl, sym, _∙_}
 use mathlib.Core.Bool.{Bool, true, false}
 use lib.Dec.{eqb, ltb}
 use native.Mathlib.Omega.{arith}
-use borrow.Author.Tests.{eqb-true, eqb-false, ltb-true, lt-ltb, ne-eqb}
+use borrow.Author.Tests.{eqb-true, eqb-false, ltb-true, lt-ltb}
 use Rattle.basics.specs.Cases.{cases}
 use Rattle.table.specs.Table.{Table}
 use Rattle.table.specs.Entries.{stmtCount, stmtKind, stmtA, stmtLink}
 use Rattle.words.specs.Outcomes as words
-use Rattle.words.specs.Values.{failureNumber, outcomeOf}
-use Rattle.words.specs.declared.values.Failure.{Failure}
-use Rattle.words.specs.declared.values.Value.{Value}
-use Rattle.words.specs.declared.values.Value.the-variants.{Word, Fail}
 use Rattle.machine.specs.Outcomes.{Outcome, ok, fail, stuck, andThen, need, Operand, place, value, text, valued, onValue, onWord, wordOf}
 use Rattle.machine.specs.Entries.{Opener, statementOf, stmtAt}
 use Rattle.machine.proofs.Entries.{statement-cases}
@@ -46,21 +42,18 @@ module _ {A : Type 0} (τ : ℕ) (f : ℕ → Outcome A) where
   word-unstuck (fail k) g = fails
   word-unstuck stuck g = absurd (g refl)
 
-  pub word-failed : (o : Outcome Operand) (v : Value) (e : Failure) → outcomeOf v ≡ firstWord o → v ≡ Fail e → onWord o τ f ≡ fail (failureNumber e)
+  pub word-failed : (o : Outcome Operand) (k : ℕ) → words.fail k ≡ firstWord o → onWord o τ f ≡ fail k
   unfolding onWord onValue andThen
-  word-failed o v e h k = let q = failed o (failureNumber e) (rw k at h) in rw q
+  word-failed o k h = let q = failed o k h in rw q
 
-  word-is : (o : Outcome Operand) (w : ℕ) → words.word w ≡ firstWord o → (onWord o τ f ≡ stuck → ⊥) → onWord o τ f ≡ f w
+  pub word-given : (o : Outcome Operand) (w : ℕ) → words.word w ≡ firstWord o → (onWord o τ f ≡ stuck → ⊥) → onWord o τ f ≡ f w
   unfolding onWord onValue andThen valued firstWord need
-  word-is (ok (place a σ)) w h g = absurd (g refl)
-  word-is (ok (value σ ws)) w h g =
+  word-given (ok (place a σ)) w h g = absurd (g refl)
+  word-given (ok (value σ ws)) w h g =
       let b = through (eqb σ τ) (f (wordOf ws)) g in let e : w ≡ wordOf ws = cc in rw (b, e)
-  word-is (ok (text ws)) w h g = absurd (g refl)
-  word-is (fail k) w h g = let q : _≡_ {A = ℕ} 0 1 = cc in absurd (omega arith)
-  word-is stuck w h g = absurd (g refl)
-
-  pub word-given : (o : Outcome Operand) (v : Value) (w : ℕ) → outcomeOf v ≡ firstWord o → v ≡ Word w → (onWord o τ f ≡ stuck → ⊥) → onWord o τ f ≡ f w
-  word-given o v w h k g = word-is o w (rw k at h) g
+  word-given (ok (text ws)) w h g = absurd (g refl)
+  word-given (fail k) w h g = let q : _≡_ {A = ℕ} 0 1 = cc in absurd (omega arith)
+  word-given stuck w h g = absurd (g refl)
 
 -- ---- statements by their kinds
 

@@ -4,17 +4,14 @@ use mathlib.Core.Path.{_≡_, refl, sym, ap, _∙_}
 use mathlib.Core.List.{List}
 use lib.Dec.{eqb, ltb}
 use native.Mathlib.Omega.{arith}
-use borrow.Author.Tests.{ne-eqb, ltb-true}
+use borrow.Author.Tests.{ne-eqb, ltb-true, ltb-false}
 use Rattle.basics.specs.Choice.{pick}
+use Rattle.basics.specs.Cases.{cases}
 use Rattle.table.specs.Table.{Table}
 use Rattle.table.specs.Entries.{stmtCount, stmtKind, stmtA, stmtLink}
 use Rattle.table.specs.Reading.{Field}
 use Rattle.numbers.proofs.OperandPromise.{arm-guard}
 use Rattle.typing.proofs.Promise as typing
-use Rattle.words.specs.Values.{outcomeOf}
-use Rattle.words.specs.declared.values.Failure.{Failure}
-use Rattle.words.specs.declared.values.Value.{Value}
-use Rattle.words.specs.declared.values.Value.the-variants as value
 use Rattle.code.specs.Code.{decoded}
 use Rattle.machine.specs.Memory.{Memory, memoryOf}
 use Rattle.machine.specs.Context as machine
@@ -23,10 +20,13 @@ use Rattle.machine.specs.Operands.{operand}
 use Rattle.machine.specs.Statements.{Choice, enters, skips, choose}
 use Rattle.operands.specs.declared.Context.{Context}
 use Rattle.operands.specs.Answers.{firstWord, Unstuck, Evaluable, OneWord}
+use Rattle.operands.specs.Packed.{WordIs}
 use Rattle.operands.specs.Ready.{contextIn, Ready}
 use Rattle.operands.proofs.OneWords.{one-standard}
-use Rattle.guards.specs.declared.Found.the-variants.{Arm, End, Fails}
-use Rattle.guards.specs.Guards.{Choosable, Choosing, Chosen}
+use Rattle.operands.proofs.Packing.{told-word, told-failure}
+use Rattle.engine.specs.Planning.{Rooted}
+use Rattle.evaluation.proofs.Roots.{arm-rooted}
+use Rattle.guards.specs.Guards.{picks, Choosable, Choosing, Picked}
 use Rattle.guards.proofs.Arms.{through, same-unstuck, word-unstuck, word-failed, word-given, at-arm, arms-there, end-is}
 
 -- after the arm i: what its guard, a word, comes to; at most n arms follow
@@ -67,9 +67,11 @@ module _ (T : Table) (m page : Memory) (x : machine.Context) where
     free : choose T m page x (c .left) j ≡ stuck → ⊥
     free = same-unstuck (c .rest) (c .unstuck)
 
-    pub choose-ends : (k ≡ 10 → ⊥) → Chosen T m page x i (End j)
+    pub choose-ends : (k ≡ 10 → ⊥) → Picked T m page x i (record { at = j; value = 0 })
+    unfolding picks
     choose-ends n =
-        let d = reached (c .left) j free (λ e. n (hk .is ∙ e)) in record { is = sym (d .0) ∙ c .rest; below = d .1 }
+        let d = reached (c .left) j free (λ e. n (hk .is ∙ e)) in
+        record { is = sym (d .0) ∙ c .rest; below = d .1; listed = record { is = λ g. absurd (omega arith) } }
 
     module _ (e : k ≡ 10) where
       here : Tried (c .left) j
@@ -84,40 +86,40 @@ module _ (T : Table) (m page : Memory) (x : machine.Context) where
       pub guard-unstuck : Unstuck (operand T m page x (stmtA T j))
       guard-unstuck = word-unstuck 1 _ _ asked
 
-      module _ (v : Value) (hv : outcomeOf v ≡ firstWord (operand T m page x (stmtA T j))) where
-        pub choose-fails : (f : Failure) → v ≡ value.Fail f → Chosen T m page x i (Fails f)
-        choose-fails f g =
-            record {
-              is = sym (word-failed 1 _ _ v f hv g) ∙ (sym (here .is) ∙ c .rest);
-              below = let b = here .below in omega arith;
-            }
+      module _ (v : ℕ) (hv : WordIs (firstWord (operand T m page x (stmtA T j))) v) where
+        gives : v < 65536 → onWord (operand T m page x (stmtA T j)) 1 (judged T m page x (here .left) j) ≡ judged T m page x (here .left) j v
+        gives l = word-given 1 _ _ v (told-word _ v hv l) asked
 
-        module _ (w : ℕ) (hw : v ≡ value.Word w) where
-          gives : onWord (operand T m page x (stmtA T j)) 1 (judged T m page x (here .left) j) ≡ judged T m page x (here .left) j w
-          gives = word-given 1 _ _ v w hv hw asked
+        -- a guard that is true, or fails
+        pub choose-picks : (v ≡ 0 → ⊥) → Picked T m page x i (record { at = j; value = v })
+        unfolding picks
+        choose-picks n =
+            cases (ltb v 65536)
+            (λ q.
+            let d = sym (judged-true (here .left) j v n) ∙ (sym (gives (ltb-true v 65536 q)) ∙ (sym (here .is) ∙ c .rest)) in
+            record { is = rw (q, ne-eqb v 0 n) d; below = here .below; listed = hv .listed })
+            (λ q.
+            let d = sym (word-failed 1 (judged T m page x (here .left) j) _ _ (told-failure _ v hv (ltb-false v 65536 q))) ∙ (sym (here .is) ∙ c .rest) in
+            record { is = rw q d; below = here .below; listed = hv .listed })
 
-          pub choose-enters : (w ≡ 0 → ⊥) → Chosen T m page x i (Arm j)
-          choose-enters n =
-              record {
-                is = sym (judged-true (here .left) j w n) ∙ (sym gives ∙ (sym (here .is) ∙ c .rest));
-                below = here .below;
-              }
+        module _ (z : v ≡ 0) where
+          gives-false : onWord (operand T m page x (stmtA T j)) 1 (judged T m page x (here .left) j) ≡ judged T m page x (here .left) j 0
+          gives-false = gives (omega arith) ∙ ap (judged T m page x (here .left) j) z
 
-          module _ (z : w ≡ 0) where
-            false-guard : (j < stmtLink T j) × (judged T m page x (here .left) j 0 ≡ choose T m page x (here .left) (stmtLink T j))
-            false-guard = judged-false (here .left) j (same-unstuck (ap (judged T m page x (here .left) j) (sym z) ∙ sym gives) asked)
+          false-guard : (j < stmtLink T j) × (judged T m page x (here .left) j 0 ≡ choose T m page x (here .left) (stmtLink T j))
+          false-guard = judged-false (here .left) j (same-unstuck (sym gives-false) asked)
 
-            module _ (l : ℕ) (hl : Field (stmtLink T j) l) where
-              pub choosing-less : stmtCount T - l < stmtCount T - j
-              choosing-less = let b = here .below in let q = hl .is in let r = false-guard .0 in omega arith
+          module _ (l : ℕ) (hl : Field (stmtLink T j) l) where
+            pub choosing-less : stmtCount T - l < stmtCount T - j
+            choosing-less = let b = here .below in let q = hl .is in let r = false-guard .0 in omega arith
 
-              pub choosing-more : Choosing T m page x i l
-              choosing-more =
-                  record {
-                    left = here .left;
-                    rest = rw (hl .is) (sym (false-guard .1) ∙ (ap (judged T m page x (here .left) j) (sym z) ∙ (sym gives ∙ (sym (here .is) ∙ c .rest))));
-                    unstuck = c .unstuck;
-                  }
+            pub choosing-more : Choosing T m page x i l
+            choosing-more =
+                record {
+                  left = here .left;
+                  rest = rw (hl .is) (sym (false-guard .1) ∙ (sym gives-false ∙ (sym (here .is) ∙ c .rest)));
+                  unstuck = c .unstuck;
+                }
 
 module _ (t m p : List ℕ) (x : Context) (h : Ready t m p x) (i j : ℕ) where
   pub guard-evaluable : Choosing (decoded t) (memoryOf m) (memoryOf p) (contextIn x) i j
@@ -137,7 +139,12 @@ module _ (t m p : List ℕ) (x : Context) (h : Ready t m p x) (i j : ℕ) where
       let q = typing.guard (decoded t) (h .typed) j b (sym (hk .is) ∙ e) in
       one-standard (decoded t) (stmtA (decoded t) j) (omega arith)
 
-pub ruleset chooses = (choosing-none, choose-ends, choose-fails, choose-enters, choosing-less, choosing-more, guard-evaluable, guard-single)
+  pub guard-rooted : Choosing (decoded t) (memoryOf m) (memoryOf p) (contextIn x) i j
+      → (k : ℕ) → Field (stmtKind (decoded t) j) k → k ≡ 10 → Rooted (decoded t) (stmtA (decoded t) j)
+  guard-rooted c k hk e =
+      arm-rooted (decoded t) (h .ranged) j (guard-below (decoded t) (memoryOf m) (memoryOf p) (contextIn x) i j c k hk e) (sym (hk .is) ∙ e)
+
+pub ruleset chooses = (choosing-none, choose-ends, choose-picks, choosing-less, choosing-more, guard-evaluable, guard-single, guard-rooted)
 
 -- ---- the laws of `guard`
 module _ (T : Table) (m page : Memory) (x : machine.Context) (i a : ℕ) (ha : Field (stmtA T i) a) where
@@ -147,7 +154,10 @@ module _ (T : Table) (m page : Memory) (x : machine.Context) (i a : ℕ) (ha : F
   pub guard-one : OneWord T (stmtA T i) → OneWord T a
   guard-one c = rw (ha .is) c
 
-  pub guard-returns : (v : Value) → outcomeOf v ≡ firstWord (operand T m page x a) → outcomeOf v ≡ firstWord (operand T m page x (stmtA T i))
-  guard-returns v e = rw (ha .is) at e
+  pub guard-root : Rooted T (stmtA T i) → Rooted T a
+  guard-root c = rw (ha .is) c
 
-pub ruleset guards = (guard-asks, guard-one, guard-returns)
+  pub guard-returns : (v : ℕ) → WordIs (firstWord (operand T m page x a)) v → WordIs (firstWord (operand T m page x (stmtA T i))) v
+  guard-returns v h = rw (ha .is) at h
+
+pub ruleset guards = (guard-asks, guard-one, guard-root, guard-returns)

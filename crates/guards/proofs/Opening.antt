@@ -1,11 +1,11 @@
 -- An if, while, when or cycle: what its guards may ask, and each return. Assumes nothing.
-use Prim.Native.Nat.{ℕ, _+_, _≤_, _<_}
+use Prim.Native.Nat.{ℕ, _+_, _-_, _≤_, _<_}
 use mathlib.Core.Path.{_≡_, sym, _∙_}
 use mathlib.Core.Bool.{Bool, true, false}
 use mathlib.Core.List.{List}
 use lib.Dec.{eqb, leb}
 use native.Mathlib.Omega.{arith}
-use borrow.Author.Tests.{eqb-true, eqb-false, lt-leb}
+use borrow.Author.Tests.{eqb-true, eqb-false, ne-eqb, lt-leb, lt-ltb, le-ltb}
 use mir.Val.{Fits}
 use mir.Syntax.{w64}
 use Rattle.basics.specs.Choice.{pick}
@@ -13,8 +13,6 @@ use Rattle.basics.specs.Cases.{cases}
 use Rattle.table.specs.Table.{Table}
 use Rattle.table.specs.Entries.{stmtCount, stmtKind}
 use Rattle.table.specs.Reading.{Field}
-use Rattle.words.specs.Values.{failureNumber}
-use Rattle.words.specs.declared.values.Failure.{Failure}
 use Rattle.code.specs.Code.{decoded}
 use Rattle.machine.specs.Memory.{Memory, memoryOf, update}
 use Rattle.machine.specs.Layout.{statementAt, holderAt, failureAt}
@@ -27,11 +25,10 @@ use Rattle.operands.specs.declared.Context.{Context}
 use Rattle.operands.specs.Ready.{contextIn}
 use Rattle.effects.specs.Effects.{statementStep, Stepped, Standing}
 use Rattle.effects.proofs.Carrying.{performs-if, performs-while, performs-when, performs-cycle, stepped, stepped-fail}
-use Rattle.guards.specs.declared.Found.{Found}
-use Rattle.guards.specs.declared.Found.the-variants.{Arm, End, Fails}
-use Rattle.guards.specs.Guards.{openerOf, Choosable, Chosen, Going}
+use Rattle.guards.specs.declared.Choice.{Choice}
+use Rattle.guards.specs.Guards.{openerOf, picks, Choosable, Picked, Going}
 use Rattle.guards.proofs.Arms.{first-outcome, same-unstuck, opener-follows}
-use Rattle.guards.proofs.Standing.{stands-ready, stands-lent, stands-page, stands-small}
+use Rattle.guards.proofs.Standing.{stands-lent, stands-page, stands-small}
 
 waits-is : (k v : ℕ) → k ≤ 9 → v ≡ k → leb 8 v ≡ waits (openerOf k)
 unfolding openerOf waits
@@ -102,61 +99,55 @@ module _ (t m p : List ℕ) (x : Context) (h : Standing t m p x) where
     pub opener-choosable : Choosable (decoded t) (memoryOf m) (memoryOf p) (contextIn x) (x .statement + 1)
     opener-choosable = record { unstuck = first-outcome _ _ (same-unstuck (sym chooses) (h .unstuck)) }
 
-    module _ (r : Found) (c : Chosen (decoded t) (memoryOf m) (memoryOf p) (contextIn x) (x .statement + 1) r) where
-      going : (i : ℕ) → i < stmtCount (decoded t) → Going m x i
-      going i b =
-          record {
-            state = stands-lent t m p x h;
-            processLow = h .ready .context .processLow;
-            processHigh = h .ready .context .processHigh;
-            worksLow = h .ready .context .worksLow;
-            worksHigh = h .ready .context .worksHigh;
-            small = let d = h .statements in omega arith;
-          }
-
-      pub arm-going : (i : ℕ) → r ≡ Arm i → Going m x i
-      arm-going i e = let b = rw e at c in going i (b .below)
-
-      pub end-going : (i : ℕ) → r ≡ End i → Going m x i
-      end-going i e = let b = rw e at c in going i (b .below)
-
-      pub opener-fails : (e : Failure) → r ≡ Fails e → (n : ℕ) (m1 : List ℕ) → n ≡ failureNumber e
-          → Becomes m1 (update (memoryOf m) failureAt (failureNumber e))
+    module _ (r : Choice) (c : Picked (decoded t) (memoryOf m) (memoryOf p) (contextIn x) (x .statement + 1) r) where
+      pub opener-fails : 65536 ≤ r .value → (n : ℕ) (m1 : List ℕ) → n ≡ r .value - 65536
+          → Becomes m1 (update (memoryOf m) failureAt (r .value - 65536))
           → Stepped n m1 p (statementStep (decoded t) (memoryOf m) (memoryOf p) (contextIn x))
-      unfolding andThen contextIn
-      opener-fails e q n m1 u v =
-          let d = rw q at c in
-          stepped-fail (decoded t) m p m1 p (contextIn x) (failureNumber e) n
-          (chooses ∙ rw (← d .is)) u v (h .ready .page)
+      unfolding andThen contextIn picks
+      opener-fails b n m1 u v =
+          let d = rw (le-ltb (r .value) 65536 b) at (c .is) in
+          stepped-fail (decoded t) m p m1 p (contextIn x) (r .value - 65536) n
+          (chooses ∙ rw (← d)) u v (h .ready .page)
 
       module _ (v : ℕ) (hv : Field (stmtKind (decoded t) (x .statement)) v) where
         same : leb 8 v ≡ waits (openerOf (stmtKind (decoded t) (x .statement)))
         same = waits-is (stmtKind (decoded t) (x .statement)) v k (hv .is)
 
-        pub opener-enters : (i : ℕ) → r ≡ Arm i → (n : ℕ) (m1 : List ℕ) → n ≡ 0
-            → Becomes m1 (update (pick (leb 8 v) (update (memoryOf m) (holderAt (x .works)) (x .process)) (memoryOf m)) (statementAt (x .process)) (i + 1))
+        pub opener-enters : r .value < 65536 → (r .value ≡ 0 → ⊥) → (n : ℕ) (m1 : List ℕ) → n ≡ 0
+            → Becomes m1 (update (pick (leb 8 v) (update (memoryOf m) (holderAt (x .works)) (x .process)) (memoryOf m)) (statementAt (x .process)) (r .at + 1))
             → Stepped n m1 p (statementStep (decoded t) (memoryOf m) (memoryOf p) (contextIn x))
-        unfolding andThen chosen goTo contextIn
-        opener-enters i q n m1 u w =
-            let d = rw q at c in
+        unfolding andThen chosen goTo contextIn picks
+        opener-enters b z n m1 u w =
+            let d = rw (lt-ltb (r .value) 65536 b, ne-eqb (r .value) 0 z) at (c .is) in
             rw u
             (stepped (decoded t) m p m1 p (contextIn x) 0 _ (memoryOf p)
-            (chooses ∙ rw (← d .is)) (rw same at w) (stands-page t m p x h))
+            (chooses ∙ rw (← d)) (rw same at w) (stands-page t m p x h))
 
-        pub opener-passes : (i : ℕ) → r ≡ End i → (n : ℕ) (m1 : List ℕ) → n ≡ pick (leb 8 v) 1 0
-            → Becomes m1 (pick (leb 8 v) (update (memoryOf m) (holderAt (x .works)) 0) (update (memoryOf m) (statementAt (x .process)) (i + 1)))
+        pub opener-passes : r .value ≡ 0 → (n : ℕ) (m1 : List ℕ) → n ≡ pick (leb 8 v) 1 0
+            → Becomes m1 (pick (leb 8 v) (update (memoryOf m) (holderAt (x .works)) 0) (update (memoryOf m) (statementAt (x .process)) (r .at + 1)))
             → Stepped n m1 p (statementStep (decoded t) (memoryOf m) (memoryOf p) (contextIn x))
-        unfolding andThen chosen goTo wait contextIn
-        opener-passes i q n m1 u w =
-            let d = rw q at c in
+        unfolding andThen chosen goTo wait contextIn picks
+        opener-passes z n m1 u w =
+            let d = rw z at (c .is) in
             cases (waits (openerOf (stmtKind (decoded t) (x .statement))))
             (λ e.
             let g : n ≡ 1 = u ∙ rw (same, e) in
             rw g
-            (stepped (decoded t) m p m1 p (contextIn x) 1 _ (memoryOf p) (chooses ∙ rw (← d .is, e)) (rw (same, e) at w) (stands-page t m p x h)))
+            (stepped (decoded t) m p m1 p (contextIn x) 1 _ (memoryOf p) (chooses ∙ rw (← d, e)) (rw (same, e) at w) (stands-page t m p x h)))
             (λ e.
             let g : n ≡ 0 = u ∙ rw (same, e) in
             rw g
-            (stepped (decoded t) m p m1 p (contextIn x) 0 _ (memoryOf p) (chooses ∙ rw (← d .is, e)) (rw (same, e) at w) (stands-page t m p x h)))
+            (stepped (decoded t) m p m1 p (contextIn x) 0 _ (memoryOf p) (chooses ∙ rw (← d, e)) (rw (same, e) at w) (stands-page t m p x h)))
 
-pub ruleset opening = (stands-ready, stands-lent, opener-fits, opener-choosable, arm-going, end-going, opener-fails, opener-enters, opener-passes)
+  pub opener-going : (r : Choice) → Picked (decoded t) (memoryOf m) (memoryOf p) (contextIn x) (x .statement + 1) r → Going m x (r .at)
+  opener-going r c =
+      record {
+        state = stands-lent t m p x h;
+        processLow = h .ready .context .processLow;
+        processHigh = h .ready .context .processHigh;
+        worksLow = h .ready .context .worksLow;
+        worksHigh = h .ready .context .worksHigh;
+        small = let d = h .statements in let b = c .below in omega arith;
+      }
+
+pub ruleset opening = (opener-fits, opener-choosable, opener-going, opener-fails, opener-enters, opener-passes)

@@ -8,14 +8,11 @@ use Rattle.machine.specs.Memory.{memoryOf}
 use Rattle.machine.specs.Lent.{Changed, State}
 use Rattle.machine.specs.Layout.{pageWords}
 use Rattle.operands.specs.declared.Context.{Context}
-use Rattle.operands.specs.Ready.{contextIn, Ready}
+use Rattle.operands.specs.Ready.{contextIn}
 use Rattle.effects.specs.Effects.{Standing}
 use Rattle.effects.proofs.Carrying.{statement-there}
 
 module _ (t m p : List ℕ) (x : Context) (h : Standing t m p x) where
-  pub stands-ready : Ready t m p x
-  stands-ready = h .ready
-
   pub stands-lent : State m
   stands-lent = record { long = h .ready .state }
 

@@ -1,38 +1,30 @@
 -- Inner: for code and proofs only; no public promise is said with these definitions.
 -- What the code finds of arms and ends, and what it may be asked. Assumes nothing.
-use Prim.Native.Nat.{ℕ, _≤_, _<_}
+use Prim.Native.Nat.{ℕ, _-_, _≤_, _<_}
 use mathlib.Core.Path.{_≡_}
 use mathlib.Core.List.{List}
-use lib.Dec.{eqb}
+use lib.Dec.{eqb, ltb}
 use Rattle.basics.specs.Choice.{pick}
 use Rattle.table.specs.Table.{Table}
 use Rattle.table.specs.Entries.{stmtCount}
-use Rattle.words.specs.Values.{failureNumber}
 use Rattle.machine.specs.Memory.{Memory}
 use Rattle.machine.specs.Lent.{State}
 use Rattle.machine.specs.Outcomes.{Outcome, ok, fail, stuck}
 use Rattle.machine.specs.Entries.{Opener, if, while, when, cycle}
 use Rattle.machine.specs.Context as machine
-use Rattle.machine.specs.Statements.{Choice, enters, skips, endOf, choose}
+use Rattle.machine.specs.Statements as statements
+use Rattle.machine.specs.Statements.{enters, skips, endOf, choose}
 use Rattle.operands.specs.declared.Context.{Context}
-use Rattle.guards.specs.declared.Found.{Found}
-use Rattle.guards.specs.declared.Found.the-variants.{Arm, End, Fails}
+use Rattle.operands.specs.Packed.{FailureListed}
+use Rattle.guards.specs.declared.Choice.{Choice}
 
 -- the structured statement of kind k (01, The table): if 6, while 7, when 8, cycle 9
 unfoldable pub openerOf : ℕ → Opener
 openerOf k = pick (eqb k 7) while (pick (eqb k 8) when (pick (eqb k 9) cycle if))
 
--- what the guards came to
-abbrev pub found : Found → Outcome Choice
-found (Arm i) = ok (enters i)
-found (End i) = ok (skips i)
-found (Fails f) = fail (failureNumber f)
-
--- the statement that they lead to
-abbrev pub foundAt : Found → ℕ
-foundAt (Arm i) = i
-foundAt (End i) = i
-foundAt (Fails f) = 0
+-- what the guards come to: the end of the arms, where none is true; the arm whose guard is the first that is; or the failure of a guard
+unfoldable pub picks : Choice → Outcome statements.Choice
+picks r = pick (ltb (r .value) 65536) (pick (eqb (r .value) 0) (ok (skips (r .at))) (ok (enters (r .at)))) (fail (r .value - 65536))
 
 -- the guards of the arms from i on can be evaluated
 pub record Choosable (T : Table) (m page : Memory) (x : machine.Context) (i : ℕ) : Type 0 where
@@ -45,9 +37,10 @@ pub record Choosing (T : Table) (m page : Memory) (x : machine.Context) (i j : �
   pub unstuck : choose T m page x (stmtCount T) i ≡ stuck → ⊥
 
 -- r is what the guards from i on come to, a statement that exists
-pub record Chosen (T : Table) (m page : Memory) (x : machine.Context) (i : ℕ) (r : Found) : Type 0 where
-  pub is : found r ≡ choose T m page x (stmtCount T) i
-  pub below : foundAt r < stmtCount T
+pub record Picked (T : Table) (m page : Memory) (x : machine.Context) (i : ℕ) (r : Choice) : Type 0 where
+  pub is : picks r ≡ choose T m page x (stmtCount T) i
+  pub below : r .at < stmtCount T
+  pub listed : FailureListed (r .value)
 
 -- the end of the arms from i on, by the links of at most n
 unfoldable pub endAt : Table → ℕ → ℕ → Outcome ℕ

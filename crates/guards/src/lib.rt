@@ -1,29 +1,30 @@
 // The structured statements (11.6 to 11.10) and skip: which arm is entered, where a process goes on after it, and when it is blocked.
 use code::kinds;
+use evaluation::Stack;
+use evaluation::eval;
 use operands::Context;
-use words::values::Failure;
-use words::values::Value;
+use operands::packed::FAILURES;
 ghost use mathlib.Core.Path.{_≡_};
 ghost use Prim.Native.Nat.{_+_, _≤_, _<_};
 ghost use Rattle.basics.specs.Choice.{pick};
 ghost use Rattle.table.specs.Entries.{stmtKind, stmtA};
-ghost use Rattle.words.specs.Values.{outcomeOf};
 ghost use Rattle.code.specs.Code.{decoded};
 ghost use Rattle.machine.specs.Memory.{memoryOf, update};
 ghost use Rattle.machine.specs.Layout.{statementAt, holderAt};
 ghost use Rattle.machine.specs.Lent.{Becomes};
 ghost use Rattle.machine.specs.Entries.{repeats};
-ghost use Rattle.machine.specs.Operands.{operand};
-ghost use Rattle.operands.specs.Answers.{firstWord, Evaluable, OneWord};
-ghost use Rattle.operands.specs.Ready.{contextIn, Ready};
+ghost use Rattle.operands.specs.Answers.{Evaluable, OneWord};
+ghost use Rattle.operands.specs.Packed.{Evaluated};
+ghost use Rattle.operands.specs.Ready.{contextIn};
 ghost use Rattle.effects.specs.Effects.{StatementLeaves, Standing};
-ghost use Rattle.guards.specs.Guards.{openerOf, Choosable, Chosen, Linked, ArmsEnd, Going};
+ghost use Rattle.engine.specs.Planning.{Rooted};
+ghost use Rattle.evaluation.specs.Acting.{PlanOf, Acting};
+ghost use Rattle.guards.specs.Guards.{openerOf, Choosable, Picked, Linked, ArmsEnd, Going};
 
-// The arm whose guard is the first that is true, the end of the arms where none is, or the failure of a guard.
-pub enum Found {
-    Arm(usize),
-    End(usize),
-    Fails(Failure),
+// Value 0 and the end of the arms, a value above 65,535, which is a failure, or the arm whose guard is true.
+struct Choice {
+    at: usize,
+    value: u32,
 }
 
 // 11.1: the process goes on.
@@ -37,42 +38,54 @@ pub fn skip(c: &code::Slots, state: &mut [u8], page: &[u8], x: Context) -> u8
 }
 
 // The value of the guard of arm i.
-fn guard(c: &code::Slots, state: &[u8], page: &[u8], x: Context, i: usize) -> Value
-    requires { ⌜ Ready (now c) (now state) (now page) x ⌝ }
+fn guard(
+    c: &code::Slots,
+    k: &mut [u16],
+    stack: &mut Stack,
+    state: &[u8],
+    page: &[u8],
+    x: Context,
+    i: usize,
+) -> u32
+    requires { ⌜ Acting (now c) (now k) (now state) (now page) x ⌝ }
     requires { ⌜ Evaluable (decoded (now c)) (memoryOf (now state)) (memoryOf (now page)) (contextIn x) (stmtA (decoded (now c)) i) ⌝ }
     requires { ⌜ OneWord (decoded (now c)) (stmtA (decoded (now c)) i) ⌝ }
-    ensures { λ r. ⌜ outcomeOf r ≡ firstWord (operand (decoded (now (c .entry))) (memoryOf (now (state .entry))) (memoryOf (now (page .entry))) (contextIn x) (stmtA (decoded (now (c .entry))) i)) ⌝ }
+    requires { ⌜ Rooted (decoded (now c)) (stmtA (decoded (now c)) i) ⌝ }
+    ensures answer { λ r. ⌜ Evaluated (now (c .entry)) (now (state .entry)) (now (page .entry)) x (stmtA (decoded (now (c .entry))) i) r ⌝ }
+    ensures plan { λ _. ⌜ PlanOf (now (c .entry)) (now (k .exit)) ⌝ }
 {
     let a = code::stmt_a(c, i);
-    operands::eval::eval(c, state, page, x, a)
+    eval(c, k, stack, state, page, x, a)
 }
 
 // The guards of the arms from i on, in the order written (11.6).
-fn choose(c: &code::Slots, state: &[u8], page: &[u8], x: Context, i: usize) -> Found
-    requires { ⌜ Ready (now c) (now state) (now page) x ⌝ }
+fn choose(
+    c: &code::Slots,
+    k: &mut [u16],
+    stack: &mut Stack,
+    state: &[u8],
+    page: &[u8],
+    x: Context,
+    i: usize,
+) -> Choice
+    requires { ⌜ Acting (now c) (now k) (now state) (now page) x ⌝ }
     requires { ⌜ Choosable (decoded (now c)) (memoryOf (now state)) (memoryOf (now page)) (contextIn x) i ⌝ }
-    ensures { λ r. ⌜ Chosen (decoded (now (c .entry))) (memoryOf (now (state .entry))) (memoryOf (now (page .entry))) (contextIn x) i r ⌝ }
+    ensures answer { λ r. ⌜ Picked (decoded (now (c .entry))) (memoryOf (now (state .entry))) (memoryOf (now (page .entry))) (contextIn x) i r ⌝ }
+    ensures plan { λ _. ⌜ PlanOf (now (c .entry)) (now (k .exit)) ⌝ }
 {
     let mut j = i;
     while code::stmt_kind(c, j) == kinds::ARM {
-        let v = guard(c, state, page, x, j);
-        match v {
-            Value::Fail(f) => {
-                return Found::Fails(f);
-            }
-            Value::Word(w) => {
-                if w != 0 {
-                    return Found::Arm(j);
-                }
-            }
+        let v = guard(c, k, stack, state, page, x, j);
+        if v != 0 {
+            return Choice { at: j, value: v };
         }
         j = code::stmt_link(c, j);
     }
-    Found::End(j)
+    Choice { at: j, value: 0 }
 }
 
 // A guard is true: its arm is entered. A when or cycle then holds the variables that the process works on (11.9, 11.10, 13).
-pub fn enter(state: &mut [u8], x: Context, waits: bool, i: usize) -> u8
+fn enter(state: &mut [u8], x: Context, waits: bool, i: usize) -> u8
     requires { ⌜ Going (now state) x i ⌝ }
     ensures { λ r. ⌜ (r ≡ 0) × Becomes (now (state .exit)) (update (pick waits (update (memoryOf (now (state .entry))) (holderAt (x .works)) (x .process)) (memoryOf (now (state .entry)))) (statementAt (x .process)) (i + 1)) ⌝ }
 {
@@ -86,7 +99,7 @@ pub fn enter(state: &mut [u8], x: Context, waits: bool, i: usize) -> u8
 }
 
 // No guard is true: the process goes on after the end i. A when or cycle is blocked, and gives the variables up (11.9, 11.10, 13).
-pub fn pass(state: &mut [u8], x: Context, waits: bool, i: usize) -> u8
+fn pass(state: &mut [u8], x: Context, waits: bool, i: usize) -> u8
     requires { ⌜ Going (now state) x i ⌝ }
     ensures { λ r. ⌜ (r ≡ pick waits 1 0) × Becomes (now (state .exit)) (pick waits (update (memoryOf (now (state .entry))) (holderAt (x .works)) 0) (update (memoryOf (now (state .entry))) (statementAt (x .process)) (i + 1))) ⌝ }
 {
@@ -99,19 +112,31 @@ pub fn pass(state: &mut [u8], x: Context, waits: bool, i: usize) -> u8
 }
 
 // An if, while, when or cycle is followed by its first arm.
-pub fn open(c: &code::Slots, state: &mut [u8], page: &[u8], x: Context) -> u8
-    requires { ⌜ Standing (now c) (now state) (now page) x ⌝ }
+pub fn open(
+    c: &code::Slots,
+    k: &mut [u16],
+    stack: &mut Stack,
+    state: &mut [u8],
+    page: &[u8],
+    x: Context,
+) -> u8
+    requires { ⌜ Acting (now c) (now k) (now state) (now page) x ⌝ }
     requires { ⌜ (6 ≤ stmtKind (decoded (now c)) (x .statement)) × (stmtKind (decoded (now c)) (x .statement) ≤ 9) ⌝ }
-    ensures { λ r. ⌜ StatementLeaves (now (c .entry)) (now (state .entry)) (now (page .entry)) x r (now (state .exit)) (now (page .entry)) ⌝ }
+    ensures answer { λ r. ⌜ StatementLeaves (now (c .entry)) (now (state .entry)) (now (page .entry)) x r (now (state .exit)) (now (page .entry)) ⌝ }
+    ensures plan { λ _. ⌜ PlanOf (now (c .entry)) (now (k .exit)) ⌝ }
 {
     let waits = kinds::WHEN <= code::stmt_kind(c, x.statement);
     let first = x.statement + 1;
-    let r = choose(c, state, page, x, first);
-    match r {
-        Found::Fails(f) => effects::fail(state, f),
-        Found::Arm(i) => enter(state, x, waits, i),
-        Found::End(i) => pass(state, x, waits, i),
+    let r = choose(c, k, stack, state, page, x, first);
+    let v = r.value;
+    let i = r.at;
+    if FAILURES <= v {
+        return effects::fail_by(state, v);
     }
+    if v == 0 {
+        return pass(state, x, waits, i);
+    }
+    enter(state, x, waits, i)
 }
 
 // The end of the arms from i on: each arm is linked to the next.

@@ -1,5 +1,5 @@
 -- Assignments that are not stuck (11.2): what each call may ask, and each return. Assumes nothing.
-use Prim.Native.Nat.{ℕ, _+_, _<_, _≤_}
+use Prim.Native.Nat.{ℕ, _+_, _-_, _<_, _≤_}
 use mathlib.Core.Path.{_≡_, refl, sym, ap, subst, _∙_}
 use mathlib.Core.Bool.{Bool, true, false}
 use mathlib.Core.List.{List, [], _∷_}
@@ -7,20 +7,17 @@ use lib.ListN.{length}
 use native.Mathlib.Nat.{add-zero}
 use native.Mathlib.Omega.{arith}
 use Rattle.table.specs.Entries.{nodeCount, nodeKind, nodeP, nodeQ, stmtKind, stmtA, stmtB}
+use Rattle.table.specs.Reading.{Field}
 use Rattle.types.specs.Types.{NodeType, numbered, evened, typeOf}
 use Rattle.types.specs.Match.{matching, isEqual}
 use Rattle.sizes.specs.Sizes.{wordsOf}
 use Rattle.numbers.proofs.OperandPromise.{assign-variable, assign-value}
 use Rattle.typing.proofs.Promise.{assignment}
-use Rattle.words.specs.Values.{failureNumber, outcomeOf}
-use Rattle.words.specs.declared.values.Failure.{Failure}
-use Rattle.words.specs.declared.values.Value.{Value}
-use Rattle.words.specs.declared.values.Value.the-variants.{Word, Fail}
 use Rattle.machine.specs.Memory.{Memory, memoryOf, update, store, wordsAt}
 use Rattle.machine.specs.Layout.{statementAt, failureAt, locations}
-use Rattle.machine.specs.Lent.{State, Becomes}
+use Rattle.machine.specs.Lent.{Becomes}
 use Rattle.machine.specs.Marks.{mark}
-use Rattle.machine.specs.Outcomes.{ok, fail, stuck, need, place, value, text, onTyped}
+use Rattle.machine.specs.Outcomes.{ok, stuck, need, place, value, text, onTyped}
 use Rattle.machine.specs.Texts.{textAt}
 use Rattle.machine.specs.Entries.{stmtAt}
 use Rattle.machine.specs.Variables.{fits}
@@ -30,24 +27,24 @@ use Rattle.machine.proofs.Copies.{store-none, store-more}
 use Rattle.machine.proofs.Memories.{length-words}
 use Rattle.code.specs.Code.{decoded}
 use Rattle.operands.specs.declared.Context.{Context}
-use Rattle.operands.specs.declared.Place.{Place}
-use Rattle.operands.specs.declared.Place.the-variants as place
-use Rattle.operands.specs.Answers.{selected, firstWord, single, OneWord, Retrieval, Retrieved}
-use Rattle.operands.specs.Ready.{contextIn, Ready, Valued, Counted}
+use Rattle.operands.specs.Answers.{single, OneWord, Retrieval}
+use Rattle.operands.specs.Packed.{Located, Evaluated, RetrievedFrom}
+use Rattle.operands.specs.Ready.{contextIn, Valued, Counted}
 use Rattle.operands.proofs.Lending.{expression-valued, expression-counted}
 use Rattle.operands.proofs.Nodes.{is-string}
 use Rattle.operands.proofs.OneWords.{one-true}
+use Rattle.operands.proofs.Packing.{told-word, told-failure, told-place, told-no-place}
 use Rattle.operands.proofs.Typed.{OfType, typed-variable, typed-expression}
 use Rattle.operands.proofs.TypeWords.{match-words, match-nodes, words-constant, words-numbered}
 use Rattle.operands.proofs.Yielding.{place-fits, failed}
 use Rattle.operands.proofs.Yielding as yielding
 use Rattle.operands.proofs.Selecting.{out, Sel, fits-low, fits-high}
-use Rattle.operands.proofs.Evaluating.{Ev, only-retrieval, got-type, got-failed, got-fits, got-place, got-value}
+use Rattle.operands.proofs.Evaluating.{Ev, only-retrieval, got-type, stands-fits}
 use Rattle.effects.specs.Effects.{statementStep, Stepped, Standing}
 use Rattle.effects.proofs.Carrying.{performs-assign}
 use Rattle.transfers.specs.Assignments.{Assigning, Copying, copied}
 use Rattle.transfers.proofs.Following.{apart, need-true, need-done, place-failed, place-goes, place-unstuck, typed-failed, typed-goes, typed-reads, typed-unstuck, typed-gave}
-use Rattle.transfers.proofs.Steps.{goes-on, stands-there, stands-below, stands-bounds, stands-lent, stands-fail, stands-done}
+use Rattle.transfers.proofs.Steps.{goes-on, stands-there, stands-below, stands-fail, stands-done}
 
 -- ---- the laws of `copy`
 
@@ -86,33 +83,23 @@ module _ (t m p : List ℕ) (x : Context) (h : Standing t m p x) (hk : stmtKind 
     pub assign-selectable : Sel t m p x a
     assign-selectable = rw ha variable-there
 
-    module _ (l : Place) (hl : selected l (typeOf (decoded t) a) ≡ out t m p x a) where
-      pub assign-fails : (e : Failure) (r : ℕ) (s1 : List ℕ) → l ≡ place.Fail e → r ≡ failureNumber e
-          → Becomes s1 (update (memoryOf m) failureAt (failureNumber e))
+    module _ (l : ℕ) (hl : Located t m p x a l) where
+      pub assign-fails : (r : ℕ) (s1 : List ℕ) → 65536 ≤ l → r ≡ l - 65536 → Becomes s1 (update (memoryOf m) failureAt (l - 65536))
           → Stepped r s1 p (statementStep (decoded t) (memoryOf m) (memoryOf p) (contextIn x))
       unfolding doAssign
-      assign-fails e r s1 g k c =
-          let q : out t m p x a ≡ fail (failureNumber e) = sym hl ∙ rw g in
-          let d = rw ha at q in
-          stands-fail t m p x h (failureNumber e) r s1 (does ∙ place-failed _ _ (failureNumber e) d) k c
+      assign-fails r s1 g k c =
+          let q = rw ha at (told-no-place (typeOf (decoded t) a) _ l hl g) in
+          stands-fail t m p x h (l - 65536) r s1 (does ∙ place-failed _ _ (l - 65536) q) k c
 
-      pub assign-target : (i : ℕ) → l ≡ place.At i → Assigning t m p x i
-      assign-target i g =
-          let q : out t m p x a ≡ ok (place i (typeOf (decoded t) a)) = sym hl ∙ rw g in
-          record { standing = h; kind = hk; below = stands-below t m p x h; target = rw ha at q }
+      pub assign-target : (i : ℕ) → l < 65536 → Field l i → Assigning t m p x i
+      assign-target i g f =
+          let e = f .is in
+          let q = rw ha at (told-place (typeOf (decoded t) a) _ l hl g) in
+          record { standing = h; kind = hk; below = stands-below t m p x h; target = rw e q }
 
 -- ---- the laws of `assign_at`
 
 module _ (t m p : List ℕ) (x : Context) (i : ℕ) (c : Assigning t m p x i) where
-  pub assigning-ready : Ready t m p x
-  assigning-ready = c .standing .ready
-
-  pub assigning-lent : State m
-  assigning-lent = stands-lent t m p x (c .standing)
-
-  pub assigning-bounds : (1 ≤ x .process) × ((x .process ≤ 64) × (x .statement < 65535))
-  assigning-bounds = stands-bounds t m p x (c .standing)
-
   target-fits : fits (decoded t) i (typeOf (decoded t) (stmtA (decoded t) (x .statement))) ≡ true
   target-fits =
       place-fits (decoded t) (typeOf (decoded t) (stmtA (decoded t) (x .statement))) i (typeOf (decoded t) (stmtA (decoded t) (x .statement)))
@@ -169,6 +156,9 @@ module _ (t m p : List ℕ) (x : Context) (i : ℕ) (c : Assigning t m p x i) wh
       pub assigning-one : r ≡ true → OneWord (decoded t) (stmtB (decoded t) (x .statement))
       assigning-one e = rw (← hb) (one-true (decoded t) b (sym hr ∙ e))
 
+      pub assigning-several : r ≡ false → single (decoded t) (stmtB (decoded t) (x .statement)) ≡ false
+      assigning-several e = rw (← hb) (sym hr ∙ e)
+
       module _ (k : ℕ) (hk : k ≡ nodeKind (decoded t) b) where
         pub assigning-text : k ≡ 8 → nodeKind (decoded t) (stmtB (decoded t) (x .statement)) ≡ 8
         assigning-text e = rw (← hb, ← hk) e
@@ -176,7 +166,7 @@ module _ (t m p : List ℕ) (x : Context) (i : ℕ) (c : Assigning t m p x i) wh
         pub assigning-words : r ≡ false → (k ≡ 8 → ⊥) → nodeKind (decoded t) (stmtB (decoded t) (x .statement)) ≡ 4
         assigning-words e n =
             only-retrieval (decoded t) (nodeCount (decoded t)) (stmtB (decoded t) (x .statement)) (c .standing .ready .ranged)
-            (c .standing .ready .typed) (value-there .expression .below) (value-there .expression) (rw hb at (sym hr ∙ e)) (λ g. n (hk ∙ rw hb g))
+            (c .standing .ready .typed) (value-there .expression .below) (value-there .expression) (assigning-several e) (λ g. n (hk ∙ rw hb g))
 
   -- ---- the laws of `assign_word`
 
@@ -184,20 +174,20 @@ module _ (t m p : List ℕ) (x : Context) (i : ℕ) (c : Assigning t m p x i) wh
     pub word-one : OneWord (decoded t) b
     word-one = rw hb o
 
-    module _ (v : Value) (hv : outcomeOf v ≡ firstWord (out t m p x b)) where
-      pub word-fails : (e : Failure) (r : ℕ) (s1 : List ℕ) → v ≡ Fail e → r ≡ failureNumber e
-          → Becomes s1 (update (memoryOf m) failureAt (failureNumber e))
+    module _ (v : ℕ) (hv : Evaluated t m p x b v) where
+      pub word-fails : (r : ℕ) (s1 : List ℕ) → 65536 ≤ v → r ≡ v - 65536 → Becomes s1 (update (memoryOf m) failureAt (v - 65536))
           → Stepped r s1 p (statementStep (decoded t) (memoryOf m) (memoryOf p) (contextIn x))
-      word-fails e r s1 g k d =
-          let q : out t m p x (stmtB (decoded t) (x .statement)) ≡ fail (failureNumber e) = rw hb at (failed _ _ (rw g at hv)) in
-          stands-fail t m p x (c .standing) (failureNumber e) r s1 (then ∙ typed-failed _ _ (failureNumber e) q) k d
+      word-fails r s1 g k d =
+          let q = rw hb at (failed _ _ (told-failure _ v hv g)) in
+          stands-fail t m p x (c .standing) (v - 65536) r s1 (then ∙ typed-failed _ _ (v - 65536) q) k d
 
-      pub word-returns : (w : ℕ) (s1 s2 : List ℕ) → v ≡ Word w
+      pub word-returns : (w : ℕ) (s1 s2 : List ℕ) → v < 65536 → Field v w
           → Becomes s1 (mark (update (memoryOf m) i w) i 1) → Becomes s2 (update (memoryOf s1) (statementAt (x .process)) (x .statement + 1))
           → Stepped 0 s2 p (statementStep (decoded t) (memoryOf m) (memoryOf p) (contextIn x))
-      word-returns w s1 s2 g d₁ d₂ =
+      word-returns w s1 s2 g f d₁ d₂ =
+          let e = f .is in
           let q = typed-expression (decoded t) (memoryOf m) (memoryOf p) (contextIn x) (c .standing .ready .ranged) (stmtB (decoded t) (x .statement)) (value-there .expression) (o .numbered) in
-          let j = typed-gave (decoded t) (typeOf (decoded t) (stmtB (decoded t) (x .statement))) (out t m p x (stmtB (decoded t) (x .statement))) _ w (apart _ _ then (c .standing .unstuck)) q (rw (g, hb) at hv) in
+          let j = typed-gave (decoded t) (typeOf (decoded t) (stmtB (decoded t) (x .statement))) (out t m p x (stmtB (decoded t) (x .statement))) _ w (apart _ _ then (c .standing .unstuck)) q (rw e (rw hb at (told-word _ v hv g))) in
           let only : j .words ≡ w ∷ [] = yielding.single (j .words) (j .long ∙ o .is) ∙ rw (j .first) in
           stands-done t m p x (c .standing) 0 s2 (update (mark (update (memoryOf m) i w) i 1) (statementAt (x .process)) (x .statement + 1))
           (keeps (j .words) (j .is) ∙ rw (only, store-one (memoryOf m) i w))
@@ -242,24 +232,29 @@ module _ (t m p : List ℕ) (x : Context) (i : ℕ) (c : Assigning t m p x i) wh
       pub words-valued : Valued t b
       words-valued = rw hb (expression-valued t m p x (c .standing .ready) _ (value-there .expression) (λ e. omega arith))
 
-      module _ (l : Place) (hl : Retrieved (decoded t) (memoryOf m) (memoryOf p) (contextIn x) b l) where
-        here : Retrieved (decoded t) (memoryOf m) (memoryOf p) (contextIn x) (stmtB (decoded t) (x .statement)) l
+      pub words-several : single (decoded t) (stmtB (decoded t) (x .statement)) ≡ false → single (decoded t) b ≡ false
+      words-several e = rw hb e
+
+      module _ (l : ℕ) (hl : RetrievedFrom t m p x b l) where
+        here : RetrievedFrom t m p x (stmtB (decoded t) (x .statement)) l
         here = rw hb at hl
 
-        pub words-fails : (e : Failure) (r : ℕ) (s1 : List ℕ) → l ≡ place.Fail e → r ≡ failureNumber e
-            → Becomes s1 (update (memoryOf m) failureAt (failureNumber e))
+        pub words-fails : (r : ℕ) (s1 : List ℕ) → 65536 ≤ l → r ≡ l - 65536 → Becomes s1 (update (memoryOf m) failureAt (l - 65536))
             → Stepped r s1 p (statementStep (decoded t) (memoryOf m) (memoryOf p) (contextIn x))
-        words-fails e r s1 g h d =
-            stands-fail t m p x (c .standing) (failureNumber e) r s1
-            (then ∙ typed-failed _ _ (failureNumber e) (got-failed t m p x (c .standing .ready) _ is-retrieval l here e g)) h d
+        words-fails r s1 g h d =
+            stands-fail t m p x (c .standing) (l - 65536) r s1 (then ∙ typed-failed _ _ (l - 65536) (here .fails g)) h d
 
-        module _ (j n : ℕ) (g : l ≡ place.At j) (hn : n ≡ wordsOf (decoded t) (typeOf (decoded t) b)) where
+        module _ (g : l < 65536) (j n : ℕ) (f : Field l j) (hn : n ≡ wordsOf (decoded t) (typeOf (decoded t) b)) where
           count : n ≡ wordsOf (decoded t) (typeOf (decoded t) (stmtB (decoded t) (x .statement)))
           count = hn ∙ rw hb
 
           found : out t m p x (stmtB (decoded t) (x .statement))
               ≡ ok (value (typeOf (decoded t) (stmtB (decoded t) (x .statement))) (wordsAt (memoryOf m) j n))
-          found = got-value t m p x (c .standing .ready) _ is-retrieval l here j g ∙ rw (← count)
+          found = let e = f .is in rw (e, count) (here .holds g)
+
+          source : out t m p x (nodeP (decoded t) (stmtB (decoded t) (x .statement)))
+              ≡ ok (place j (typeOf (decoded t) (nodeP (decoded t) (stmtB (decoded t) (x .statement)))))
+          source = let e = f .is in rw e (here .stands g)
 
           target-words : n ≡ wordsOf (decoded t) (typeOf (decoded t) (stmtA (decoded t) (x .statement)))
           target-words = count ∙ sym (same-words (wordsAt (memoryOf m) j n) found)
@@ -271,16 +266,16 @@ module _ (t m p : List ℕ) (x : Context) (i : ℕ) (c : Assigning t m p x i) wh
           copied-apart : SameOrApart j i n
           copied-apart =
               rw (← source-words) at (c .standing .places .apart (nodeP (decoded t) (stmtB (decoded t) (x .statement))) (stmtA (decoded t) (x .statement)) j i _ _
-              (got-place t m p x (c .standing .ready) _ is-retrieval l here j g) (c .target) (sym source-words ∙ target-words))
+              source (c .target) (sym source-words ∙ target-words))
 
           pub words-copying : Copying x j i n
           words-copying =
-              let a = fits-high (decoded t) j (typeOf (decoded t) (stmtB (decoded t) (x .statement))) (got-fits t m p x (c .standing .ready) _ is-retrieval l here j g) in
+              let a = fits-high (decoded t) j (typeOf (decoded t) (stmtB (decoded t) (x .statement))) (stands-fits t m p x (c .standing .ready) _ is-retrieval j source) in
               let b = fits-high (decoded t) i (typeOf (decoded t) (stmtA (decoded t) (x .statement))) target-fits in
               record {
-                processLow = assigning-bounds .0;
-                processHigh = assigning-bounds .1 .0;
-                statement = assigning-bounds .1 .1;
+                processLow = c .standing .ready .context .processLow;
+                processHigh = c .standing .ready .context .processHigh;
+                statement = c .below;
                 words = record { source = rw count a; target = rw target-words b; apart = copied-apart };
               }
 
@@ -290,4 +285,6 @@ module _ (t m p : List ℕ) (x : Context) (i : ℕ) (c : Assigning t m p x i) wh
           words-returns s1 d =
               stands-done t m p x (c .standing) 0 s1 _ (rw (length-words (memoryOf m) j n) at (keeps (wordsAt (memoryOf m) j n) found)) d
 
-pub ruleset assigns = (assign-selectable, assign-fails, assign-target, assigning-ready, assigning-lent, assigning-bounds, assigning-low, assigning-evaluable, assigning-counted, assigning-one, assigning-text, assigning-words, word-one, word-fails, word-returns, text-fits, text-returns, words-retrieval, words-valued, words-fails, words-copying, words-returns)
+pub ruleset assigns = (assign-selectable, assigning-low, assigning-evaluable, assigning-counted, assigning-one, assigning-several, assigning-text, assigning-words, word-one, text-fits, text-returns, words-retrieval, words-valued, words-several)
+
+pub ruleset assigned = (assign-fails, word-fails, word-returns, words-fails, words-copying, words-returns)

@@ -18,7 +18,6 @@ use Rattle.words.specs.Values.{failureNumber}
 use Rattle.words.specs.declared.values.Failure.{Failure}
 use Rattle.machine.specs.Memory.{Memory, memoryOf}
 use Rattle.machine.specs.Layout.{moduleAt, createdAt, locations}
-use Rattle.machine.specs.Lent.{State}
 use Rattle.machine.specs.Marks.{marked}
 use Rattle.machine.specs.Context as machine
 use Rattle.machine.specs.Outcomes.{Outcome, ok, fail, stuck, andThen, need, failWhere, Operand, place, value, placed, onPlace}
@@ -38,7 +37,6 @@ use Rattle.operands.proofs.Selecting.{fits-low}
 use Rattle.transfers.specs.declared.Reference.{Reference}
 use Rattle.transfers.specs.declared.Reference.the-variants.{To, Fail}
 use Rattle.transfers.proofs.Following.{apart, need-true, need-done, no-stuck, not-stuck, no-ok, ok-is, fail-is}
-use Rattle.transfers.proofs.Steps.{lent-state}
 use Rattle.transfers.specs.References.{referenceOf, referredProcess, placeRefers, referred, Referring}
 
 -- ---- process types
@@ -129,7 +127,7 @@ module _ (m : Memory) (a : ℕ) (b : Bool) (hb : b ≡ marked m a) where
 -- the reference at a place of a process type
 at-reference : (T : Table) (m : Memory) (a τ : ℕ) → typeKind T τ ≡ 3 → (referenceOf T m (ok (place a τ)) ≡ stuck → ⊥)
     → referenceOf T m (ok (place a τ)) ≡ placeRefers m a
-unfolding referenceOf placeRefers referredProcess onReference failWhere not
+unfolding referenceOf placeRefers referredProcess onReference failWhere
 at-reference T m a τ e g =
     let d = process-at T τ (λ i μ. onReference m i μ (λ r. ok r)) a e in
     cases (marked m a)
@@ -147,9 +145,6 @@ module _ (t m p : List ℕ) (x : Context) (h : Ready t m p x) (n : ℕ)
   is-selected : Selected (decoded t) (typeOf (decoded t) n) (operand (decoded t) (memoryOf m) (memoryOf p) (contextIn x) n)
   unfolding referenceOf
   is-selected = process-selected (decoded t) (typeOf (decoded t) n) _ _ is-typed (c .unstuck)
-
-  pub reference-lent : State m
-  reference-lent = lent-state m (h .state)
 
   pub reference-selectable : Selectable (decoded t) (memoryOf m) (memoryOf p) (contextIn x) n
   reference-selectable = record { variable = c .variable; unstuck = selected-unstuck is-selected }
@@ -177,7 +172,7 @@ module _ (t m p : List ℕ) (x : Context) (h : Ready t m p x) (n : ℕ)
           rw is-place
           (d ∙ sym (at-reference (decoded t) (memoryOf m) a (typeOf (decoded t) n) (selected-kind here) (λ k. c .unstuck (rw is-place k))))
 
-pub ruleset references = (refer-empty, refer-to, refer-unset, refer-marked, reference-lent, reference-selectable, reference-fails, reference-low, reference-returns)
+pub ruleset references = (refer-empty, refer-to, refer-unset, refer-marked, reference-selectable, reference-fails, reference-low, reference-returns)
 
 -- ---- what a statement does with a reference: v is the module of the variable's type, b what must hold of it (11.3, 11.5)
 
@@ -209,17 +204,17 @@ module _ {A : Type 0} (m : Memory) (a v : ℕ) (b : Bool) (f : ℕ → Outcome A
   asks = need-done b (onReference m a v f) g
 
   unset-fails : marked m a ≡ false → need b (onReference m a v f) ≡ fail 31
-  unfolding failWhere not
+  unfolding failWhere
   unset-fails u = asks ∙ rw u
 
   empty-fails : marked m a ≡ true → m a ≡ 0 → need b (onReference m a v f) ≡ fail 19
-  unfolding failWhere not
+  unfolding failWhere
   empty-fails u e = asks ∙ rw (u, eq-eqb (m a) 0 e)
 
   -- a variable that is marked and not empty
   module _ (u : marked m a ≡ true) (e : m a ≡ 0 → ⊥) where
     full-asks : need b (onReference m a v f) ≡ need (refers m v (m a)) (f (m a))
-    unfolding failWhere not
+    unfolding failWhere
     full-asks = asks ∙ rw (u, ne-eqb (m a) 0 e)
 
     full-refers : refers m v (m a) ≡ true
@@ -229,7 +224,7 @@ module _ {A : Type 0} (m : Memory) (a v : ℕ) (b : Bool) (f : ℕ → Outcome A
     full-goes = full-asks ∙ need-done (refers m v (m a)) (f (m a)) (apart _ _ full-asks g)
 
   reference-alone : onReference m a v (λ r. ok r) ≡ placeRefers m a
-  unfolding onReference failWhere placeRefers referredProcess need not
+  unfolding onReference failWhere placeRefers referredProcess need
   reference-alone =
       cases (marked m a)
       (λ u.
@@ -349,12 +344,6 @@ module _ {A : Type 0} (T : Table) (m page : Memory) (x : machine.Context) (h : i
           q a e
           (word-full m a (typeP T (typeOf T n)) (b (typeP T (typeOf T n))) (f (typeP T (typeOf T n))) (unstuck-there a e) j ((rw z at hr) ∙ reference-there a e)))
           (λ k e. no-ok j k ((rw z at hr) ∙ reference-fails-there k e))
-
-      pub follows-kind : typeKind T (typeOf T n) ≡ 3
-      follows-kind = to-place (λ a e w. kind-there a e)
-
-      pub follows-test : b (typeP T (typeOf T n)) ≡ true
-      follows-test = to-place (λ a e w. need-true (b (typeP T (typeOf T n))) _ (unstuck-there a e))
 
       pub follows-to : follows T m page x n b f ≡ f (typeP T (typeOf T n)) j
       follows-to =

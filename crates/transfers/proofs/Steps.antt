@@ -1,28 +1,21 @@
 -- What a statement has at hand where its process stands, and how it ends. Assumes nothing.
-use Prim.Native.Nat.{ℕ, _+_, _<_, _≤_}
+use Prim.Native.Nat.{ℕ, _+_, _<_}
 use mathlib.Core.Path.{_≡_, refl}
 use mathlib.Core.List.{List}
-use lib.ListN.{length}
 use native.Mathlib.Omega.{arith}
 use Rattle.table.specs.Table.{Table}
 use Rattle.table.specs.Entries.{stmtCount}
 use Rattle.machine.specs.Memory.{Memory, memoryOf, update}
-use Rattle.machine.specs.Layout.{failureAt, statementAt, stateSize}
+use Rattle.machine.specs.Layout.{failureAt, statementAt}
 use Rattle.machine.specs.Lent.{State, Becomes}
 use Rattle.machine.specs.Outcomes.{ok, fail}
 use Rattle.machine.specs.Entries.{stmtAt}
 use Rattle.machine.specs.Statements.{effect, goTo, goOn, perform}
 use Rattle.code.specs.Code.{decoded}
 use Rattle.operands.specs.declared.Context.{Context}
-use Rattle.operands.specs.Ready.{contextIn, Ready}
+use Rattle.operands.specs.Ready.{contextIn}
 use Rattle.effects.specs.Effects.{statementStep, Stepped, Standing}
 use Rattle.effects.proofs.Carrying.{statement-there, stepped, stepped-fail}
-
-pub lent-state : (m : List ℕ) → length m ≡ stateSize → State m
-lent-state m e = record { long = e }
-
-pub lent-after : (s1 : List ℕ) (m : Memory) → Becomes s1 m → State s1
-lent-after s1 m c = record { long = c .long }
 
 pub goes-on : (T : Table) (m page s : Memory) (x : Context)
     → goOn T m page (contextIn x) s ≡ ok (effect 0 (update s (statementAt (x .process)) (x .statement + 1)) page)
@@ -30,11 +23,8 @@ unfolding goOn goTo contextIn
 goes-on T m page s x = refl
 
 module _ (t m p : List ℕ) (x : Context) (h : Standing t m p x) where
-  pub stands-ready : Ready t m p x
-  stands-ready = h .ready
-
   pub stands-lent : State m
-  stands-lent = lent-state m (h .ready .state)
+  stands-lent = record { long = h .ready .state }
 
   pub stands-there : x .statement < stmtCount (decoded t)
   unfolding contextIn
@@ -43,9 +33,6 @@ module _ (t m p : List ℕ) (x : Context) (h : Standing t m p x) where
   -- the count of the statements is a word
   pub stands-below : x .statement < 65535
   stands-below = let l = stands-there in let k = h .statements in omega arith
-
-  pub stands-bounds : (1 ≤ x .process) × ((x .process ≤ 64) × (x .statement < 65535))
-  stands-bounds = (h .ready .context .processLow, (h .ready .context .processHigh, stands-below))
 
   -- the statement has failed
   pub stands-fail : (n r : ℕ) (s1 : List ℕ)

@@ -1,5 +1,5 @@
 -- Write statements that are not stuck (12.3): what each call may ask, and each return. Assumes nothing.
-use Prim.Native.Nat.{ℕ, _+_, _*_, _/_, _<_, _≤_}
+use Prim.Native.Nat.{ℕ, _+_, _-_, _*_, _/_, _<_, _≤_}
 use mathlib.Core.Path.{_≡_, sym, ap, _∙_}
 use mathlib.Core.Bool.{true, false}
 use mathlib.Core.List.{List}
@@ -9,6 +9,7 @@ use native.Mathlib.Omega.{arith}
 use Rattle.basics.specs.Cases.{cases}
 use Rattle.table.specs.Table.{Table}
 use Rattle.table.specs.Entries.{stmtKind, stmtA, stmtB}
+use Rattle.table.specs.Reading.{Field}
 use Rattle.types.specs.Types.{typeOf}
 use Rattle.numbers.proofs.OperandPromise.{write-address, write-value}
 use Rattle.typing.proofs.Promise.{written-address, written-value, address-numbered, written-numbered}
@@ -25,7 +26,7 @@ use Rattle.words.proofs.MemoryLaws.{length-put-at}
 use Rattle.words.proofs.DeviceLaws.{position-even, position-le}
 use Rattle.machine.specs.Memory.{memoryOf, update}
 use Rattle.machine.specs.Layout.{statementAt, failureAt, pageSize}
-use Rattle.machine.specs.Lent.{State, Becomes}
+use Rattle.machine.specs.Lent.{Becomes}
 use Rattle.machine.specs.Outcomes.{Outcome, fail, stuck, need, failWhere, Operand, onWord, wordOf}
 use Rattle.machine.specs.Entries.{stmtAt}
 use Rattle.machine.specs.Operands.{deviceWord}
@@ -35,8 +36,10 @@ use Rattle.machine.proofs.Memories.{memory-put}
 use Rattle.code.specs.Code.{decoded}
 use Rattle.operands.specs.declared.Context.{Context}
 use Rattle.operands.specs.Answers.{firstWord, OneWord}
-use Rattle.operands.specs.Ready.{contextIn, Ready}
+use Rattle.operands.specs.Packed.{Evaluated}
+use Rattle.operands.specs.Ready.{contextIn}
 use Rattle.operands.proofs.OneWords.{one-standard}
+use Rattle.operands.proofs.Packing.{told-word, told-failure}
 use Rattle.operands.proofs.Typed.{OfType, typed-expression}
 use Rattle.operands.proofs.Yielding.{failed}
 use Rattle.operands.proofs.Selecting.{out}
@@ -45,7 +48,7 @@ use Rattle.effects.specs.Effects.{statementStep, Stepped, Standing}
 use Rattle.effects.proofs.Carrying.{performs-write}
 use Rattle.transfers.specs.Devices.{writes, Writing}
 use Rattle.transfers.proofs.Following.{apart, no-word, need-done, value-failed, value-goes, value-unstuck, value-gave}
-use Rattle.transfers.proofs.Steps.{stands-there, stands-below, stands-bounds, stands-lent, stands-fail}
+use Rattle.transfers.proofs.Steps.{stands-there, stands-below, stands-fail}
 
 -- ---- the laws of `write_word`
 
@@ -133,33 +136,23 @@ module _ (t m p : List ℕ) (x : Context) (h : Standing t m p x) (hk : stmtKind 
         let q = written-address (decoded t) (h .ready .typed) (x .statement) (stands-there t m p x h) hk in
         rw ha (one-standard (decoded t) (stmtA (decoded t) (x .statement)) (omega arith))
 
-    module _ (v : Value) (hv : outcomeOf v ≡ firstWord (out t m p x a)) where
-      pub address-fails : (e : Failure) (r : ℕ) (s1 : List ℕ) → v ≡ Fail e → r ≡ failureNumber e
-          → Becomes s1 (update (memoryOf m) failureAt (failureNumber e))
+    module _ (v : ℕ) (hv : Evaluated t m p x a v) where
+      pub address-fails : (r : ℕ) (s1 : List ℕ) → 65536 ≤ v → r ≡ v - 65536 → Becomes s1 (update (memoryOf m) failureAt (v - 65536))
           → Stepped r s1 p (statementStep (decoded t) (memoryOf m) (memoryOf p) (contextIn x))
       unfolding onWord
-      address-fails e r s1 g k c =
-          let q = failed _ _ (rw (g, ha) at hv) in
-          stands-fail t m p x h (failureNumber e) r s1 (does ∙ value-failed _ _ (failureNumber e) q) k c
+      address-fails r s1 g k c =
+          let q = rw ha at (failed _ _ (told-failure _ v hv g)) in
+          stands-fail t m p x h (v - 65536) r s1 (does ∙ value-failed _ _ (v - 65536) q) k c
 
-      pub address-writing : (i : ℕ) → v ≡ Word i → Writing t m p x i
-      address-writing i g = record { standing = h; kind = hk; below = stands-below t m p x h; address = rw (g, ha) at hv }
+      pub address-writing : (i : ℕ) → v < 65536 → Field v i → Writing t m p x i
+      address-writing i g f =
+          let e = f .is in
+          let q = rw ha at (told-word _ v hv g) in
+          record { standing = h; kind = hk; below = stands-below t m p x h; address = rw e q }
 
 -- ---- the laws of `write_value`
 
 module _ (t m p : List ℕ) (x : Context) (i : ℕ) (c : Writing t m p x i) where
-  pub writing-ready : Ready t m p x
-  writing-ready = c .standing .ready
-
-  pub writing-lent : State m
-  writing-lent = stands-lent t m p x (c .standing)
-
-  pub writing-page : length p ≡ pageSize
-  writing-page = c .standing .ready .page
-
-  pub writing-bounds : (1 ≤ x .process) × ((x .process ≤ 64) × (x .statement < 65535))
-  writing-bounds = stands-bounds t m p x (c .standing)
-
   then : perform (decoded t) (memoryOf m) (memoryOf p) (contextIn x) (stmtAt (decoded t) (x .statement))
       ≡ onWord (out t m p x (stmtB (decoded t) (x .statement))) 0 (λ v. writes (memoryOf m) (memoryOf p) x i v)
   then =
@@ -188,24 +181,26 @@ module _ (t m p : List ℕ) (x : Context) (i : ℕ) (c : Writing t m p x i) wher
         let q = written-value (decoded t) (c .standing .ready .typed) (x .statement) (stands-there t m p x (c .standing)) (c .kind) in
         rw hb (one-standard (decoded t) (stmtB (decoded t) (x .statement)) (omega arith))
 
-    module _ (v : Value) (hv : outcomeOf v ≡ firstWord (out t m p x b)) where
-      pub writing-fails : (e : Failure) (r : ℕ) (s1 : List ℕ) → v ≡ Fail e → r ≡ failureNumber e
-          → Becomes s1 (update (memoryOf m) failureAt (failureNumber e))
+    module _ (v : ℕ) (hv : Evaluated t m p x b v) where
+      pub writing-fails : (r : ℕ) (s1 : List ℕ) → 65536 ≤ v → r ≡ v - 65536 → Becomes s1 (update (memoryOf m) failureAt (v - 65536))
           → Stepped r s1 p (statementStep (decoded t) (memoryOf m) (memoryOf p) (contextIn x))
       unfolding onWord
-      writing-fails e r s1 g k d =
-          let q = failed _ _ (rw (g, hb) at hv) in
-          stands-fail t m p x (c .standing) (failureNumber e) r s1 (then ∙ value-failed _ _ (failureNumber e) q) k d
+      writing-fails r s1 g k d =
+          let q = rw hb at (failed _ _ (told-failure _ v hv g)) in
+          stands-fail t m p x (c .standing) (v - 65536) r s1 (then ∙ value-failed _ _ (v - 65536) q) k d
 
-      pub writing-returns : (w r : ℕ) (s1 d1 : List ℕ) → v ≡ Word w
+      pub writing-returns : (w r : ℕ) (s1 d1 : List ℕ) → v < 65536 → Field v w
           → Stepped r s1 d1 (settled (memoryOf m) (memoryOf p) (writes (memoryOf m) (memoryOf p) x i w))
           → Stepped r s1 d1 (statementStep (decoded t) (memoryOf m) (memoryOf p) (contextIn x))
       unfolding statementStep contextIn
-      writing-returns w r s1 d1 g d =
+      writing-returns w r s1 d1 g f d =
+          let q = f .is in
           let e = then ∙ word-goes (decoded t) (typeOf (decoded t) (stmtB (decoded t) (x .statement))) _ _ w (apart _ _ then (c .standing .unstuck))
           (typed-expression (decoded t) (memoryOf m) (memoryOf p) (contextIn x) (c .standing .ready .ranged) (stmtB (decoded t) (x .statement)) (value-there .expression)
           (written-numbered (decoded t) (c .standing .ready .typed) (x .statement) (stands-there t m p x (c .standing)) (c .kind)))
-          (rw (g, hb) at hv) in
+          (rw q (rw hb at (told-word _ v hv g))) in
           rw (← e) at d
 
-pub ruleset writings = (write-fails, write-returns, address-evaluable, address-one, address-fails, address-writing, writing-ready, writing-lent, writing-page, writing-bounds, writing-evaluable, writing-one, writing-fails, writing-returns)
+pub ruleset writings = (write-fails, write-returns, address-evaluable, address-one, writing-evaluable, writing-one)
+
+pub ruleset written = (writing-fails, writing-returns)

@@ -1,7 +1,8 @@
 // Create statements (11.4): a new process of the variable's module, to which the variable then refers.
+use evaluation::Stack;
+use evaluation::place_of;
 use operands::Context;
 use operands::Place;
-use operands::eval::select;
 use words::values::Failure;
 ghost use mathlib.Core.Path.{_≡_};
 ghost use Rattle.table.specs.Entries.{stmtKind};
@@ -10,7 +11,8 @@ ghost use Rattle.machine.specs.Lent.{WordSlice, State};
 ghost use Rattle.machine.specs.Step.{settled};
 ghost use Rattle.machine.specs.Layout.{pageWords};
 ghost use Rattle.code.specs.Code.{decoded};
-ghost use Rattle.effects.specs.Effects.{Stepped, StatementLeaves, Standing};
+ghost use Rattle.effects.specs.Effects.{Stepped, StatementLeaves};
+ghost use Rattle.evaluation.specs.Acting.{PlanOf, Acting};
 ghost use Rattle.transfers.specs.Creations.{CreatePremises, creates};
 
 // A process of module `block`, for the variable at location i: the next number, or 24 while 64 processes exist (01). The page is left
@@ -37,13 +39,21 @@ fn create_next(state: &mut [u8], page: &[u8], x: Context, i: usize, block: usize
 }
 
 // 11.4.
-pub fn create(c: &code::Slots, state: &mut [u8], page: &[u8], x: Context) -> u8
-    requires { ⌜ Standing (now c) (now state) (now page) x ⌝ }
+pub fn create(
+    c: &code::Slots,
+    k: &mut [u16],
+    stack: &mut Stack,
+    state: &mut [u8],
+    page: &[u8],
+    x: Context,
+) -> u8
+    requires { ⌜ Acting (now c) (now k) (now state) (now page) x ⌝ }
     requires { ⌜ stmtKind (decoded (now c)) (x .statement) ≡ 4 ⌝ }
-    ensures { λ r. ⌜ StatementLeaves (now (c .entry)) (now (state .entry)) (now (page .entry)) x r (now (state .exit)) (now (page .entry)) ⌝ }
+    ensures answer { λ r. ⌜ StatementLeaves (now (c .entry)) (now (state .entry)) (now (page .entry)) x r (now (state .exit)) (now (page .entry)) ⌝ }
+    ensures plan { λ _. ⌜ PlanOf (now (c .entry)) (now (k .exit)) ⌝ }
 {
     let a = code::stmt_a(c, x.statement);
-    let l = select(c, state, page, x, a);
+    let l = place_of(c, k, stack, state, page, x, a);
     match l {
         Place::Fail(f) => effects::fail(state, f),
         Place::At(i) => {

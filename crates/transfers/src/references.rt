@@ -1,5 +1,7 @@
 // What process variables refer to (5.2).
 use super::Reference;
+use evaluation::Stack;
+use evaluation::place_of;
 use operands::Context;
 use operands::Place;
 use words::values::Failure;
@@ -10,7 +12,9 @@ ghost use Rattle.machine.specs.Layout.{locations};
 ghost use Rattle.machine.specs.Lent.{State};
 ghost use Rattle.machine.specs.Operands.{operand};
 ghost use Rattle.code.specs.Code.{decoded};
-ghost use Rattle.operands.specs.Ready.{contextIn, Ready};
+ghost use Rattle.operands.specs.Ready.{contextIn};
+ghost use Rattle.engine.specs.Planning.{Rooted};
+ghost use Rattle.evaluation.specs.Acting.{PlanOf, Acting};
 ghost use Rattle.transfers.specs.References.{referenceOf, referredProcess, placeRefers, referred, Referring};
 
 // 0 is the empty reference.
@@ -24,7 +28,7 @@ fn refer(w: u16) -> Reference
 }
 
 // The process that the variable at location a refers to; before its value, its mark is tested (02, g).
-pub fn refer_at(state: &[u8], a: usize) -> Reference
+fn refer_at(state: &[u8], a: usize) -> Reference
     requires { ⌜ State (now state) ⌝ }
     requires { ⌜ a < locations ⌝ }
     ensures { λ r. ⌜ referred r ≡ placeRefers (memoryOf (now (state .entry))) a ⌝ }
@@ -36,12 +40,22 @@ pub fn refer_at(state: &[u8], a: usize) -> Reference
 }
 
 // The process that the variable of node n refers to.
-pub fn reference(c: &code::Slots, state: &[u8], page: &[u8], x: Context, n: usize) -> Reference
-    requires { ⌜ Ready (now c) (now state) (now page) x ⌝ }
+pub fn reference(
+    c: &code::Slots,
+    k: &mut [u16],
+    stack: &mut Stack,
+    state: &[u8],
+    page: &[u8],
+    x: Context,
+    n: usize,
+) -> Reference
+    requires { ⌜ Acting (now c) (now k) (now state) (now page) x ⌝ }
     requires { ⌜ Referring (decoded (now c)) (memoryOf (now state)) (memoryOf (now page)) (contextIn x) n ⌝ }
-    ensures { λ r. ⌜ referred r ≡ referenceOf (decoded (now (c .entry))) (memoryOf (now (state .entry))) (operand (decoded (now (c .entry))) (memoryOf (now (state .entry))) (memoryOf (now (page .entry))) (contextIn x) n) ⌝ }
+    requires { ⌜ Rooted (decoded (now c)) n ⌝ }
+    ensures answer { λ r. ⌜ referred r ≡ referenceOf (decoded (now (c .entry))) (memoryOf (now (state .entry))) (operand (decoded (now (c .entry))) (memoryOf (now (state .entry))) (memoryOf (now (page .entry))) (contextIn x) n) ⌝ }
+    ensures plan { λ _. ⌜ PlanOf (now (c .entry)) (now (k .exit)) ⌝ }
 {
-    let l = operands::eval::select(c, state, page, x, n);
+    let l = place_of(c, k, stack, state, page, x, n);
     match l {
         Place::Fail(f) => Reference::Fail(f),
         Place::At(a) => refer_at(state, a),

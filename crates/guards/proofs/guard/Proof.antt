@@ -4,4 +4,10 @@ use Rattle.guards.proofs.guard.Statement.{statement}
 use Rattle.guards.proofs.guard.Tie as tie
 
 pub guard-spec : {M : Type 1} → statement M
-guard-spec = tie.close (tie.spec (λ c κs. search needs) (λ c κs. search guards) (λ c. search guards))
+guard-spec =
+    tie.close
+    (tie.spec
+    (λ c κs. search needs)
+    (λ c κs. (search guards, (search guards, (search guards, search guards))))
+    (λ c. search needs)
+    (λ c. (search guards, search needs)))

@@ -1,5 +1,5 @@
-use borrow.Author.Needs.{needs}
 use Rattle.guards.proofs.Opening.{opening}
+use borrow.Author.Needs.{needs}
 use Rattle.guards.proofs.open.Statement.{statement}
 use Rattle.guards.proofs.open.Tie as tie
 
@@ -9,16 +9,16 @@ open-spec =
     (tie.spec
     (λ c κs. search needs)
     (λ c. search opening)
+    (λ c κs. (search needs, search opening))
+    (λ c κs. (search opening, (search needs, c .before .before .before .before .choose .ensures .0 .listed .is (search needs))))
+    (λ c. search needs)
+    (λ c. search needs)
+    (λ c. (search opening, search needs))
     (λ c κs. search opening)
     (λ c. search needs)
-    (λ c κs. search needs)
     (λ c. search needs)
+    (λ c. (search opening, search needs))
     (λ c κs. search opening)
     (λ c. search needs)
-    (λ c κs. search opening)
     (λ c. search needs)
-    (λ c. search opening)
-    (λ c. search needs)
-    (λ c. search opening)
-    (λ c. search needs)
-    (λ c. search opening))
+    (λ c. (search opening, search needs)))

@@ -1,5 +1,5 @@
-use Rattle.operands.proofs.Lending.{lends}
-use Rattle.calls.proofs.Passing.{other-kind, values}
+use Rattle.calls.proofs.Passing.{values}
+use Rattle.evaluation.proofs.Plans.{plans}
 use borrow.Author.Needs.{needs}
 use Rattle.calls.proofs.arguments.value_argument.Statement.{statement}
 use Rattle.calls.proofs.arguments.value_argument.Tie as tie
@@ -8,15 +8,17 @@ pub value-argument-spec : {M : Type 1} → statement M
 value-argument-spec =
     tie.close
     (tie.spec
-    (λ c κs. search needs)
     (λ c κs. search values)
-    (λ c κs. (search needs, (search values, (search needs, search needs))))
+    (λ c κs. (search needs, (search values, (search values, search needs))))
     (λ c. search needs)
-    (λ c. search (values, lends, needs))
+    (λ c. search needs)
+    (λ c. (search (values, needs), search needs))
     (λ c κs. search values)
     (λ c κs. search needs)
+    (λ c κs. search needs)
     (λ c. search needs)
-    (λ c. search (values, lends, needs))
-    (λ c κs. (search needs, (search values, (search other-kind, (search other-kind, search needs)))))
+    (λ c. (search (values, needs), search plans))
+    (λ c κs. (search needs, (search values, ((search values, search values), search needs))))
     (λ c. search needs)
-    (λ c. search (values, lends, needs)))
+    (λ c. search needs)
+    (λ c. (search (values, needs), search needs)))

@@ -8,10 +8,12 @@ pub word-argument-spec : {M : Type 1} → statement M
 word-argument-spec =
     tie.close
     (tie.spec
-    (λ c κs. search (passes, lends, needs))
+    (λ c κs. (search needs, (search passes, search needs)))
     (λ c. search needs)
     (λ c. search needs)
     (λ c κs. search needs)
-    (λ c. search (passes, lends, needs))
     (λ c. search needs)
-    (λ c. search (passes, lends, needs)))
+    (λ c. (search (passes, lends, needs), search needs))
+    (λ c. search needs)
+    (λ c. search needs)
+    (λ c. (search (passes, lends, needs), search needs)))

@@ -1,4 +1,5 @@
 use Rattle.calls.proofs.Serving.{serving-lent, serving-low, serving-high, serving-free, serving-waits}
+use Rattle.evaluation.proofs.Plans.{plans}
 use borrow.Author.Needs.{needs}
 use Rattle.calls.proofs.processes.serve.Statement.{statement}
 use Rattle.calls.proofs.processes.serve.Tie as tie
@@ -8,8 +9,9 @@ serve-spec =
     tie.close
     (tie.spec
     (λ c κs. (search serving-lent, (search serving-low, search serving-high)))
-    (λ c κs. (search needs, search serving-free))
+    (λ c κs. (search needs, (search needs, search serving-free)))
     (λ c. search needs)
     (λ c. search needs)
+    (λ c. (search needs, search needs))
     (λ c. search needs)
-    (λ c. search serving-waits))
+    (λ c. (search serving-waits, search plans)))

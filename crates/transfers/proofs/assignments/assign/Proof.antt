@@ -1,5 +1,6 @@
-use Rattle.operands.proofs.Lending.{lends}
-use Rattle.transfers.proofs.Assigning.{assigns}
+use Rattle.transfers.proofs.Assigning.{assigns, assigned, assign-target}
+use Rattle.evaluation.proofs.Plans.{plans}
+use Rattle.evaluation.proofs.Roots.{roots}
 use borrow.Author.Needs.{needs}
 use Rattle.transfers.proofs.assignments.assign.Statement.{statement}
 use Rattle.transfers.proofs.assignments.assign.Tie as tie
@@ -9,12 +10,18 @@ assign-spec =
     tie.close
     (tie.spec
     (λ c κs. search needs)
-    (λ c κs. (search (assigns, lends, needs), search (assigns, lends, needs)))
+    (λ c κs. (search needs, (search assigns, search roots)))
+    (λ c κs. (search needs, (search needs, c .before .before .before .before .select .ensures .0 .listed .is (search needs))))
     (λ c. search needs)
+    (λ c. search needs)
+    (λ c. (search assigned, search needs))
     (λ c κs. search needs)
+    (λ c κs. (
+      search plans,
+      let b = c .before .before .before .before .before .before .before in
+          let r = b .before .before .before .before .before .before .before .before .pre in
+          assign-target _ _ _ _ (r .0 .standing) (r .1) _ (b .before .before .before .before .stmt-a .ensures .is) _ (b .select .ensures .0) _ (search needs) (search needs),
+    ))
     (λ c. search needs)
-    (λ c κs. search (assigns, lends, needs))
     (λ c. search needs)
-    (λ c. search (assigns, lends, needs))
-    (λ c. search needs)
-    (λ c. search needs))
+    (λ c. (search needs, search needs)))

@@ -1,5 +1,5 @@
-use Rattle.operands.proofs.Lending.{lends}
 use Rattle.transfers.proofs.Assigning.{assigns}
+use Rattle.evaluation.proofs.Plans.{plans}
 use borrow.Author.Needs.{needs}
 use Rattle.transfers.proofs.assignments.assign_at.Statement.{statement}
 use Rattle.transfers.proofs.assignments.assign_at.Tie as tie
@@ -9,14 +9,16 @@ assign-at-spec =
     tie.close
     (tie.spec
     (λ c κs. search needs)
-    (λ c κs. search (assigns, lends, needs))
-    (λ c κs. (search needs, search (assigns, lends, needs)))
+    (λ c κs. search assigns)
+    (λ c κs. (search needs, (search needs, search assigns)))
     (λ c. search needs)
     (λ c. search needs)
+    (λ c. (search needs, search needs))
     (λ c κs. search needs)
-    (λ c κs. (search needs, search (assigns, lends, needs)))
+    (λ c κs. (search needs, search (assigns, needs)))
+    (λ c. search needs)
+    (λ c. (search needs, search plans))
+    (λ c κs. (search needs, (search needs, (search (assigns, needs), search assigns))))
     (λ c. search needs)
     (λ c. search needs)
-    (λ c κs. (search needs, search (assigns, lends, needs)))
-    (λ c. search needs)
-    (λ c. search needs))
+    (λ c. (search needs, search needs)))

@@ -1,4 +1,3 @@
-use Rattle.operands.proofs.Lending.{lends}
 use Rattle.transfers.proofs.Assigning.{assigns}
 use borrow.Author.Needs.{needs}
 use Rattle.transfers.proofs.assignments.assign_text.Statement.{statement}
@@ -11,7 +10,7 @@ assign-text-spec =
     (λ c κs. search needs)
     (λ c κs. search needs)
     (λ c κs. search needs)
-    (λ c κs. (search (assigns, lends, needs), search (assigns, lends, needs)))
+    (λ c κs. (search (assigns, needs), search (assigns, needs)))
     (λ c κs. search needs)
     (λ c. search needs)
-    (λ c. search (assigns, lends, needs)))
+    (λ c. search (assigns, needs)))

@@ -1,4 +1,4 @@
-use Rattle.operands.proofs.Lending.{lends}
+use Rattle.evaluation.proofs.Roots.{roots}
 use Rattle.transfers.proofs.Creating.{creations}
 use borrow.Author.Needs.{needs}
 use Rattle.transfers.proofs.creations.create.Statement.{statement}
@@ -9,14 +9,16 @@ create-spec =
     tie.close
     (tie.spec
     (λ c κs. search needs)
-    (λ c κs. (search (creations, lends, needs), search (creations, lends, needs)))
+    (λ c κs. (search needs, (search creations, search roots)))
     (λ c. search needs)
     (λ c κs. search needs)
     (λ c. search needs)
     (λ c κs. search needs)
     (λ c κs. search needs)
-    (λ c κs. (search needs, (search needs, search (creations, lends, needs))))
+    (λ c κs. (search needs, (search needs, search creations)))
     (λ c. search needs)
-    (λ c. search (creations, lends, needs))
     (λ c. search needs)
-    (λ c. search (creations, lends, needs)))
+    (λ c. (search creations, search needs))
+    (λ c. search needs)
+    (λ c. search needs)
+    (λ c. (search creations, search needs)))

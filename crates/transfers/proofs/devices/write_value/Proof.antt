@@ -1,5 +1,5 @@
-use Rattle.operands.proofs.Lending.{lends}
-use Rattle.transfers.proofs.Writing.{writings}
+use Rattle.transfers.proofs.Writing.{writings, written}
+use Rattle.evaluation.proofs.Roots.{roots}
 use borrow.Author.Needs.{needs}
 use Rattle.transfers.proofs.devices.write_value.Statement.{statement}
 use Rattle.transfers.proofs.devices.write_value.Tie as tie
@@ -9,14 +9,15 @@ write-value-spec =
     tie.close
     (tie.spec
     (λ c κs. search needs)
-    (λ c κs. (search (writings, lends, needs), (search (writings, lends, needs), search (writings, lends, needs))))
+    (λ c κs. (search needs, (search writings, (search writings, search roots))))
+    (λ c κs. (search needs, (search needs, c .before .before .before .before .eval .ensures .0 .listed .is (search needs))))
     (λ c. search needs)
+    (λ c. search needs)
+    (λ c. search needs)
+    (λ c. (search written, search needs))
+    (λ c κs. search needs)
     (λ c κs. search needs)
     (λ c. search needs)
-    (λ c κs. search needs)
     (λ c. search needs)
     (λ c. search needs)
-    (λ c. search (writings, lends, needs))
-    (λ c. search needs)
-    (λ c. search needs)
-    (λ c. search (writings, lends, needs)))
+    (λ c. (search written, search needs)))

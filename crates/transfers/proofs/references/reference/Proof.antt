@@ -1,5 +1,4 @@
 use Rattle.transfers.proofs.Referring.{references}
-use Rattle.operands.proofs.Lending.{lends}
 use borrow.Author.Needs.{needs}
 use Rattle.transfers.proofs.references.reference.Statement.{statement}
 use Rattle.transfers.proofs.references.reference.Tie as tie
@@ -8,9 +7,11 @@ pub reference-spec : {M : Type 1} → statement M
 reference-spec =
     tie.close
     (tie.spec
-    (λ c κs. (search (references, lends, needs), search (references, lends, needs)))
+    (λ c κs. (search needs, (search references, search needs)))
     (λ c. search needs)
     (λ c. search needs)
-    (λ c κs. (search (references, lends, needs), search (references, lends, needs)))
-    (λ c. search (references, lends, needs))
-    (λ c. search (references, lends, needs)))
+    (λ c κs. (search references, search references))
+    (λ c. search needs)
+    (λ c. (search references, search needs))
+    (λ c. search needs)
+    (λ c. (search references, search needs)))

@@ -1,0 +1,4 @@
+pub mod Plans
+pub mod Telling
+pub mod Enums
+pub mod Roots
