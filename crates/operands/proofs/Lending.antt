@@ -4,14 +4,13 @@ use mathlib.Core.Path.{_≡_, _∙_}
 use mathlib.Core.List.{List}
 use lib.ListN.{length}
 use native.Mathlib.Omega.{arith}
-use Rattle.table.specs.Entries.{nodeCount, nodeKind, varCount, varType}
+use Rattle.table.specs.Entries.{nodeCount, nodeKind}
 use Rattle.types.specs.Types.{typeOf}
 use Rattle.numbers.specs.Nodes.{Variable, Expression}
-use Rattle.numbers.proofs.TypePromise as numbers
 use Rattle.code.specs.Code.{slotIn, decoded}
 use Rattle.prepare.specs.Prepared.{Prepared}
 use Rattle.operands.specs.declared.Context.{Context}
-use Rattle.operands.specs.Ready.{Ready, Sized, Valued, Counted}
+use Rattle.operands.specs.Ready.{Ready, Valued, Counted}
 use Rattle.operands.proofs.NodeTypes.{type-there}
 use Rattle.operands.proofs.Typed.{below-eight}
 use Rattle.machine.specs.Layout.{stateSize, pageSize}
@@ -34,7 +33,7 @@ module _ (t m p : List ℕ) (x : Context) (h : Ready t m p x) where
   pub lends-type : (n τ : ℕ) → n < nodeCount (decoded t) → τ ≡ slotIn t n 23 → τ ≡ typeOf (decoded t) n
   lends-type n τ l e = e ∙ h .code .types n l
 
-  pub node-valued : (n : ℕ) → n < nodeCount (decoded t) → nodeKind (decoded t) n ≤ 7 → Valued t n
+  node-valued : (n : ℕ) → n < nodeCount (decoded t) → nodeKind (decoded t) n ≤ 7 → Valued t n
   node-valued n l k =
       record {
         there = l;
@@ -50,10 +49,5 @@ module _ (t m p : List ℕ) (x : Context) (h : Ready t m p x) where
   pub expression-counted : (n : ℕ) → Expression (decoded t) (nodeCount (decoded t)) n → Counted t n
   expression-counted n v =
       record { code = h .code; there = v .below; type = λ k. expression-valued n v k .type .there }
-
-  -- the type of variable v
-  pub variable-sized : (v τ : ℕ) → v < varCount (decoded t) → τ ≡ varType (decoded t) v → Sized t τ
-  variable-sized v τ l e =
-      record { code = h .code; sized = h .sized; there = rw e (numbers.var-type (decoded t) (h .ranged) v l) }
 
 pub ruleset lends = (lends-code, lends-state, lends-lent, lends-page)

@@ -1,5 +1,4 @@
 pub mod Packing
-pub mod Bearings
 pub mod Indexes
 pub mod Standing
 pub mod Applying
@@ -12,6 +11,3 @@ pub mod Lending
 pub mod OneWords
 pub mod Selecting
 pub mod Evaluating
-pub mod Combining
-pub mod Texts
-pub mod Comparing

@@ -35,7 +35,7 @@ module _ (T : Table) (h : inRange T ≡ true) (τ : ℕ) (l : τ < 3 + typeCount
   unfolding fieldOf
   field-there i k g = let u = field-lower T h τ l k i g in rw (eq-eqb (typeKind T τ) 1 k, lt-ltb i (typeQ T τ) g) (omega arith)
 
-  pub element-there : typeKind T τ ≡ 2 → typeQ T τ < 3 + typeCount T
+  element-there : typeKind T τ ≡ 2 → typeQ T τ < 3 + typeCount T
   element-there k = let u = element-lower T h τ l k in omega arith
 
 module _ (T : Table) (h : inRange T ≡ true) (y : typed T ≡ true) where

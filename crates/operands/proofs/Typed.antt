@@ -1,7 +1,7 @@
 -- An outcome that is not stuck has the type that is read off the table: a place of it fits its area, a value of it has its words.
 -- String constants, whose types have no number, are apart. Assumes nothing.
 use Prim.Native.Nat.{ℕ, zero, suc, _+_, _-_, _*_, _<_, _≤_}
-use mathlib.Core.Path.{_≡_, refl, sym, ap, subst}
+use mathlib.Core.Path.{_≡_, refl, sym}
 use mathlib.Core.Bool.{Bool, true, false}
 use mathlib.Core.List.{List}
 use lib.ListN.{length}
@@ -22,7 +22,8 @@ use Rattle.numbers.proofs.OperandPromise.{field-variable, element-variable, val
 use Rattle.sizes.specs.Sizes.{wordsOf, offsetIn}
 use Rattle.sizes.proofs.Counting.{words-standard}
 use Rattle.words.specs.Outcomes as words
-use Rattle.machine.specs.Memory.{Memory, wordsAt}
+use Rattle.machine.specs.Memory.{Memory}
+use Rattle.machine.proofs.Memories.{length-words}
 use Rattle.machine.specs.Context.{Context}
 use Rattle.machine.specs.Outcomes.{Outcome, ok, fail, stuck, andThen, need, failWhere, Operand, place, value, text, placed, valued, typedWords, onPlace, onValue, onTyped, onWord, wordOf}
 use Rattle.machine.specs.Entries.{recordType, arrayType, typeAt, noUnary, unaryAt, noBinary, binaryAt}
@@ -111,11 +112,6 @@ of-truth : (T : Table) (b : Bool) → OfType T 1 (truth b)
 unfolding truth
 of-truth T b = of-simple T 1 _ (omega arith)
 
-pub length-words : (m : Memory) (a n : ℕ) → length (wordsAt m a n) ≡ n
-unfolding wordsAt
-length-words m a zero = refl
-length-words m a (suc n) = ap suc (length-words m (a + 1) n)
-
 -- the entry of a type, by its kind
 module _ (T : Table) (τ : ℕ) where
   from-three : (k : ℕ) → typeKind T τ ≡ k → 1 ≤ k → 3 ≤ τ
@@ -125,20 +121,20 @@ module _ (T : Table) (τ : ℕ) where
       (λ g. let q : 0 ≡ k = rw g at e in absurd (omega arith))
       (λ g. ltb-false τ 3 g)
 
-  pub entry-record : typeKind T τ ≡ 1 → typeAt T τ ≡ recordType (typeP T τ) (typeQ T τ)
+  entry-record : typeKind T τ ≡ 1 → typeAt T τ ≡ recordType (typeP T τ) (typeQ T τ)
   unfolding typeAt
   entry-record e =
       let l = from-three 1 e (omega arith) in
       rw (ne-eqb τ 0 (λ q. omega arith), ne-eqb τ 1 (λ q. omega arith), ne-eqb τ 2 (λ q. omega arith), e)
 
-  pub entry-array : typeKind T τ ≡ 2 → typeAt T τ ≡ arrayType (typeP T τ) (typeQ T τ) (typeLow T τ) (typeHigh T τ)
+  entry-array : typeKind T τ ≡ 2 → typeAt T τ ≡ arrayType (typeP T τ) (typeQ T τ) (typeLow T τ) (typeHigh T τ)
   unfolding typeAt
   entry-array e =
       let l = from-three 2 e (omega arith) in
       rw (ne-eqb τ 0 (λ q. omega arith), ne-eqb τ 1 (λ q. omega arith), ne-eqb τ 2 (λ q. omega arith), e)
 
   -- of another kind there is no field and no element
-  pub no-record : (typeKind T τ ≡ 1 → ⊥) → {A : Type 0} (f : ℕ → ℕ → Outcome A) → onRecord (typeAt T τ) f ≡ stuck
+  no-record : (typeKind T τ ≡ 1 → ⊥) → {A : Type 0} (f : ℕ → ℕ → Outcome A) → onRecord (typeAt T τ) f ≡ stuck
   unfolding typeAt onRecord
   no-record n f =
       cases (eqb τ 0) (λ a. rw a) (λ a.

@@ -3,5 +3,3 @@ pub mod Places
 pub mod Operators
 pub mod Ready
 pub mod Packed
-pub mod Bases
-pub mod Sources

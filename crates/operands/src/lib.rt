@@ -1,11 +1,8 @@
-// The selection of variables (8) and the evaluation of expressions (9, 10), in a step that is not stuck. The table is lent
-// decoded (code), with what is found once of it.
-pub mod bases;
-pub mod eval;
+// What the operands of a statement are found with: the operators on words (10), what is read of a state and of a table at a place (8),
+// answers as one number, and the context of a statement (13). The table is lent decoded (code), with what is found once of it.
 pub mod operators;
 pub mod packed;
 pub mod places;
-pub mod sources;
 
 // A location, or the failure of the step.
 pub enum Place {
