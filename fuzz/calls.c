@@ -25,7 +25,7 @@
 int LLVMFuzzerTestOneInput(const uint8_t *data, size_t size);
 
 enum { WRONG_STATE = 1, WRONG_PAGE = 2, SHORT_ANSWERS = 4, LONG_ANSWERS = 8, WARM = 16, SINGLE_STEPS = 32, ZEROS = 64, REPEATED = 128 };
-/* A run goes by a plan where it has at least as many steps as the table has nodes (crates/stepper), at most 255. */
+/* In a long run rows of a plan (crates/engine) are made and used again: one of at least as many steps as the table has nodes, at most 255. */
 enum { REPEATS = 4, SCHEDULE_MAX = REPEATS * 255, TAIL = 64 };
 
 struct input {
@@ -148,7 +148,7 @@ static uint32_t run(const struct input *in, struct lent *l, size_t first, size_t
 
 #ifdef COUNT
 static struct {
-    unsigned long inputs, verdicts[JOYCE_TYPES + 1], accepted_long, stepped, stepped_strings, planned, planned_long, by_reserve, by_area;
+    unsigned long inputs, verdicts[JOYCE_TYPES + 1], accepted_long, stepped, stepped_strings, long_runs, long_tables, by_reserve, by_area;
     bool has_stepped; /* the input at hand */
 } seen;
 
@@ -159,9 +159,9 @@ static double share(unsigned long part)
 
 static void tell(void)
 {
-    fprintf(stderr, "%lu inputs, %.1f %% step an accepted program, %.1f %% one with string constants, %.1f %% one by a plan, %lu of these of more "
-                    "than 191 nodes, %.1f %% pass a reserve, %.1f %% pass an area; accepted and longer than 100 bytes: %.1f %%; verdicts",
-            seen.inputs, share(seen.stepped), share(seen.stepped_strings), share(seen.planned), seen.planned_long, share(seen.by_reserve),
+    fprintf(stderr, "%lu inputs, %.1f %% step an accepted program, %.1f %% one with string constants, %.1f %% one in a long run, %lu of these of "
+                    "more than 191 nodes, %.1f %% pass a reserve, %.1f %% pass an area; accepted and longer than 100 bytes: %.1f %%; verdicts",
+            seen.inputs, share(seen.stepped), share(seen.stepped_strings), share(seen.long_runs), seen.long_tables, share(seen.by_reserve),
             share(seen.by_area), share(seen.accepted_long));
     for (int i = 0; i <= JOYCE_TYPES; i++)
         if (i != JOYCE_LENGTH)
@@ -196,12 +196,12 @@ static bool has_strings(const struct input *in)
     return section_at(in, 7) + 1 < in->table_len;
 }
 
-static void count_plan(const struct input *in)
+static void count_long(const struct input *in)
 {
     size_t at = section_at(in, 5), nodes = at < in->table_len ? in->table[at] : 0;
-    bool is_planned = seen.has_stepped && in->turns >= nodes;
-    seen.planned += is_planned;
-    seen.planned_long += is_planned && nodes > 191;
+    bool is_long = seen.has_stepped && in->turns >= nodes;
+    seen.long_runs += is_long;
+    seen.long_tables += is_long && nodes > 191;
 }
 
 static void count(const struct input *in, uint32_t verdict)
@@ -210,7 +210,7 @@ static void count(const struct input *in, uint32_t verdict)
     seen.accepted_long += verdict == JOYCE_ACCEPTED && in->table_len > 100;
     seen.stepped += seen.has_stepped;
     seen.stepped_strings += seen.has_stepped && has_strings(in);
-    count_plan(in);
+    count_long(in);
     seen.has_stepped = false;
 }
 static void count_room(bool is_reserve)

@@ -44,7 +44,7 @@
  *
  * States across versions. Within one JOYCE_VERSION_MAJOR, a state that one release left is read by all others that accept its table, and
  * means the same. A new major number may refuse it, with JOYCE_LENGTH or JOYCE_STATE, and will say so here. Keep the number with what you store.
- * 2.2 reads the states of 2.0 and 2.1, but a run that goes on from one may fail with JOYCE_AREA where it did not: see Space, and docs/ADOPT.md.
+ * 2.2 reads states of 2.0 and 2.1, but a run that goes on from one may fail with JOYCE_AREA where it did not: see Space, and docs/ADOPT.md.
  * Version 2 refuses the states of version 1, which had 35,328 bytes, with JOYCE_LENGTH; docs/ADOPT.md has how to carry them over.
  *
  * ---- Tables
@@ -85,8 +85,8 @@ extern "C" {
  * statically with the header that it came with. */
 #define JOYCE_VERSION_MAJOR 2
 #define JOYCE_VERSION_MINOR 2
-#define JOYCE_VERSION_PATCH 2
-#define JOYCE_VERSION "2.2.2"
+#define JOYCE_VERSION_PATCH 3
+#define JOYCE_VERSION "2.2.3"
 
 /* Sizes, in bytes. */
 #define JOYCE_STATE_SIZE 37376 /* a state: 64 areas of 512 bytes, 64 control records of 40, then a mark for each word of the areas */

@@ -199,7 +199,7 @@ static bool threads(void)
     return is_same || bad("the runs of the threads differ");
 }
 
-/* Long calls, which go by a plan, leave on a small stack what single steps leave. */
+/* Long calls, which use rows of a plan again, leave on a small stack what single steps leave, each of which makes its rows anew. */
 enum { LONG = 384, TABLES = 300 / SHARE };
 
 struct long_run {

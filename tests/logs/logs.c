@@ -31,7 +31,7 @@
 #include <string.h>
 
 enum { STATE = 37376, PAGE = 8192, LONGEST = 7913 }; /* the longest eight sections */
-enum { LONG = 384 }; /* steps for which the library makes a plan of every table: more than the most nodes, 255 */
+enum { LONG = 384 }; /* steps of a long call, in which the library uses rows of its plan again: more than the most nodes, 255 */
 enum { EMPTY = 19, FULL = 22, UNSET = 31, UNSET_WORD = 32 };
 
 struct calls {
