@@ -44,7 +44,7 @@
  *
  * States across versions. Within one JOYCE_VERSION_MAJOR, a state that one release left is read by all others that accept its table, and
  * means the same. A new major number may refuse it, with JOYCE_LENGTH or JOYCE_STATE, and will say so here. Keep the number with what you store.
- * 2.2 reads states of 2.0 and 2.1, but a run that goes on from one may fail with JOYCE_AREA where it did not: see Space, and docs/ADOPT.md.
+ * 2.2 reads the states of 2.0 and 2.1, but a run that goes on from one may fail with JOYCE_AREA where it did not: see Space, and docs/ADOPT.md.
  * Version 2 refuses the states of version 1, which had 35,328 bytes, with JOYCE_LENGTH; docs/ADOPT.md has how to carry them over.
  *
  * ---- Tables

@@ -21,7 +21,7 @@ ghost use Rattle.engine.specs.Planning.{Rooted};
 ghost use Rattle.evaluation.specs.Acting.{PlanOf, Acting};
 ghost use Rattle.guards.specs.Guards.{openerOf, Choosable, Picked, Linked, ArmsEnd, Going};
 
-// Value 0 and the end of the arms, a value above 65,535, which is a failure, or the arm whose guard is true.
+// The first arm whose guard is not false, with its value, or its failure (from 65,536 on); or the end of the arms, with 0.
 struct Choice {
     at: usize,
     value: u32,
