@@ -4,11 +4,14 @@
 use Prim.Native.Nat.{ℕ, _+_, _-_, _≤_, _<_}
 use mathlib.Core.List.{List, _∷_, _++_}
 use lib.ListN.{length, replicate}
+use Rattle.table.specs.Table.{Table}
 use Rattle.machine.specs.Memory.{Memory, update, store, clear}
 use Rattle.machine.specs.Layout.{location, recordAt, statusAt, statementAt, frameAt, topAt, worksAt, holderAt, depthAt, callerFrame, callerWorks, locations}
 use Rattle.machine.specs.Marks.{mark, fresh}
 use Rattle.machine.specs.Places.{SameOrApart}
-use Rattle.machine.specs.Calls.{standing}
+use Rattle.machine.specs.Lent.{Becomes}
+use Rattle.machine.specs.Context.{contextOf}
+use Rattle.machine.specs.Calls.{standing, pushed, frameMarked, popped}
 use Rattle.machine.specs.Processes.{created}
 
 -- n words from one location on can be copied to another, one after the other
@@ -69,6 +72,14 @@ withStart m r c n ws = standing (withParameters m r ws) r c 0 n r 0
 -- the end of process p: its variables are given up (13)
 unfoldable pub ended : Memory → ℕ → Memory
 ended m p = update (update m (statusAt p) 3) (holderAt p) 0
+
+-- what is left, from state s, of a call of procedure q on process r by process p with the argument words ws, and of the end of p's innermost
+-- call, whose statement is c; the definitions of `machine` take a page, which they do not read
+abbrev pub CallLeaves : Table → Memory → List ℕ → ℕ → Memory → ℕ → ℕ → List ℕ → Type 0
+CallLeaves T m n p s q r ws = (page : Memory) → Becomes n (frameMarked T m page (contextOf m p) (pushed T m page (contextOf m p) s q r ws) q ws)
+
+abbrev pub ReturnLeaves : Memory → List ℕ → ℕ → Memory → ℕ → Type 0
+ReturnLeaves m n p s c = (T : Table) (page : Memory) → Becomes n (popped T m page (contextOf m p) s c)
 
 -- the frame that is to be pushed fits the area
 pub record FrameFits (m : Memory) (p n : ℕ) : Type 0 where

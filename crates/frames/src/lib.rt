@@ -3,20 +3,18 @@ ghost use mathlib.Core.Path.{_≡_};
 ghost use mathlib.Core.List.{[]};
 ghost use Prim.Native.Nat.{_+_, _-_, _≤_, _<_};
 ghost use lib.ListN.{length, take};
-ghost use Rattle.table.specs.Table.{Table};
 ghost use Rattle.types.specs.Types.{evened};
 ghost use Rattle.sizes.specs.Sizes.{moduleWords};
 ghost use Rattle.code.specs.Code.{decoded};
-ghost use Rattle.machine.specs.Memory.{Memory, memoryOf, update, store, clear, wordsAt};
+ghost use Rattle.machine.specs.Memory.{memoryOf, update, store, clear, wordsAt};
 ghost use Rattle.machine.specs.Layout.{location, statementAt, worksAt, holderAt, failureAt, stateWords, locations};
 ghost use Rattle.machine.specs.Marks.{mark, fresh};
 ghost use Rattle.machine.specs.Lent.{State, Becomes};
 ghost use Rattle.machine.specs.Texts.{textAt};
 ghost use Rattle.machine.specs.Variables.{frameWords};
-ghost use Rattle.machine.specs.Context.{contextOf};
-ghost use Rattle.machine.specs.Calls.{standing, pushed, frameMarked, popped};
+ghost use Rattle.machine.specs.Calls.{standing};
 ghost use Rattle.machine.specs.Processes.{created, started};
-ghost use Rattle.frames.specs.Frames.{Direct, withPosition, padded, linked, framed, framedMarks, entered, calledIn, left, wiped, withParameters, withStart, withProcess, ended, FrameFits, InCall};
+ghost use Rattle.frames.specs.Frames.{Direct, withPosition, padded, linked, framed, framedMarks, entered, calledIn, left, wiped, withParameters, withStart, withProcess, ended, CallLeaves, ReturnLeaves, FrameFits, InCall};
 
 // The first n words of the buffer, to the words from `at` on.
 pub fn copy_words(state: &mut [u8], at: usize, n: usize, words: &[u16])
@@ -367,7 +365,7 @@ pub fn push_local(
     requires { ⌜ FrameFits (memoryOf (now state)) p size ⌝ }
     requires { ⌜ (n ≤ size) × ((n ≤ length (now words)) × (q < 65536)) ⌝ }
     requires { ⌜ size ≡ frameWords (decoded (now c)) q ⌝ }
-    ensures { λ _. ⌜ ((page : Memory) → Becomes (now (state .exit)) (frameMarked (decoded (now (c .entry))) (memoryOf (now (state .entry))) page (contextOf (memoryOf (now (state .entry))) p) (pushed (decoded (now (c .entry))) (memoryOf (now (state .entry))) page (contextOf (memoryOf (now (state .entry))) p) (memoryOf (now (state .entry))) q (memoryOf (now (state .entry)) (worksAt p)) (take n (now (words .entry)))) q (take n (now (words .entry))))) ⌝ }
+    ensures { λ _. ⌜ CallLeaves (decoded (now (c .entry))) (memoryOf (now (state .entry))) (now (state .exit)) p (memoryOf (now (state .entry))) q (memoryOf (now (state .entry)) (worksAt p)) (take n (now (words .entry))) ⌝ }
 {
     let first = code::first_stmt(c, q);
     let works = machine::record_word(state, p, machine::WORKS);
@@ -389,7 +387,7 @@ pub fn push_process(
     requires { ⌜ FrameFits (memoryOf (now state)) p size ⌝ }
     requires { ⌜ (n ≤ size) × ((n ≤ length (now words)) × ((q < 65536) × ((1 ≤ r) × (r ≤ 64)))) ⌝ }
     requires { ⌜ size ≡ frameWords (decoded (now c)) q ⌝ }
-    ensures { λ _. ⌜ ((page : Memory) → Becomes (now (state .exit)) (frameMarked (decoded (now (c .entry))) (memoryOf (now (state .entry))) page (contextOf (memoryOf (now (state .entry))) p) (pushed (decoded (now (c .entry))) (memoryOf (now (state .entry))) page (contextOf (memoryOf (now (state .entry))) p) (update (memoryOf (now (state .entry))) (holderAt r) p) q r (take n (now (words .entry)))) q (take n (now (words .entry))))) ⌝ }
+    ensures { λ _. ⌜ CallLeaves (decoded (now (c .entry))) (memoryOf (now (state .entry))) (now (state .exit)) p (update (memoryOf (now (state .entry))) (holderAt r) p) q r (take n (now (words .entry))) ⌝ }
 {
     let first = code::first_stmt(c, q);
     hold(state, r, p as u16);
@@ -401,7 +399,7 @@ pub fn pop_local(state: &mut [u8], p: usize, c: u16)
     requires { ⌜ State (now state) ⌝ }
     requires { ⌜ InCall (memoryOf (now state)) p ⌝ }
     requires { ⌜ c < 65535 ⌝ }
-    ensures { λ _. ⌜ ((T : Table) (page : Memory) → Becomes (now (state .exit)) (popped T (memoryOf (now (state .entry))) page (contextOf (memoryOf (now (state .entry))) p) (memoryOf (now (state .entry))) c)) ⌝ }
+    ensures { λ _. ⌜ ReturnLeaves (memoryOf (now (state .entry))) (now (state .exit)) p (memoryOf (now (state .entry))) c ⌝ }
 {
     leave(state, p, c);
 }
@@ -411,7 +409,7 @@ pub fn pop_process(state: &mut [u8], p: usize, c: u16)
     requires { ⌜ State (now state) ⌝ }
     requires { ⌜ InCall (memoryOf (now state)) p ⌝ }
     requires { ⌜ (c < 65535) × ((1 ≤ memoryOf (now state) (worksAt p)) × (memoryOf (now state) (worksAt p) ≤ 64)) ⌝ }
-    ensures { λ _. ⌜ ((T : Table) (page : Memory) → Becomes (now (state .exit)) (popped T (memoryOf (now (state .entry))) page (contextOf (memoryOf (now (state .entry))) p) (update (memoryOf (now (state .entry))) (holderAt (memoryOf (now (state .entry)) (worksAt p))) 0) c)) ⌝ }
+    ensures { λ _. ⌜ ReturnLeaves (memoryOf (now (state .entry))) (now (state .exit)) p (update (memoryOf (now (state .entry))) (holderAt (memoryOf (now (state .entry)) (worksAt p))) 0) c ⌝ }
 {
     let works = machine::record_word(state, p, machine::WORKS);
     hold(state, works as usize, 0);
