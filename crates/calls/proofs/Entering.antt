@@ -10,7 +10,7 @@ use lib.Dec.{ltb}
 use Rattle.basics.specs.Cases.{cases}
 use Rattle.basics.proofs.Bools.{both-l, both-r}
 use Rattle.table.specs.Table.{Table}
-use Rattle.table.specs.Entries.{blockCount, blockKind, stmtKind, stmtA, stmtC, stmtD}
+use Rattle.table.specs.Entries.{blockCount, blockKind, owner, stmtKind, stmtA, stmtC, stmtD}
 use Rattle.typing.proofs.Promise.{local-call}
 use Rattle.words.specs.Values.{failureNumber}
 use Rattle.words.specs.declared.values.Failure.{Failure}
@@ -102,10 +102,10 @@ module _ (t m p : List ℕ) (x : Context) (q k : ℕ) (st : Memory) (r : ℕ) (l
   pub entering-kind : blockKind (decoded t) q ≡ 2
   entering-kind = h .kind
 
-  pub entering-owner : x .owner < blockCount (decoded t)
+  pub entering-owner : owner (decoded t) (x .block) < blockCount (decoded t)
   entering-owner = stand-owner t m p x (h .standing)
 
-  pub entering-module : blockKind (decoded t) (x .owner) ≡ 2 → ⊥
+  pub entering-module : blockKind (decoded t) (owner (decoded t) (x .block)) ≡ 2 → ⊥
   entering-module = stand-module t m p x (h .standing)
 
   pub entering-lent : State m

@@ -6,13 +6,15 @@ use lib.ListN.{length}
 use lib.Dec.{eqb}
 use native.Mathlib.Omega.{arith}
 use Rattle.table.specs.Table.{Table}
-use Rattle.table.specs.Entries.{firstVar, params}
+use Rattle.table.specs.Entries.{argNode, firstVar, params}
 use Rattle.words.specs.Values.{failureNumber}
 use Rattle.words.specs.declared.values.Failure.{Failure}
 use Rattle.machine.specs.Memory.{Memory}
 use Rattle.machine.specs.Outcomes.{Outcome, ok, fail, stuck, andThen}
 use Rattle.machine.specs.Context.{Context}
 use Rattle.machine.specs.Calls.{argument, argumentWords, arguments}
+use Rattle.engine.specs.Making.{HasRow}
+use Rattle.evaluation.specs.Acting.{ArgumentRows}
 use Rattle.calls.specs.Gathering.{Buffer, Added, Adds, Passing, Calling, joined, Gathering}
 use Rattle.calls.specs.declared.Gathered.{Gathered}
 use Rattle.calls.specs.declared.Gathered.the-variants.{Count, Fail}
@@ -93,6 +95,9 @@ module _ (T : Table) (m page : Memory) (x : Context) where
                 unstuck = λ e. words-unstuck (rw (← hv) (sym rest-is ∙ joined-stuck (g .words) _ _ e));
               }
 
+          pub gather-row : (u : List ℕ) → ArgumentRows T u c d → HasRow T u (argNode T (c + i))
+          gather-row u r = r i k
+
           pub gather-fails : (r : Gathered) (f : Failure) (q : List ℕ) → Adds r l n q (argument T m page x (v + i) (c + i)) → r ≡ Fail f
               → Adds r l₀ 0 q (arguments T m page x b c d)
           gather-fails r f q a e =
@@ -110,4 +115,4 @@ module _ (T : Table) (m page : Memory) (x : Context) where
                 put = appended-more l₀ 0 (g .words) l (u .words) q n j (g .put) (u .put);
               }
 
-pub ruleset gathers = (gather-none, gather-buffer, gather-all, gather-passing, gather-fails, gather-more)
+pub ruleset gathers = (gather-none, gather-buffer, gather-all, gather-passing, gather-row, gather-fails, gather-more)

@@ -44,10 +44,10 @@ module _ (t : List ℕ) (h : Prepared t) (b : ℕ) (l : b < blockCount (decoded 
   unfolding roomOf roomWith reserve
   room-own k = rw (ne-eqb (blockKind (decoded t) b) 2 k) at room-is
 
-module _ (t : List ℕ) (h : Prepared t) (x : Context) (l : x .owner < blockCount (decoded t)) (r : ℕ) (hr : Field (slotIn t (x .owner) 31) r) where
-  pub limit-own : (blockKind (decoded t) (x .owner) ≡ 2 → ⊥) → x .works ≡ x .process → r ≡ limitOf (decoded t) x
+module _ (t : List ℕ) (h : Prepared t) (x : Context) (l : owner (decoded t) (x .block) < blockCount (decoded t)) (b r : ℕ) (hb : Field (owner (decoded t) (x .block)) b) (hr : Field (slotIn t b 31) r) where
+  pub limit-own : (blockKind (decoded t) (owner (decoded t) (x .block)) ≡ 2 → ⊥) → x .works ≡ x .process → r ≡ limitOf (decoded t) x
   unfolding limitOf
-  limit-own k e = rw (eq-eqb (x .works) (x .process) e) (room-own t h (x .owner) l r hr k)
+  limit-own k e = rw (eq-eqb (x .works) (x .process) e) (room-own t h (owner (decoded t) (x .block)) l r (rw (hb .is) at hr) k)
 
 pub limit-other : (T : Table) (x : Context) → (x .works ≡ x .process → ⊥) → 256 ≡ limitOf T x
 unfolding limitOf
@@ -71,19 +71,19 @@ module _ (t m p : List ℕ) (x : Context) (h : Standing t m p x) where
   unfolding contextual
   block-there = rw stand-block (ltb-true _ _ (both-l _ _ (both-r _ _ (h .contextual))))
 
-  pub stand-owner : x .owner < blockCount (decoded t)
-  stand-owner = rw (h .ready .context .owns) (owner-there (decoded t) (h .ready .ranged) (x .block) block-there)
+  pub stand-owner : owner (decoded t) (x .block) < blockCount (decoded t)
+  stand-owner = owner-there (decoded t) (h .ready .ranged) (x .block) block-there
 
-  pub stand-module : blockKind (decoded t) (x .owner) ≡ 2 → ⊥
-  stand-module = rw (h .ready .context .owns) (owner-module (decoded t) (h .ready .ranged) (x .block) block-there)
+  pub stand-module : blockKind (decoded t) (owner (decoded t) (x .block)) ≡ 2 → ⊥
+  stand-module = owner-module (decoded t) (h .ready .ranged) (x .block) block-there
 
-  module-is : memoryOf m (moduleAt (x .works)) ≡ x .owner
+  module-is : memoryOf m (moduleAt (x .works)) ≡ owner (decoded t) (x .block)
   unfolding contextual
   module-is =
-      rw (h .ready .context .owns, stand-block, stand-works)
+      rw (stand-block, stand-works)
       (eqb-true _ _ (both-r _ _ (both-r _ _ (both-r _ _ (h .contextual)))))
 
-  own-module : x .works ≡ x .process → memoryOf m (moduleAt (x .process)) ≡ x .owner
+  own-module : x .works ≡ x .process → memoryOf m (moduleAt (x .process)) ≡ owner (decoded t) (x .block)
   own-module e = rw e at module-is
 
   module _ (q : ℕ) where
@@ -91,7 +91,7 @@ module _ (t m p : List ℕ) (x : Context) (h : Standing t m p x) where
     the-own = ownWords (decoded t) (memoryOf m) (x .process) (memoryOf m (depthAt (x .process))) (x .frame)
 
     own-full : x .works ≡ x .process
-        → spaceFull (decoded t) (memoryOf m) (contextIn x) q ≡ ltb (reserve (decoded t) (x .owner)) (the-own + (4 + frameWords (decoded t) q))
+        → spaceFull (decoded t) (memoryOf m) (contextIn x) q ≡ ltb (reserve (decoded t) (owner (decoded t) (x .block))) (the-own + (4 + frameWords (decoded t) q))
     unfolding spaceFull ownAfter callWords contextIn both
     own-full e = rw (eq-eqb (x .works) (x .process) e, own-module e)
 
@@ -99,15 +99,15 @@ module _ (t m p : List ℕ) (x : Context) (h : Standing t m p x) where
     unfolding spaceFull contextIn
     other-full e = both-false-l _ _ (ne-eqb (x .works) (x .process) e)
 
-    own-top : x .works ≡ x .process → memoryOf m (topAt (x .process)) ≡ moduleWords (decoded t) (x .owner) + the-own
+    own-top : x .works ≡ x .process → memoryOf m (topAt (x .process)) ≡ moduleWords (decoded t) (owner (decoded t) (x .block)) + the-own
     own-top e = rw (own-module e) at (h .frames e)
 
     own-limits : x .works ≡ x .process
         → Limits (decoded t) (memoryOf m) (x .process) q (spaceFull (decoded t) (memoryOf m) (contextIn x) q)
-        (min (moduleWords (decoded t) (x .owner) + reserve (decoded t) (x .owner)) 256)
+        (min (moduleWords (decoded t) (owner (decoded t) (x .block)) + reserve (decoded t) (owner (decoded t) (x .block))) 256)
     own-limits e =
         let g = own-top e in
-        let u = reserve (decoded t) (x .owner) in
+        let u = reserve (decoded t) (owner (decoded t) (x .block)) in
         let v = the-own + (4 + frameWords (decoded t) q) in
         record {
           most = omega arith;

@@ -17,6 +17,7 @@ use Rattle.types.specs.Match.{matching, isFit}
 use Rattle.types.proofs.Matching.{numbered-type}
 use Rattle.sizes.specs.Sizes.{wordsOf}
 use Rattle.numbers.proofs.TypePromise.{var-type}
+use Rattle.numbers.proofs.OperandPromise.{arg-node}
 use Rattle.words.specs.Outcomes as words
 use Rattle.words.specs.Values.{failureNumber, outcomeOf}
 use Rattle.words.specs.declared.values.Failure.{Failure}
@@ -44,8 +45,9 @@ use Rattle.operands.proofs.Yielding.{place-fits, failed}
 use Rattle.operands.proofs.Yielding as yielding
 use Rattle.operands.proofs.Selecting.{out, Sel, fits-low, fits-high}
 use Rattle.operands.proofs.Evaluating.{Ev, only-retrieval, got-failed, got-fits, got-value}
-use Rattle.engine.specs.Planning.{Rooted}
-use Rattle.evaluation.proofs.Roots.{arg-rooted}
+use Rattle.engine.specs.Making.{HasRow}
+use Rattle.evaluation.specs.Acting.{Rowed}
+use Rattle.evaluation.proofs.Roots.{arg-rowed}
 use Rattle.calls.specs.Gathering.{Appended, Added, Adds, valueOf, placeOf, Valuable, Passable, Bindable, Passing}
 use Rattle.calls.specs.declared.Gathered.{Gathered}
 use Rattle.calls.proofs.Fitting.{text-passed, value-passed, fit-one}
@@ -308,8 +310,14 @@ module _ (t m p : List ℕ) (x : Context) (h : Ready t m p x) where
 
   -- `argument`
   module _ (v i n d : ℕ) (c : Passing (decoded t) (memoryOf m) (memoryOf p) (contextIn x) v i) (hn : n ≡ argNode (decoded t) i) (hd : d ≡ varMode (decoded t) v) where
-    pub argument-rooted : Rooted (decoded t) n
-    argument-rooted = arg-rooted t m p x h i n (argument-there (decoded t) (memoryOf m) (memoryOf p) (contextIn x) v i (c .unstuck)) hn
+    there : i < argCount (decoded t)
+    there = argument-there (decoded t) (memoryOf m) (memoryOf p) (contextIn x) v i (c .unstuck)
+
+    below : n < nodeCount (decoded t)
+    below = rw hn (arg-node (decoded t) (h .ranged) i there)
+
+    pub argument-rowed : (k : List ℕ) → HasRow (decoded t) k (argNode (decoded t) i) → Rowed (decoded t) k n
+    argument-rowed k r = arg-rowed t k m p x h i n there hn r
 
     module _ (e : d ≡ 2) where
       var-here : argument (decoded t) (memoryOf m) (memoryOf p) (contextIn x) v i ≡ placeOf (out t m p x n)
@@ -318,7 +326,7 @@ module _ (t m p : List ℕ) (x : Context) (h : Ready t m p x) where
       pub argument-bindable : Bindable (decoded t) (memoryOf m) (memoryOf p) (contextIn x) n
       argument-bindable =
           let q = c .suits .variable (sym hd ∙ e) in
-          record { variable = record { below = argument-rooted .there; low = rw hn (q .0); high = rw hn (q .1) }; unstuck = kept _ _ var-here (c .unstuck) }
+          record { variable = record { below = below; low = rw hn (q .0); high = rw hn (q .1) }; unstuck = kept _ _ var-here (c .unstuck) }
 
       pub bound-returns : (l : List ℕ) (count : ℕ) (r : Gathered) (k : List ℕ) → Adds r l count k (placeOf (out t m p x n))
           → Adds r l count k (argument (decoded t) (memoryOf m) (memoryOf p) (contextIn x) v i)
@@ -332,7 +340,7 @@ module _ (t m p : List ℕ) (x : Context) (h : Ready t m p x) where
       argument-passable =
           let q = c .suits .expression (λ q. e (hd ∙ q)) in
           record {
-            expression = record { below = argument-rooted .there; sort = rw hn (q .1); high = rw hn (q .0) };
+            expression = record { below = below; sort = rw hn (q .1); high = rw hn (q .0) };
             type = rw hy (var-type (decoded t) (h .ranged) v (parameter-there (decoded t) (memoryOf m) (memoryOf p) (contextIn x) v i (c .unstuck)));
             fit = rw (hn, hy) (c .suits .fit (λ q. e (hd ∙ q)));
             unstuck = kept _ _ value-here (c .unstuck);
@@ -343,6 +351,6 @@ module _ (t m p : List ℕ) (x : Context) (h : Ready t m p x) where
       passed-returns l count r k a = rw value-here a
 
 pub ruleset passes =
-    (word-evaluable, word-fails, word-returns, copy-valued, copy-retrieval, copy-fails, copy-room, copy-returns, bind-selectable, bind-fails, bind-low, bind-returns, argument-rooted, argument-bindable, bound-returns, argument-passable, passed-returns)
+    (word-evaluable, word-fails, word-returns, copy-valued, copy-retrieval, copy-fails, copy-room, copy-returns, bind-selectable, bind-fails, bind-low, bind-returns, argument-rowed, argument-bindable, bound-returns, argument-passable, passed-returns)
 
 pub ruleset values = (value-sized, value-counted, constant-returns, value-single, value-one, one-returns, value-several, value-retrieved, value-copied, copied-returns)

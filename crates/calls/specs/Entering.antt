@@ -8,7 +8,7 @@ use lib.ListN.{length, take}
 use lib.Dec.{eqb}
 use Rattle.basics.specs.Choice.{pick}
 use Rattle.table.specs.Table.{Table}
-use Rattle.table.specs.Entries.{blockCount, blockKind}
+use Rattle.table.specs.Entries.{blockCount, blockKind, owner}
 use Rattle.sizes.specs.Sizes.{moduleWords}
 use Rattle.typing.proofs.Promise.{Arguments}
 use Rattle.machine.specs.Memory.{Memory, memoryOf}
@@ -27,7 +27,7 @@ use Rattle.effects.specs.Effects.{Standing}
 
 -- the word of its area up to which a process may call: while it works on its own variables its module's reserve tells it (02, i)
 unfoldable pub limitOf : Table → Context → ℕ
-limitOf T x = pick (eqb (x .works) (x .process)) (min (moduleWords T (x .owner) + reserve T (x .owner)) 256) 256
+limitOf T x = pick (eqb (x .works) (x .process)) (min (moduleWords T (owner T (x .block)) + reserve T (owner T (x .block))) 256) 256
 
 -- a call of procedure q by process p goes above word k of its area exactly where the reserve is full, or the area
 pub record Limits (T : Table) (m : Memory) (p q : ℕ) (full : Bool) (k : ℕ) : Type 0 where

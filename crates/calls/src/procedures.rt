@@ -9,24 +9,24 @@ use words::values::Failure;
 ghost use mathlib.Core.Path.{_≡_};
 ghost use Prim.Native.Nat.{_+_, _<_, _≤_};
 ghost use lib.Dec.{ltb};
-ghost use Rattle.table.specs.Entries.{blockCount, blockKind, stmtKind};
+ghost use Rattle.table.specs.Entries.{blockCount, blockKind, owner, stmtKind};
 ghost use Rattle.machine.specs.Memory.{memoryOf};
 ghost use Rattle.machine.specs.Layout.{topAt, depthAt};
 ghost use Rattle.machine.specs.Lent.{State};
 ghost use Rattle.code.specs.Code.{decoded};
 ghost use Rattle.prepare.specs.Prepared.{Prepared};
 ghost use Rattle.effects.specs.Effects.{StatementLeaves, Standing};
-ghost use Rattle.evaluation.specs.Acting.{PlanOf, Acting};
+ghost use Rattle.evaluation.specs.Acting.{ArgumentRows, Acting};
 ghost use Rattle.calls.specs.Entering.{limitOf, Invoking, Entering};
 
 // The word of its area up to which a process may call: while it works on its own variables its module tells it (13; 02, i).
 fn limit_of(c: &code::Slots, x: Context) -> usize
     requires { ⌜ Prepared (now c) ⌝ }
-    requires { ⌜ (x .owner < blockCount (decoded (now c))) × (blockKind (decoded (now c)) (x .owner) ≡ 2 → ⊥) ⌝ }
+    requires { ⌜ (owner (decoded (now c)) (x .block) < blockCount (decoded (now c))) × (blockKind (decoded (now c)) (owner (decoded (now c)) (x .block)) ≡ 2 → ⊥) ⌝ }
     ensures { λ r. ⌜ r ≡ limitOf (decoded (now (c .entry))) x ⌝ }
 {
     if x.works == x.process {
-        return code::room_of(c, x.owner);
+        return code::room_of(c, code::block_owner(c, x.block));
     }
     machine::AREA
 }
@@ -65,7 +65,7 @@ fn enter_local(
 // A call with arguments: they are all evaluated before anything is stored.
 fn call_local(
     c: &code::Slots,
-    k: &mut [u16],
+    k: &[u16],
     stack: &mut Stack,
     state: &mut [u8],
     page: &[u8],
@@ -76,9 +76,9 @@ fn call_local(
 ) -> u8
     requires { ⌜ Acting (now c) (now k) (now state) (now page) x ⌝ }
     requires { ⌜ Invoking (now c) (now state) (now page) x q from d (limitOf (decoded (now c)) x) (memoryOf (now state)) (x .works) ⌝ }
+    requires { ⌜ ArgumentRows (decoded (now c)) (now k) from d ⌝ }
     requires { ⌜ (from < 65536) × (d < 65536) ⌝ }
-    ensures answer { λ r. ⌜ StatementLeaves (now (c .entry)) (now (state .entry)) (now (page .entry)) x r (now (state .exit)) (now (page .entry)) ⌝ }
-    ensures plan { λ _. ⌜ PlanOf (now (c .entry)) (now (k .exit)) ⌝ }
+    ensures { λ r. ⌜ StatementLeaves (now (c .entry)) (now (state .entry)) (now (page .entry)) x r (now (state .exit)) (now (page .entry)) ⌝ }
 {
     let mut buffer = [0u16; 256];
     let g = arguments(c, k, stack, state, page, x, &mut buffer[..], q, from, d);
@@ -91,7 +91,7 @@ fn call_local(
 // 11.3: a call within the module.
 pub fn local_call(
     c: &code::Slots,
-    k: &mut [u16],
+    k: &[u16],
     stack: &mut Stack,
     state: &mut [u8],
     page: &[u8],
@@ -99,8 +99,7 @@ pub fn local_call(
 ) -> u8
     requires { ⌜ Acting (now c) (now k) (now state) (now page) x ⌝ }
     requires { ⌜ stmtKind (decoded (now c)) (x .statement) ≡ 2 ⌝ }
-    ensures answer { λ r. ⌜ StatementLeaves (now (c .entry)) (now (state .entry)) (now (page .entry)) x r (now (state .exit)) (now (page .entry)) ⌝ }
-    ensures plan { λ _. ⌜ PlanOf (now (c .entry)) (now (k .exit)) ⌝ }
+    ensures { λ r. ⌜ StatementLeaves (now (c .entry)) (now (state .entry)) (now (page .entry)) x r (now (state .exit)) (now (page .entry)) ⌝ }
 {
     let q = code::stmt_a(c, x.statement);
     let from = code::stmt_c(c, x.statement);

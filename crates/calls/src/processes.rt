@@ -18,7 +18,7 @@ ghost use Rattle.machine.specs.Layout.{statusAt, holderAt};
 ghost use Rattle.machine.specs.Lent.{State};
 ghost use Rattle.code.specs.Code.{decoded};
 ghost use Rattle.effects.specs.Effects.{StatementLeaves};
-ghost use Rattle.evaluation.specs.Acting.{PlanOf, Acting};
+ghost use Rattle.evaluation.specs.Acting.{ArgumentRows, Acting};
 ghost use Rattle.calls.specs.Entering.{Invoking, Entering};
 ghost use Rattle.machine.specs.Statements.{canServe};
 ghost use Rattle.calls.specs.Serving.{Serving, Starting, Beginning};
@@ -61,7 +61,7 @@ fn enter_process(
 // A call with arguments: they are all evaluated before anything is stored.
 fn call_process(
     c: &code::Slots,
-    k: &mut [u16],
+    k: &[u16],
     stack: &mut Stack,
     state: &mut [u8],
     page: &[u8],
@@ -73,9 +73,9 @@ fn call_process(
 ) -> u8
     requires { ⌜ Acting (now c) (now k) (now state) (now page) x ⌝ }
     requires { ⌜ Invoking (now c) (now state) (now page) x q from d 256 (update (memoryOf (now state)) (holderAt r) (x .process)) r ⌝ }
+    requires { ⌜ ArgumentRows (decoded (now c)) (now k) from d ⌝ }
     requires { ⌜ (from < 65536) × ((d < 65536) × ((1 ≤ r) × (r ≤ 64))) ⌝ }
-    ensures answer { λ a. ⌜ StatementLeaves (now (c .entry)) (now (state .entry)) (now (page .entry)) x a (now (state .exit)) (now (page .entry)) ⌝ }
-    ensures plan { λ _. ⌜ PlanOf (now (c .entry)) (now (k .exit)) ⌝ }
+    ensures { λ a. ⌜ StatementLeaves (now (c .entry)) (now (state .entry)) (now (page .entry)) x a (now (state .exit)) (now (page .entry)) ⌝ }
 {
     let mut buffer = [0u16; 256];
     let g = arguments(c, k, stack, state, page, x, &mut buffer[..], q, from, d);
@@ -88,7 +88,7 @@ fn call_process(
 // A call of process r, which can serve it.
 fn call_on(
     c: &code::Slots,
-    k: &mut [u16],
+    k: &[u16],
     stack: &mut Stack,
     state: &mut [u8],
     page: &[u8],
@@ -98,8 +98,7 @@ fn call_on(
     requires { ⌜ Acting (now c) (now k) (now state) (now page) x ⌝ }
     requires { ⌜ Serving (now c) (now state) (now page) x r ⌝ }
     requires { ⌜ canServe (memoryOf (now state)) r ≡ true ⌝ }
-    ensures answer { λ a. ⌜ StatementLeaves (now (c .entry)) (now (state .entry)) (now (page .entry)) x a (now (state .exit)) (now (page .entry)) ⌝ }
-    ensures plan { λ _. ⌜ PlanOf (now (c .entry)) (now (k .exit)) ⌝ }
+    ensures { λ a. ⌜ StatementLeaves (now (c .entry)) (now (state .entry)) (now (page .entry)) x a (now (state .exit)) (now (page .entry)) ⌝ }
 {
     let q = code::stmt_b(c, x.statement);
     let from = code::stmt_c(c, x.statement);
@@ -114,7 +113,7 @@ fn call_on(
 // The caller waits where process r cannot serve.
 fn serve(
     c: &code::Slots,
-    k: &mut [u16],
+    k: &[u16],
     stack: &mut Stack,
     state: &mut [u8],
     page: &[u8],
@@ -123,8 +122,7 @@ fn serve(
 ) -> u8
     requires { ⌜ Acting (now c) (now k) (now state) (now page) x ⌝ }
     requires { ⌜ Serving (now c) (now state) (now page) x r ⌝ }
-    ensures answer { λ a. ⌜ StatementLeaves (now (c .entry)) (now (state .entry)) (now (page .entry)) x a (now (state .exit)) (now (page .entry)) ⌝ }
-    ensures plan { λ _. ⌜ PlanOf (now (c .entry)) (now (k .exit)) ⌝ }
+    ensures { λ a. ⌜ StatementLeaves (now (c .entry)) (now (state .entry)) (now (page .entry)) x a (now (state .exit)) (now (page .entry)) ⌝ }
 {
     if is_free(state, r) {
         return call_on(c, k, stack, state, page, x, r);
@@ -135,7 +133,7 @@ fn serve(
 // 11.3: a call of the process that a variable refers to.
 pub fn process_call(
     c: &code::Slots,
-    k: &mut [u16],
+    k: &[u16],
     stack: &mut Stack,
     state: &mut [u8],
     page: &[u8],
@@ -143,8 +141,7 @@ pub fn process_call(
 ) -> u8
     requires { ⌜ Acting (now c) (now k) (now state) (now page) x ⌝ }
     requires { ⌜ stmtKind (decoded (now c)) (x .statement) ≡ 3 ⌝ }
-    ensures answer { λ a. ⌜ StatementLeaves (now (c .entry)) (now (state .entry)) (now (page .entry)) x a (now (state .exit)) (now (page .entry)) ⌝ }
-    ensures plan { λ _. ⌜ PlanOf (now (c .entry)) (now (k .exit)) ⌝ }
+    ensures { λ a. ⌜ StatementLeaves (now (c .entry)) (now (state .entry)) (now (page .entry)) x a (now (state .exit)) (now (page .entry)) ⌝ }
 {
     let a = code::stmt_a(c, x.statement);
     let l = reference(c, k, stack, state, page, x, a);
@@ -177,7 +174,7 @@ fn begin(
 // The start of process r, which is created and not started.
 fn start_created(
     c: &code::Slots,
-    k: &mut [u16],
+    k: &[u16],
     stack: &mut Stack,
     state: &mut [u8],
     page: &[u8],
@@ -187,8 +184,7 @@ fn start_created(
     requires { ⌜ Acting (now c) (now k) (now state) (now page) x ⌝ }
     requires { ⌜ Starting (now c) (now state) (now page) x r ⌝ }
     requires { ⌜ memoryOf (now state) (statusAt r) ≡ 1 ⌝ }
-    ensures answer { λ a. ⌜ StatementLeaves (now (c .entry)) (now (state .entry)) (now (page .entry)) x a (now (state .exit)) (now (page .entry)) ⌝ }
-    ensures plan { λ _. ⌜ PlanOf (now (c .entry)) (now (k .exit)) ⌝ }
+    ensures { λ a. ⌜ StatementLeaves (now (c .entry)) (now (state .entry)) (now (page .entry)) x a (now (state .exit)) (now (page .entry)) ⌝ }
 {
     let a = code::stmt_a(c, x.statement);
     let y = code::type_of(c, a);
@@ -206,7 +202,7 @@ fn start_created(
 // A process is started once (01).
 fn start_once(
     c: &code::Slots,
-    k: &mut [u16],
+    k: &[u16],
     stack: &mut Stack,
     state: &mut [u8],
     page: &[u8],
@@ -215,8 +211,7 @@ fn start_once(
 ) -> u8
     requires { ⌜ Acting (now c) (now k) (now state) (now page) x ⌝ }
     requires { ⌜ Starting (now c) (now state) (now page) x r ⌝ }
-    ensures answer { λ a. ⌜ StatementLeaves (now (c .entry)) (now (state .entry)) (now (page .entry)) x a (now (state .exit)) (now (page .entry)) ⌝ }
-    ensures plan { λ _. ⌜ PlanOf (now (c .entry)) (now (k .exit)) ⌝ }
+    ensures { λ a. ⌜ StatementLeaves (now (c .entry)) (now (state .entry)) (now (page .entry)) x a (now (state .exit)) (now (page .entry)) ⌝ }
 {
     let status = machine::record_word(state, r, machine::STATUS);
     if status == machine::UNSTARTED {
@@ -228,7 +223,7 @@ fn start_once(
 // 11.5: the start of the process that a variable refers to.
 pub fn start(
     c: &code::Slots,
-    k: &mut [u16],
+    k: &[u16],
     stack: &mut Stack,
     state: &mut [u8],
     page: &[u8],
@@ -236,8 +231,7 @@ pub fn start(
 ) -> u8
     requires { ⌜ Acting (now c) (now k) (now state) (now page) x ⌝ }
     requires { ⌜ stmtKind (decoded (now c)) (x .statement) ≡ 5 ⌝ }
-    ensures answer { λ a. ⌜ StatementLeaves (now (c .entry)) (now (state .entry)) (now (page .entry)) x a (now (state .exit)) (now (page .entry)) ⌝ }
-    ensures plan { λ _. ⌜ PlanOf (now (c .entry)) (now (k .exit)) ⌝ }
+    ensures { λ a. ⌜ StatementLeaves (now (c .entry)) (now (state .entry)) (now (page .entry)) x a (now (state .exit)) (now (page .entry)) ⌝ }
 {
     let a = code::stmt_a(c, x.statement);
     let l = reference(c, k, stack, state, page, x, a);

@@ -25,7 +25,8 @@ use Rattle.operands.specs.declared.Context.{Context}
 use Rattle.operands.specs.Ready.{contextIn}
 use Rattle.effects.specs.Effects.{statementStep, Stepped, Standing}
 use Rattle.effects.proofs.Carrying.{performs-if, performs-while, performs-when, performs-cycle, stepped, stepped-fail}
-use Rattle.guards.specs.declared.Choice.{Choice}
+use Rattle.evaluation.proofs.Roots.{open-guards}
+use Rattle.guards.specs.declared.ArmFound.{ArmFound}
 use Rattle.guards.specs.Guards.{openerOf, picks, Choosable, Picked, Going}
 use Rattle.guards.proofs.Arms.{first-outcome, same-unstuck, opener-follows}
 use Rattle.guards.proofs.Standing.{stands-lent, stands-page, stands-small}
@@ -99,7 +100,7 @@ module _ (t m p : List ℕ) (x : Context) (h : Standing t m p x) where
     pub opener-choosable : Choosable (decoded t) (memoryOf m) (memoryOf p) (contextIn x) (x .statement + 1)
     opener-choosable = record { unstuck = first-outcome _ _ (same-unstuck (sym chooses) (h .unstuck)) }
 
-    module _ (r : Choice) (c : Picked (decoded t) (memoryOf m) (memoryOf p) (contextIn x) (x .statement + 1) r) where
+    module _ (r : ArmFound) (c : Picked (decoded t) (memoryOf m) (memoryOf p) (contextIn x) (x .statement + 1) r) where
       pub opener-fails : 65536 ≤ r .value → (n : ℕ) (m1 : List ℕ) → n ≡ r .value - 65536
           → Becomes m1 (update (memoryOf m) failureAt (r .value - 65536))
           → Stepped n m1 p (statementStep (decoded t) (memoryOf m) (memoryOf p) (contextIn x))
@@ -139,7 +140,7 @@ module _ (t m p : List ℕ) (x : Context) (h : Standing t m p x) where
             rw g
             (stepped (decoded t) m p m1 p (contextIn x) 0 _ (memoryOf p) (chooses ∙ rw (← d, e)) (rw (same, e) at w) (stands-page t m p x h)))
 
-  pub opener-going : (r : Choice) → Picked (decoded t) (memoryOf m) (memoryOf p) (contextIn x) (x .statement + 1) r → Going m x (r .at)
+  pub opener-going : (r : ArmFound) → Picked (decoded t) (memoryOf m) (memoryOf p) (contextIn x) (x .statement + 1) r → Going m x (r .at)
   opener-going r c =
       record {
         state = stands-lent t m p x h;
@@ -150,4 +151,4 @@ module _ (t m p : List ℕ) (x : Context) (h : Standing t m p x) where
         small = let d = h .statements in let b = c .below in omega arith;
       }
 
-pub ruleset opening = (opener-fits, opener-choosable, opener-going, opener-fails, opener-enters, opener-passes)
+pub ruleset opening = (opener-fits, opener-choosable, open-guards, opener-going, opener-fails, opener-enters, opener-passes)

@@ -16,28 +16,30 @@ use Rattle.machine.specs.Statements as statements
 use Rattle.machine.specs.Statements.{enters, skips, endOf, choose}
 use Rattle.operands.specs.declared.Context.{Context}
 use Rattle.operands.specs.Packed.{FailureListed}
-use Rattle.guards.specs.declared.Choice.{Choice}
+use Rattle.evaluation.specs.Acting.{GuardRows}
+use Rattle.guards.specs.declared.ArmFound.{ArmFound}
 
 -- the structured statement of kind k (01, The table): if 6, while 7, when 8, cycle 9
 unfoldable pub openerOf : ℕ → Opener
 openerOf k = pick (eqb k 7) while (pick (eqb k 8) when (pick (eqb k 9) cycle if))
 
 -- what the guards come to: the end of the arms, where none is true; the arm whose guard is the first that is; or the failure of a guard
-unfoldable pub picks : Choice → Outcome statements.Choice
+unfoldable pub picks : ArmFound → Outcome statements.Choice
 picks r = pick (ltb (r .value) 65536) (pick (eqb (r .value) 0) (ok (skips (r .at))) (ok (enters (r .at)))) (fail (r .value - 65536))
 
 -- the guards of the arms from i on can be evaluated
 pub record Choosable (T : Table) (m page : Memory) (x : machine.Context) (i : ℕ) : Type 0 where
   pub unstuck : choose T m page x (stmtCount T) i ≡ stuck → ⊥
 
--- the guards from i up to j are false
-pub record Choosing (T : Table) (m page : Memory) (x : machine.Context) (i j : ℕ) : Type 0 where
+-- the guards from i up to j are false, and those from j on have rows in k
+pub record Choosing (T : Table) (k : List ℕ) (m page : Memory) (x : machine.Context) (i j : ℕ) : Type 0 where
   pub left : ℕ
   pub rest : choose T m page x left j ≡ choose T m page x (stmtCount T) i
+  pub guards : GuardRows T k left j
   pub unstuck : choose T m page x (stmtCount T) i ≡ stuck → ⊥
 
 -- r is what the guards from i on come to, a statement that exists
-pub record Picked (T : Table) (m page : Memory) (x : machine.Context) (i : ℕ) (r : Choice) : Type 0 where
+pub record Picked (T : Table) (m page : Memory) (x : machine.Context) (i : ℕ) (r : ArmFound) : Type 0 where
   pub is : picks r ≡ choose T m page x (stmtCount T) i
   pub below : r .at < stmtCount T
   pub listed : FailureListed (r .value)

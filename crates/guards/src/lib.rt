@@ -7,7 +7,7 @@ use operands::packed::FAILURES;
 ghost use mathlib.Core.Path.{_≡_};
 ghost use Prim.Native.Nat.{_+_, _≤_, _<_};
 ghost use Rattle.basics.specs.Choice.{pick};
-ghost use Rattle.table.specs.Entries.{stmtKind, stmtA};
+ghost use Rattle.table.specs.Entries.{stmtCount, stmtKind, stmtA};
 ghost use Rattle.code.specs.Code.{decoded};
 ghost use Rattle.machine.specs.Memory.{memoryOf, update};
 ghost use Rattle.machine.specs.Layout.{statementAt, holderAt};
@@ -17,12 +17,11 @@ ghost use Rattle.operands.specs.Answers.{Evaluable, OneWord};
 ghost use Rattle.operands.specs.Packed.{Evaluated};
 ghost use Rattle.operands.specs.Ready.{contextIn};
 ghost use Rattle.effects.specs.Effects.{StatementLeaves, Standing};
-ghost use Rattle.engine.specs.Planning.{Rooted};
-ghost use Rattle.evaluation.specs.Acting.{PlanOf, Acting};
+ghost use Rattle.evaluation.specs.Acting.{GuardRows, Rowed, Acting};
 ghost use Rattle.guards.specs.Guards.{openerOf, Choosable, Picked, Linked, ArmsEnd, Going};
 
 // The first arm whose guard is not false, with its value, or its failure (from 65,536 on); or the end of the arms, with 0.
-struct Choice {
+struct ArmFound {
     at: usize,
     value: u32,
 }
@@ -40,7 +39,7 @@ pub fn skip(c: &code::Slots, state: &mut [u8], page: &[u8], x: Context) -> u8
 // The value of the guard of arm i.
 fn guard(
     c: &code::Slots,
-    k: &mut [u16],
+    k: &[u16],
     stack: &mut Stack,
     state: &[u8],
     page: &[u8],
@@ -50,9 +49,8 @@ fn guard(
     requires { ⌜ Acting (now c) (now k) (now state) (now page) x ⌝ }
     requires { ⌜ Evaluable (decoded (now c)) (memoryOf (now state)) (memoryOf (now page)) (contextIn x) (stmtA (decoded (now c)) i) ⌝ }
     requires { ⌜ OneWord (decoded (now c)) (stmtA (decoded (now c)) i) ⌝ }
-    requires { ⌜ Rooted (decoded (now c)) (stmtA (decoded (now c)) i) ⌝ }
-    ensures answer { λ r. ⌜ Evaluated (now (c .entry)) (now (state .entry)) (now (page .entry)) x (stmtA (decoded (now (c .entry))) i) r ⌝ }
-    ensures plan { λ _. ⌜ PlanOf (now (c .entry)) (now (k .exit)) ⌝ }
+    requires { ⌜ Rowed (decoded (now c)) (now k) (stmtA (decoded (now c)) i) ⌝ }
+    ensures { λ r. ⌜ Evaluated (now (c .entry)) (now (state .entry)) (now (page .entry)) x (stmtA (decoded (now (c .entry))) i) r ⌝ }
 {
     let a = code::stmt_a(c, i);
     eval(c, k, stack, state, page, x, a)
@@ -61,27 +59,27 @@ fn guard(
 // The guards of the arms from i on, in the order written (11.6).
 fn choose(
     c: &code::Slots,
-    k: &mut [u16],
+    k: &[u16],
     stack: &mut Stack,
     state: &[u8],
     page: &[u8],
     x: Context,
     i: usize,
-) -> Choice
+) -> ArmFound
     requires { ⌜ Acting (now c) (now k) (now state) (now page) x ⌝ }
     requires { ⌜ Choosable (decoded (now c)) (memoryOf (now state)) (memoryOf (now page)) (contextIn x) i ⌝ }
-    ensures answer { λ r. ⌜ Picked (decoded (now (c .entry))) (memoryOf (now (state .entry))) (memoryOf (now (page .entry))) (contextIn x) i r ⌝ }
-    ensures plan { λ _. ⌜ PlanOf (now (c .entry)) (now (k .exit)) ⌝ }
+    requires { ⌜ GuardRows (decoded (now c)) (now k) (stmtCount (decoded (now c))) i ⌝ }
+    ensures { λ r. ⌜ Picked (decoded (now (c .entry))) (memoryOf (now (state .entry))) (memoryOf (now (page .entry))) (contextIn x) i r ⌝ }
 {
     let mut j = i;
     while code::stmt_kind(c, j) == kinds::ARM {
         let v = guard(c, k, stack, state, page, x, j);
         if v != 0 {
-            return Choice { at: j, value: v };
+            return ArmFound { at: j, value: v };
         }
         j = code::stmt_link(c, j);
     }
-    Choice { at: j, value: 0 }
+    ArmFound { at: j, value: 0 }
 }
 
 // A guard is true: its arm is entered. A when or cycle then holds the variables that the process works on (11.9, 11.10, 13).
@@ -114,7 +112,7 @@ fn pass(state: &mut [u8], x: Context, waits: bool, i: usize) -> u8
 // An if, while, when or cycle is followed by its first arm.
 pub fn open(
     c: &code::Slots,
-    k: &mut [u16],
+    k: &[u16],
     stack: &mut Stack,
     state: &mut [u8],
     page: &[u8],
@@ -122,8 +120,7 @@ pub fn open(
 ) -> u8
     requires { ⌜ Acting (now c) (now k) (now state) (now page) x ⌝ }
     requires { ⌜ (6 ≤ stmtKind (decoded (now c)) (x .statement)) × (stmtKind (decoded (now c)) (x .statement) ≤ 9) ⌝ }
-    ensures answer { λ r. ⌜ StatementLeaves (now (c .entry)) (now (state .entry)) (now (page .entry)) x r (now (state .exit)) (now (page .entry)) ⌝ }
-    ensures plan { λ _. ⌜ PlanOf (now (c .entry)) (now (k .exit)) ⌝ }
+    ensures { λ r. ⌜ StatementLeaves (now (c .entry)) (now (state .entry)) (now (page .entry)) x r (now (state .exit)) (now (page .entry)) ⌝ }
 {
     let waits = kinds::WHEN <= code::stmt_kind(c, x.statement);
     let first = x.statement + 1;

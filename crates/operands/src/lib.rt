@@ -15,7 +15,6 @@ pub struct Context {
     pub process: usize,
     pub statement: usize,
     pub block: usize,
-    pub owner: usize,
     pub frame: usize,
     pub works: usize,
 }

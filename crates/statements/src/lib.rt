@@ -7,12 +7,12 @@ ghost use Prim.Native.Nat.{_≤_};
 ghost use Rattle.table.specs.Entries.{stmtKind};
 ghost use Rattle.code.specs.Code.{decoded};
 ghost use Rattle.effects.specs.Effects.{StatementLeaves};
-ghost use Rattle.evaluation.specs.Acting.{PlanOf, Acting};
+ghost use Rattle.evaluation.specs.Acting.{Acting};
 
 // Calls, create and start: kinds 2 to 5.
 fn perform_call(
     c: &code::Slots,
-    k: &mut [u16],
+    k: &[u16],
     stack: &mut Stack,
     state: &mut [u8],
     page: &[u8],
@@ -21,8 +21,7 @@ fn perform_call(
 ) -> u8
     requires { ⌜ Acting (now c) (now k) (now state) (now page) x ⌝ }
     requires { ⌜ (stmtKind (decoded (now c)) (x .statement) ≡ s) × ((2 ≤ s) × (s ≤ 5)) ⌝ }
-    ensures answer { λ r. ⌜ StatementLeaves (now (c .entry)) (now (state .entry)) (now (page .entry)) x r (now (state .exit)) (now (page .entry)) ⌝ }
-    ensures plan { λ _. ⌜ PlanOf (now (c .entry)) (now (k .exit)) ⌝ }
+    ensures { λ r. ⌜ StatementLeaves (now (c .entry)) (now (state .entry)) (now (page .entry)) x r (now (state .exit)) (now (page .entry)) ⌝ }
 {
     if s == kinds::LOCAL_CALL {
         return calls::procedures::local_call(c, k, stack, state, page, x);
@@ -39,15 +38,14 @@ fn perform_call(
 // The statement where its process stands: the answer, the state and the page are those of `statementStep`.
 pub fn perform(
     c: &code::Slots,
-    k: &mut [u16],
+    k: &[u16],
     stack: &mut Stack,
     state: &mut [u8],
     page: &mut [u8],
     x: Context,
 ) -> u8
     requires { ⌜ Acting (now c) (now k) (now state) (now page) x ⌝ }
-    ensures answer { λ r. ⌜ StatementLeaves (now (c .entry)) (now (state .entry)) (now (page .entry)) x r (now (state .exit)) (now (page .exit)) ⌝ }
-    ensures plan { λ _. ⌜ PlanOf (now (c .entry)) (now (k .exit)) ⌝ }
+    ensures { λ r. ⌜ StatementLeaves (now (c .entry)) (now (state .entry)) (now (page .entry)) x r (now (state .exit)) (now (page .exit)) ⌝ }
 {
     let s = code::stmt_kind(c, x.statement);
     if s == kinds::SKIP {

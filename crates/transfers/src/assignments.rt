@@ -19,7 +19,7 @@ ghost use Rattle.machine.specs.Lent.{State, Becomes};
 ghost use Rattle.code.specs.Code.{decoded};
 ghost use Rattle.operands.specs.Answers.{single, OneWord};
 ghost use Rattle.effects.specs.Effects.{StatementLeaves};
-ghost use Rattle.evaluation.specs.Acting.{PlanOf, Acting};
+ghost use Rattle.evaluation.specs.Acting.{Acting};
 ghost use Rattle.transfers.specs.Assignments.{Assigning, Copying, copied};
 
 // The n words from `from` on, to `to`, directly (02, d), which are marked (02, g); then the process goes on.
@@ -35,7 +35,7 @@ fn copy(state: &mut [u8], x: Context, from: usize, to: usize, n: usize)
 // A value of one word, to location i.
 fn assign_word(
     c: &code::Slots,
-    k: &mut [u16],
+    k: &[u16],
     stack: &mut Stack,
     state: &mut [u8],
     page: &[u8],
@@ -45,8 +45,7 @@ fn assign_word(
     requires { ⌜ Acting (now c) (now k) (now state) (now page) x ⌝ }
     requires { ⌜ Assigning (now c) (now state) (now page) x i ⌝ }
     requires { ⌜ OneWord (decoded (now c)) (stmtB (decoded (now c)) (x .statement)) ⌝ }
-    ensures answer { λ r. ⌜ StatementLeaves (now (c .entry)) (now (state .entry)) (now (page .entry)) x r (now (state .exit)) (now (page .entry)) ⌝ }
-    ensures plan { λ _. ⌜ PlanOf (now (c .entry)) (now (k .exit)) ⌝ }
+    ensures { λ r. ⌜ StatementLeaves (now (c .entry)) (now (state .entry)) (now (page .entry)) x r (now (state .exit)) (now (page .entry)) ⌝ }
 {
     let b = code::stmt_b(c, x.statement);
     let v = eval(c, k, stack, state, page, x, b);
@@ -61,7 +60,7 @@ fn assign_word(
 // The value of a variable (8.7), all of whose words must be marked (02, g).
 fn assign_words(
     c: &code::Slots,
-    k: &mut [u16],
+    k: &[u16],
     stack: &mut Stack,
     state: &mut [u8],
     page: &[u8],
@@ -72,8 +71,7 @@ fn assign_words(
     requires { ⌜ Assigning (now c) (now state) (now page) x i ⌝ }
     requires { ⌜ nodeKind (decoded (now c)) (stmtB (decoded (now c)) (x .statement)) ≡ 4 ⌝ }
     requires { ⌜ single (decoded (now c)) (stmtB (decoded (now c)) (x .statement)) ≡ false ⌝ }
-    ensures answer { λ r. ⌜ StatementLeaves (now (c .entry)) (now (state .entry)) (now (page .entry)) x r (now (state .exit)) (now (page .entry)) ⌝ }
-    ensures plan { λ _. ⌜ PlanOf (now (c .entry)) (now (k .exit)) ⌝ }
+    ensures { λ r. ⌜ StatementLeaves (now (c .entry)) (now (state .entry)) (now (page .entry)) x r (now (state .exit)) (now (page .entry)) ⌝ }
 {
     let b = code::stmt_b(c, x.statement);
     let l = retrieve_place(c, k, stack, state, page, x, b);
@@ -103,7 +101,7 @@ fn assign_text(c: &code::Slots, state: &mut [u8], page: &[u8], x: Context, i: us
 // The value, to location i: one of several words is a string constant or that of a variable.
 fn assign_at(
     c: &code::Slots,
-    k: &mut [u16],
+    k: &[u16],
     stack: &mut Stack,
     state: &mut [u8],
     page: &[u8],
@@ -112,8 +110,7 @@ fn assign_at(
 ) -> u8
     requires { ⌜ Acting (now c) (now k) (now state) (now page) x ⌝ }
     requires { ⌜ Assigning (now c) (now state) (now page) x i ⌝ }
-    ensures answer { λ r. ⌜ StatementLeaves (now (c .entry)) (now (state .entry)) (now (page .entry)) x r (now (state .exit)) (now (page .entry)) ⌝ }
-    ensures plan { λ _. ⌜ PlanOf (now (c .entry)) (now (k .exit)) ⌝ }
+    ensures { λ r. ⌜ StatementLeaves (now (c .entry)) (now (state .entry)) (now (page .entry)) x r (now (state .exit)) (now (page .entry)) ⌝ }
 {
     let b = code::stmt_b(c, x.statement);
     if is_single(c, b) {
@@ -128,7 +125,7 @@ fn assign_at(
 // 11.2.
 pub fn assign(
     c: &code::Slots,
-    k: &mut [u16],
+    k: &[u16],
     stack: &mut Stack,
     state: &mut [u8],
     page: &[u8],
@@ -136,8 +133,7 @@ pub fn assign(
 ) -> u8
     requires { ⌜ Acting (now c) (now k) (now state) (now page) x ⌝ }
     requires { ⌜ stmtKind (decoded (now c)) (x .statement) ≡ 1 ⌝ }
-    ensures answer { λ r. ⌜ StatementLeaves (now (c .entry)) (now (state .entry)) (now (page .entry)) x r (now (state .exit)) (now (page .entry)) ⌝ }
-    ensures plan { λ _. ⌜ PlanOf (now (c .entry)) (now (k .exit)) ⌝ }
+    ensures { λ r. ⌜ StatementLeaves (now (c .entry)) (now (state .entry)) (now (page .entry)) x r (now (state .exit)) (now (page .entry)) ⌝ }
 {
     let a = code::stmt_a(c, x.statement);
     let l = select(c, k, stack, state, page, x, a);

@@ -12,7 +12,7 @@ ghost use Rattle.machine.specs.Step.{settled};
 ghost use Rattle.machine.specs.Layout.{pageWords};
 ghost use Rattle.code.specs.Code.{decoded};
 ghost use Rattle.effects.specs.Effects.{Stepped, StatementLeaves};
-ghost use Rattle.evaluation.specs.Acting.{PlanOf, Acting};
+ghost use Rattle.evaluation.specs.Acting.{Acting};
 ghost use Rattle.transfers.specs.Creations.{CreatePremises, creates};
 
 // A process of module `block`, for the variable at location i: the next number, or 24 while 64 processes exist (01). The page is left
@@ -41,7 +41,7 @@ fn create_next(state: &mut [u8], page: &[u8], x: Context, i: usize, block: usize
 // 11.4.
 pub fn create(
     c: &code::Slots,
-    k: &mut [u16],
+    k: &[u16],
     stack: &mut Stack,
     state: &mut [u8],
     page: &[u8],
@@ -49,8 +49,7 @@ pub fn create(
 ) -> u8
     requires { ⌜ Acting (now c) (now k) (now state) (now page) x ⌝ }
     requires { ⌜ stmtKind (decoded (now c)) (x .statement) ≡ 4 ⌝ }
-    ensures answer { λ r. ⌜ StatementLeaves (now (c .entry)) (now (state .entry)) (now (page .entry)) x r (now (state .exit)) (now (page .entry)) ⌝ }
-    ensures plan { λ _. ⌜ PlanOf (now (c .entry)) (now (k .exit)) ⌝ }
+    ensures { λ r. ⌜ StatementLeaves (now (c .entry)) (now (state .entry)) (now (page .entry)) x r (now (state .exit)) (now (page .entry)) ⌝ }
 {
     let a = code::stmt_a(c, x.statement);
     let l = place_of(c, k, stack, state, page, x, a);

@@ -13,8 +13,7 @@ ghost use Rattle.machine.specs.Lent.{State};
 ghost use Rattle.machine.specs.Operands.{operand};
 ghost use Rattle.code.specs.Code.{decoded};
 ghost use Rattle.operands.specs.Ready.{contextIn};
-ghost use Rattle.engine.specs.Planning.{Rooted};
-ghost use Rattle.evaluation.specs.Acting.{PlanOf, Acting};
+ghost use Rattle.evaluation.specs.Acting.{Rowed, Acting};
 ghost use Rattle.transfers.specs.References.{referenceOf, referredProcess, placeRefers, referred, Referring};
 
 // 0 is the empty reference.
@@ -42,7 +41,7 @@ fn refer_at(state: &[u8], a: usize) -> Reference
 // The process that the variable of node n refers to.
 pub fn reference(
     c: &code::Slots,
-    k: &mut [u16],
+    k: &[u16],
     stack: &mut Stack,
     state: &[u8],
     page: &[u8],
@@ -51,9 +50,8 @@ pub fn reference(
 ) -> Reference
     requires { ⌜ Acting (now c) (now k) (now state) (now page) x ⌝ }
     requires { ⌜ Referring (decoded (now c)) (memoryOf (now state)) (memoryOf (now page)) (contextIn x) n ⌝ }
-    requires { ⌜ Rooted (decoded (now c)) n ⌝ }
-    ensures answer { λ r. ⌜ referred r ≡ referenceOf (decoded (now (c .entry))) (memoryOf (now (state .entry))) (operand (decoded (now (c .entry))) (memoryOf (now (state .entry))) (memoryOf (now (page .entry))) (contextIn x) n) ⌝ }
-    ensures plan { λ _. ⌜ PlanOf (now (c .entry)) (now (k .exit)) ⌝ }
+    requires { ⌜ Rowed (decoded (now c)) (now k) n ⌝ }
+    ensures { λ r. ⌜ referred r ≡ referenceOf (decoded (now (c .entry))) (memoryOf (now (state .entry))) (operand (decoded (now (c .entry))) (memoryOf (now (state .entry))) (memoryOf (now (page .entry))) (contextIn x) n) ⌝ }
 {
     let l = place_of(c, k, stack, state, page, x, n);
     match l {

@@ -9,5 +9,4 @@ guard-spec =
     (tie.spec
     (λ c κs. search needs)
     (λ c κs. (search guards, (search guards, (search guards, search guards))))
-    (λ c. search needs)
-    (λ c. (search guards, search needs)))
+    (λ c. search guards))

@@ -1,5 +1,4 @@
 use Rattle.calls.proofs.Passing.{values}
-use Rattle.evaluation.proofs.Plans.{plans}
 use borrow.Author.Needs.{needs}
 use Rattle.calls.proofs.arguments.value_argument.Statement.{statement}
 use Rattle.calls.proofs.arguments.value_argument.Tie as tie
@@ -11,14 +10,12 @@ value-argument-spec =
     (λ c κs. search values)
     (λ c κs. (search needs, (search values, (search values, search needs))))
     (λ c. search needs)
-    (λ c. search needs)
-    (λ c. (search (values, needs), search needs))
+    (λ c. search (values, needs))
     (λ c κs. search values)
     (λ c κs. search needs)
     (λ c κs. search needs)
     (λ c. search needs)
-    (λ c. (search (values, needs), search plans))
+    (λ c. search (values, needs))
     (λ c κs. (search needs, (search values, ((search values, search values), search needs))))
     (λ c. search needs)
-    (λ c. search needs)
-    (λ c. (search (values, needs), search needs)))
+    (λ c. search (values, needs)))

@@ -8,5 +8,6 @@ limit-of-spec =
     tie.close
     (tie.spec
     (λ c κs. search needs)
+    (λ c κs. search needs)
     (λ c. search limit-own)
     (λ c. search limit-other))

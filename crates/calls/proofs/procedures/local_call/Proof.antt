@@ -1,5 +1,5 @@
+use Rattle.evaluation.proofs.Roots.{local-arguments}
 use Rattle.calls.proofs.Entering.{local-invoking, local-none}
-use Rattle.evaluation.proofs.Plans.{plans}
 use borrow.Author.Needs.{needs}
 use Rattle.calls.proofs.procedures.local_call.Statement.{statement}
 use Rattle.calls.proofs.procedures.local_call.Tie as tie
@@ -14,8 +14,7 @@ local-call-spec =
     (λ c. search needs)
     (λ c κs. search local-none)
     (λ c. search needs)
-    (λ c. (search needs, search plans))
-    (λ c κs. (search needs, (search local-invoking, search needs)))
     (λ c. search needs)
+    (λ c κs. (search needs, (search local-invoking, (search local-arguments, search needs))))
     (λ c. search needs)
-    (λ c. (search needs, search needs)))
+    (λ c. search needs))

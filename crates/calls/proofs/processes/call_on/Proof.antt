@@ -1,5 +1,5 @@
+use Rattle.evaluation.proofs.Roots.{call-arguments}
 use Rattle.calls.proofs.Serving.{serving-invoking, serving-none}
-use Rattle.evaluation.proofs.Plans.{plans}
 use borrow.Author.Needs.{needs}
 use Rattle.calls.proofs.processes.call_on.Statement.{statement}
 use Rattle.calls.proofs.processes.call_on.Tie as tie
@@ -14,8 +14,7 @@ call-on-spec =
     (λ c. search needs)
     (λ c κs. (search serving-none, search needs))
     (λ c. search needs)
-    (λ c. (search needs, search plans))
-    (λ c κs. (search needs, (search serving-invoking, search needs)))
     (λ c. search needs)
+    (λ c κs. (search needs, (search serving-invoking, (search call-arguments, search needs))))
     (λ c. search needs)
-    (λ c. (search needs, search needs)))
+    (λ c. search needs))

@@ -1,5 +1,4 @@
 use Rattle.calls.proofs.Serving.{serving-lent, serving-low, serving-high, serving-free, serving-waits}
-use Rattle.evaluation.proofs.Plans.{plans}
 use borrow.Author.Needs.{needs}
 use Rattle.calls.proofs.processes.serve.Statement.{statement}
 use Rattle.calls.proofs.processes.serve.Tie as tie
@@ -12,6 +11,5 @@ serve-spec =
     (λ c κs. (search needs, (search needs, search serving-free)))
     (λ c. search needs)
     (λ c. search needs)
-    (λ c. (search needs, search needs))
     (λ c. search needs)
-    (λ c. (search serving-waits, search plans)))
+    (λ c. search serving-waits))

@@ -1,7 +1,6 @@
 use Rattle.evaluation.proofs.Roots.{roots}
 use Rattle.transfers.proofs.Steps.{stands-lent}
 use Rattle.calls.proofs.Starting.{start-referring, start-starting, start-refuses}
-use Rattle.evaluation.proofs.Plans.{plans}
 use borrow.Author.Needs.{needs}
 use Rattle.calls.proofs.processes.start.Statement.{statement}
 use Rattle.calls.proofs.processes.start.Tie as tie
@@ -16,14 +15,12 @@ start-spec =
     (λ c κs. search stands-lent)
     (λ c. search needs)
     (λ c κs. (
-      search plans,
-      let b = c .before .before .before .before .before .before .before .before in
-          let r = b .before .before .before .before .before .before .before .before .pre in
-          start-starting _ _ _ _ (r .0 .standing) (r .1) _ (b .before .before .before .before .stmt-a .ensures .is) _ (b .reference .ensures .0) _ (c .before .before .before .before .l2 .given .1),
+      search needs,
+      let b = c .before .before .before .before .before in
+          let r = b .before .before .before .before .before .before .before .pre in
+          start-starting _ _ _ _ (r .0 .standing) (r .1) _ (b .before .before .before .stmt-a .ensures .is) _ (b .reference .ensures) _ (c .before .before .before .l2 .given .1),
     ))
     (λ c. search needs)
+    (λ c. search start-refuses)
     (λ c. search needs)
-    (λ c. (search start-refuses, search needs))
-    (λ c. search needs)
-    (λ c. search needs)
-    (λ c. (search needs, search needs)))
+    (λ c. search needs))

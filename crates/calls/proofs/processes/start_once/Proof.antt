@@ -1,5 +1,4 @@
 use Rattle.calls.proofs.Starting.{starting-lent, starting-low, starting-high, starting-new, starting-twice}
-use Rattle.evaluation.proofs.Plans.{plans}
 use borrow.Author.Needs.{needs}
 use Rattle.calls.proofs.processes.start_once.Statement.{statement}
 use Rattle.calls.proofs.processes.start_once.Tie as tie
@@ -12,7 +11,6 @@ start-once-spec =
     (λ c κs. (search needs, (search needs, search starting-new)))
     (λ c. search needs)
     (λ c. search needs)
-    (λ c. (search needs, search needs))
     (λ c κs. search starting-lent)
     (λ c. search needs)
-    (λ c. (search starting-twice, search plans)))
+    (λ c. search starting-twice))

@@ -1,5 +1,4 @@
 use Rattle.transfers.proofs.Assigning.{assigns}
-use Rattle.evaluation.proofs.Plans.{plans}
 use borrow.Author.Needs.{needs}
 use Rattle.transfers.proofs.assignments.assign_at.Statement.{statement}
 use Rattle.transfers.proofs.assignments.assign_at.Tie as tie
@@ -13,12 +12,10 @@ assign-at-spec =
     (λ c κs. (search needs, (search needs, search assigns)))
     (λ c. search needs)
     (λ c. search needs)
-    (λ c. (search needs, search needs))
     (λ c κs. search needs)
     (λ c κs. (search needs, search (assigns, needs)))
     (λ c. search needs)
-    (λ c. (search needs, search plans))
+    (λ c. search needs)
     (λ c κs. (search needs, (search needs, (search (assigns, needs), search assigns))))
     (λ c. search needs)
-    (λ c. search needs)
-    (λ c. (search needs, search needs)))
+    (λ c. search needs))

@@ -1,5 +1,4 @@
 use Rattle.transfers.proofs.Writing.{writings, address-fails, address-writing}
-use Rattle.evaluation.proofs.Plans.{plans}
 use Rattle.evaluation.proofs.Roots.{roots}
 use borrow.Author.Needs.{needs}
 use Rattle.transfers.proofs.devices.write.Statement.{statement}
@@ -11,24 +10,17 @@ write-spec =
     (tie.spec
     (λ c κs. search needs)
     (λ c κs. (search needs, (search writings, (search writings, search roots))))
-    (λ c κs. (search needs, (search needs, c .before .before .before .before .eval .ensures .0 .listed .is (search needs))))
+    (λ c κs. (search needs, (search needs, c .before .before .eval .ensures .listed .is (search needs))))
     (λ c. search needs)
     (λ c. search needs)
-    (λ c. search needs)
-    (λ c. (
-      let b = c .before .before .before .before .before .before .before in
-          let r = b .before .before .before .before .before .before .before .before .before .pre in
-          address-fails _ _ _ _ (r .0 .standing) (r .1) _ (b .before .before .before .before .before .stmt-a .ensures .is) _ (b .eval .ensures .0) _ _ (search needs) (search needs) (search needs),
-      search needs,
-    ))
+    (λ c. search address-fails)
     (λ c κs. search needs)
     (λ c κs. (
-      search plans,
-      let b = c .before .before .before .before .before .before .before .before in
-          let r = b .before .before .before .before .before .before .before .before .before .pre in
-          address-writing _ _ _ _ (r .0 .standing) (r .1) _ (b .before .before .before .before .before .stmt-a .ensures .is) _ (b .eval .ensures .0) _ (search needs) (search needs),
+      search needs,
+      let b = c .before .before .before .before .before in
+          let r = b .before .before .before .before .before .before .before .before .pre in
+          address-writing _ _ _ _ (r .0 .standing) (r .1) _ (b .before .before .before .before .stmt-a .ensures .is) _ (b .eval .ensures) _ (search needs) (search needs),
     ))
     (λ c. search needs)
     (λ c. search needs)
-    (λ c. search needs)
-    (λ c. (search needs, search needs)))
+    (λ c. search needs))
