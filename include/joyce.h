@@ -85,8 +85,8 @@ extern "C" {
  * statically with the header that it came with. */
 #define JOYCE_VERSION_MAJOR 2
 #define JOYCE_VERSION_MINOR 2
-#define JOYCE_VERSION_PATCH 3
-#define JOYCE_VERSION "2.2.3"
+#define JOYCE_VERSION_PATCH 4
+#define JOYCE_VERSION "2.2.4"
 
 /* Sizes, in bytes. */
 #define JOYCE_STATE_SIZE 37376 /* a state: 64 areas of 512 bytes, 64 control records of 40, then a mark for each word of the areas */
