@@ -17,7 +17,7 @@ use Rattle.operands.specs.Ready.{contextIn, Ready}
 use Rattle.effects.proofs.Carrying.{statement-there}
 use Rattle.engine.specs.Making.{HasRow}
 use Rattle.engine.proofs.Answers.{rooted-arg, rooted-a, rooted-b}
-use Rattle.evaluation.specs.Acting.{ArgumentRows, GuardRows, takesFirst, takesBoth, passes, opens, RowsFor, Rowed, Acting}
+use Rattle.evaluation.specs.Acting.{ArgumentRows, GuardRows, takesFirst, takesBoth, hasArguments, opens, Rowed, Acting}
 
 -- a statement of kind j uses nodes
 uses-some : (j k : ℕ) → 1 ≤ stmtNodes j → k ≡ j → stmtNodes k ≡ 0 → ⊥
@@ -78,15 +78,15 @@ module _ (c k m p : List ℕ) (x : Context) (h : Acting c k m p x) where
   -- the arguments of a call or start, and the guards of what opens arms
   module _ (v d : ℕ) (hv : v ≡ stmtC (decoded c) (x .statement)) (hd : d ≡ stmtD (decoded c) (x .statement)) where
     pub local-arguments : stmtKind (decoded c) (x .statement) ≡ 2 → ArgumentRows (decoded c) k v d
-    unfolding passes
+    unfolding hasArguments
     local-arguments e = rw (hv, hd) (h .rows .arguments (rw e refl))
 
     pub call-arguments : stmtKind (decoded c) (x .statement) ≡ 3 → ArgumentRows (decoded c) k v d
-    unfolding passes
+    unfolding hasArguments
     call-arguments e = rw (hv, hd) (h .rows .arguments (rw e refl))
 
     pub start-arguments : stmtKind (decoded c) (x .statement) ≡ 5 → ArgumentRows (decoded c) k v d
-    unfolding passes
+    unfolding hasArguments
     start-arguments e = rw (hv, hd) (h .rows .arguments (rw e refl))
 
   pub open-guards : 6 ≤ stmtKind (decoded c) (x .statement) → stmtKind (decoded c) (x .statement) ≤ 9 → GuardRows (decoded c) k (stmtCount (decoded c)) (x .statement + 1)

@@ -73,8 +73,8 @@ withStart m r c n ws = standing (withParameters m r ws) r c 0 n r 0
 unfoldable pub ended : Memory → ℕ → Memory
 ended m p = update (update m (statusAt p) 3) (holderAt p) 0
 
--- what is left, from state s, of a call of procedure q on process r by process p with the argument words ws, and of the end of p's innermost
--- call, whose statement is c; the definitions of `machine` take a page, which they do not read
+-- the bytes n hold what is left, from state s, of a call of procedure q on process r by process p with the argument words ws; and of the end of
+-- p's innermost call, which statement c made. The definitions of `machine` take a page, and that of an end a table, which they do not read
 abbrev pub CallLeaves : Table → Memory → List ℕ → ℕ → Memory → ℕ → ℕ → List ℕ → Type 0
 CallLeaves T m n p s q r ws = (page : Memory) → Becomes n (frameMarked T m page (contextOf m p) (pushed T m page (contextOf m p) s q r ws) q ws)
 

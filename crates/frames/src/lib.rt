@@ -1,7 +1,7 @@
 // What statements write into a lent state: where a process stands, frames, records (01, A step). Callers test first.
 ghost use mathlib.Core.Path.{_≡_};
 ghost use mathlib.Core.List.{[]};
-ghost use Prim.Native.Nat.{_+_, _-_, _≤_, _<_};
+ghost use Prim.Native.Nat.{_+_, _≤_, _<_};
 ghost use lib.ListN.{length, take};
 ghost use Rattle.types.specs.Types.{evened};
 ghost use Rattle.sizes.specs.Sizes.{moduleWords};
