@@ -10,7 +10,7 @@ ghost use Rattle.operands.specs.Ready.{Sized};
 ghost use Rattle.calls.specs.Framing.{Framing, FrameCount};
 
 // A variable takes the words of its type, a var parameter one.
-fn var_words(c: &code::Slots, v: usize) -> usize
+fn var_words(c: &[u16], v: usize) -> usize
     requires { ⌜ Sized (now c) (varType (decoded (now c)) v) ⌝ }
     ensures { λ r. ⌜ (r ≡ varWords (decoded (now (c .entry))) v) × (r ≤ 200) ⌝ }
 {
@@ -21,7 +21,7 @@ fn var_words(c: &code::Slots, v: usize) -> usize
 }
 
 // The words of procedure q's variables, which stand beside the table.
-pub fn procedure_words(c: &code::Slots, q: usize) -> usize
+pub fn procedure_words(c: &[u16], q: usize) -> usize
     requires { ⌜ Prepared (now c) ⌝ }
     requires { ⌜ (q < blockCount (decoded (now c))) × (blockKind (decoded (now c)) q ≡ 2) ⌝ }
     ensures { λ r. ⌜ FrameCount (decoded (now (c .entry))) q r ⌝ }
@@ -30,7 +30,7 @@ pub fn procedure_words(c: &code::Slots, q: usize) -> usize
 }
 
 // The words of block b's variables: where its last one begins, and the words of that one.
-pub fn frame_words(c: &code::Slots, b: usize) -> usize
+pub fn frame_words(c: &[u16], b: usize) -> usize
     requires { ⌜ Framing (now c) b ⌝ }
     ensures { λ r. ⌜ FrameCount (decoded (now (c .entry))) b r ⌝ }
 {

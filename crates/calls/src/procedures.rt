@@ -20,7 +20,7 @@ ghost use Rattle.evaluation.specs.Acting.{ArgumentRows, Acting};
 ghost use Rattle.calls.specs.Entering.{limitOf, Invoking, Entering};
 
 // The word of its area up to which a process may call: while it works on its own variables its module tells it (13; 02, i).
-fn limit_of(c: &code::Slots, x: Context) -> usize
+fn limit_of(c: &[u16], x: Context) -> usize
     requires { ⌜ Prepared (now c) ⌝ }
     requires { ⌜ (owner (decoded (now c)) (x .block) < blockCount (decoded (now c))) × (blockKind (decoded (now c)) (owner (decoded (now c)) (x .block)) ≡ 2 → ⊥) ⌝ }
     ensures { λ r. ⌜ r ≡ limitOf (decoded (now (c .entry))) x ⌝ }
@@ -43,7 +43,7 @@ pub fn is_over(state: &[u8], p: usize, size: usize, limit: usize) -> bool
 
 // The frame of a call of procedure q, whose arguments are the first n words of the buffer (01, A step).
 fn enter_local(
-    c: &code::Slots,
+    c: &[u16],
     state: &mut [u8],
     page: &[u8],
     x: Context,
@@ -64,7 +64,7 @@ fn enter_local(
 
 // A call with arguments: they are all evaluated before anything is stored.
 fn call_local(
-    c: &code::Slots,
+    c: &[u16],
     k: &[u16],
     stack: &mut Stack,
     state: &mut [u8],
@@ -90,7 +90,7 @@ fn call_local(
 
 // 11.3: a call within the module.
 pub fn local_call(
-    c: &code::Slots,
+    c: &[u16],
     k: &[u16],
     stack: &mut Stack,
     state: &mut [u8],
@@ -112,7 +112,7 @@ pub fn local_call(
 }
 
 // The end of a call: the process stands after the call statement, where it stood before (12.2, 13).
-fn return_from(c: &code::Slots, state: &mut [u8], page: &[u8], x: Context) -> u8
+fn return_from(c: &[u16], state: &mut [u8], page: &[u8], x: Context) -> u8
     requires { ⌜ Standing (now c) (now state) (now page) x ⌝ }
     requires { ⌜ stmtKind (decoded (now c)) (x .statement) ≡ 13 ⌝ }
     requires { ⌜ (memoryOf (now state) (depthAt (x .process)) ≡ 0 → ⊥) ⌝ }
@@ -128,7 +128,7 @@ fn return_from(c: &code::Slots, state: &mut [u8], page: &[u8], x: Context) -> u8
 }
 
 // The end of a block ends the process, or the call that it executes (12.2, 13).
-pub fn block_end(c: &code::Slots, state: &mut [u8], page: &[u8], x: Context) -> u8
+pub fn block_end(c: &[u16], state: &mut [u8], page: &[u8], x: Context) -> u8
     requires { ⌜ Standing (now c) (now state) (now page) x ⌝ }
     requires { ⌜ stmtKind (decoded (now c)) (x .statement) ≡ 13 ⌝ }
     ensures { λ r. ⌜ StatementLeaves (now (c .entry)) (now (state .entry)) (now (page .entry)) x r (now (state .exit)) (now (page .entry)) ⌝ }

@@ -37,7 +37,7 @@ fn is_free(state: &[u8], r: usize) -> bool
 
 // The frame of a call of procedure q of process r, whose arguments are the first n words of the buffer (01, A step).
 fn enter_process(
-    c: &code::Slots,
+    c: &[u16],
     state: &mut [u8],
     page: &[u8],
     x: Context,
@@ -60,7 +60,7 @@ fn enter_process(
 
 // A call with arguments: they are all evaluated before anything is stored.
 fn call_process(
-    c: &code::Slots,
+    c: &[u16],
     k: &[u16],
     stack: &mut Stack,
     state: &mut [u8],
@@ -87,7 +87,7 @@ fn call_process(
 
 // A call of process r, which can serve it.
 fn call_on(
-    c: &code::Slots,
+    c: &[u16],
     k: &[u16],
     stack: &mut Stack,
     state: &mut [u8],
@@ -112,7 +112,7 @@ fn call_on(
 
 // The caller waits where process r cannot serve.
 fn serve(
-    c: &code::Slots,
+    c: &[u16],
     k: &[u16],
     stack: &mut Stack,
     state: &mut [u8],
@@ -132,7 +132,7 @@ fn serve(
 
 // 11.3: a call of the process that a variable refers to.
 pub fn process_call(
-    c: &code::Slots,
+    c: &[u16],
     k: &[u16],
     stack: &mut Stack,
     state: &mut [u8],
@@ -153,7 +153,7 @@ pub fn process_call(
 
 // Process r, of module b, has its parameters in the first n words of the buffer.
 fn begin(
-    c: &code::Slots,
+    c: &[u16],
     state: &mut [u8],
     page: &[u8],
     x: Context,
@@ -173,7 +173,7 @@ fn begin(
 
 // The start of process r, which is created and not started.
 fn start_created(
-    c: &code::Slots,
+    c: &[u16],
     k: &[u16],
     stack: &mut Stack,
     state: &mut [u8],
@@ -201,7 +201,7 @@ fn start_created(
 
 // A process is started once (01).
 fn start_once(
-    c: &code::Slots,
+    c: &[u16],
     k: &[u16],
     stack: &mut Stack,
     state: &mut [u8],
@@ -222,7 +222,7 @@ fn start_once(
 
 // 11.5: the start of the process that a variable refers to.
 pub fn start(
-    c: &code::Slots,
+    c: &[u16],
     k: &[u16],
     stack: &mut Stack,
     state: &mut [u8],

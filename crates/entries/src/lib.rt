@@ -20,7 +20,7 @@ fn spare(used: bool, x: usize) -> bool
 }
 
 // Type 3 + i.
-fn type_known(c: &code::Slots, i: usize) -> bool
+fn type_known(c: &[u16], i: usize) -> bool
     requires { ⌜ i < 65536 ⌝ }
     ensures { λ r. ⌜ r ≡ typeKnown (decoded (now (c .entry))) i ⌝ }
 {
@@ -37,13 +37,13 @@ fn type_known(c: &code::Slots, i: usize) -> bool
     false
 }
 
-fn var_known(c: &code::Slots, i: usize) -> bool
+fn var_known(c: &[u16], i: usize) -> bool
     ensures { λ r. ⌜ r ≡ varKnown (decoded (now (c .entry))) i ⌝ }
 {
     code::var_mode(c, i) <= kinds::VAR_PARAMETER
 }
 
-fn block_known(c: &code::Slots, i: usize) -> bool
+fn block_known(c: &[u16], i: usize) -> bool
     ensures { λ r. ⌜ r ≡ blockKnown (decoded (now (c .entry))) i ⌝ }
 {
     code::block_kind(c, i) <= kinds::PROCEDURE
@@ -67,7 +67,7 @@ fn uses_v(k: usize) -> bool
     k == kinds::BINARY
 }
 
-fn operator_known(c: &code::Slots, i: usize) -> bool
+fn operator_known(c: &[u16], i: usize) -> bool
     ensures { λ r. ⌜ r ≡ operatorKnown (decoded (now (c .entry))) i ⌝ }
 {
     let k = code::node_kind(c, i);
@@ -80,7 +80,7 @@ fn operator_known(c: &code::Slots, i: usize) -> bool
     true
 }
 
-fn node_known(c: &code::Slots, i: usize) -> bool
+fn node_known(c: &[u16], i: usize) -> bool
     ensures { λ r. ⌜ r ≡ nodeKnown (decoded (now (c .entry))) i ⌝ }
 {
     let k = code::node_kind(c, i);
@@ -135,7 +135,7 @@ fn uses_link(k: usize) -> bool
     basics::between(kinds::ARM, kinds::END, k)
 }
 
-fn operands_known(c: &code::Slots, i: usize) -> bool
+fn operands_known(c: &[u16], i: usize) -> bool
     ensures { λ r. ⌜ r ≡ operandsKnown (decoded (now (c .entry))) i ⌝ }
 {
     let k = code::stmt_kind(c, i);
@@ -145,7 +145,7 @@ fn operands_known(c: &code::Slots, i: usize) -> bool
     false
 }
 
-fn args_known(c: &code::Slots, i: usize) -> bool
+fn args_known(c: &[u16], i: usize) -> bool
     ensures { λ r. ⌜ r ≡ argsKnown (decoded (now (c .entry))) i ⌝ }
 {
     let k = code::stmt_kind(c, i);
@@ -155,7 +155,7 @@ fn args_known(c: &code::Slots, i: usize) -> bool
     false
 }
 
-fn stmt_known(c: &code::Slots, i: usize) -> bool
+fn stmt_known(c: &[u16], i: usize) -> bool
     ensures { λ r. ⌜ r ≡ stmtKnown (decoded (now (c .entry))) i ⌝ }
 {
     let k = code::stmt_kind(c, i);
@@ -171,7 +171,7 @@ fn stmt_known(c: &code::Slots, i: usize) -> bool
     false
 }
 
-fn types_known(c: &code::Slots) -> bool
+fn types_known(c: &[u16]) -> bool
     ensures { λ r. ⌜ r ≡ allBelow (typeCount (decoded (now (c .entry)))) (typeKnown (decoded (now (c .entry)))) ⌝ }
 {
     let n = code::types(c);
@@ -186,7 +186,7 @@ fn types_known(c: &code::Slots) -> bool
     true
 }
 
-fn vars_known(c: &code::Slots) -> bool
+fn vars_known(c: &[u16]) -> bool
     ensures { λ r. ⌜ r ≡ allBelow (varCount (decoded (now (c .entry)))) (varKnown (decoded (now (c .entry)))) ⌝ }
 {
     let n = code::variables(c);
@@ -201,7 +201,7 @@ fn vars_known(c: &code::Slots) -> bool
     true
 }
 
-fn blocks_known(c: &code::Slots) -> bool
+fn blocks_known(c: &[u16]) -> bool
     ensures { λ r. ⌜ r ≡ allBelow (blockCount (decoded (now (c .entry)))) (blockKnown (decoded (now (c .entry)))) ⌝ }
 {
     let n = code::blocks(c);
@@ -216,7 +216,7 @@ fn blocks_known(c: &code::Slots) -> bool
     true
 }
 
-fn nodes_known(c: &code::Slots) -> bool
+fn nodes_known(c: &[u16]) -> bool
     ensures { λ r. ⌜ r ≡ allBelow (nodeCount (decoded (now (c .entry)))) (nodeKnown (decoded (now (c .entry)))) ⌝ }
 {
     let n = code::nodes(c);
@@ -231,7 +231,7 @@ fn nodes_known(c: &code::Slots) -> bool
     true
 }
 
-fn stmts_known(c: &code::Slots) -> bool
+fn stmts_known(c: &[u16]) -> bool
     ensures { λ r. ⌜ r ≡ allBelow (stmtCount (decoded (now (c .entry)))) (stmtKnown (decoded (now (c .entry)))) ⌝ }
 {
     let n = code::statements(c);
@@ -246,7 +246,7 @@ fn stmts_known(c: &code::Slots) -> bool
     true
 }
 
-fn declarations_known(c: &code::Slots) -> bool
+fn declarations_known(c: &[u16]) -> bool
     ensures { λ r. ⌜ r ≡ declarationsKnown (decoded (now (c .entry))) ⌝ }
 {
     if types_known(c) {
@@ -259,7 +259,7 @@ fn declarations_known(c: &code::Slots) -> bool
 }
 
 // Whether the table escapes refusal 3.
-pub fn all_known(c: &code::Slots) -> bool
+pub fn all_known(c: &[u16]) -> bool
     ensures { λ r. ⌜ r ≡ known (decoded (now (c .entry))) ⌝ }
 {
     if declarations_known(c) {

@@ -76,7 +76,7 @@ pub fn assign_words(state: &mut [u8], from: usize, to: usize, n: usize)
 }
 
 // The string constant of q characters from p on, which are n with the character 0 that an odd one gains (02, b), to `at`.
-fn put_text(c: &code::Slots, state: &mut [u8], at: usize, p: usize, q: usize, n: usize)
+fn put_text(c: &[u16], state: &mut [u8], at: usize, p: usize, q: usize, n: usize)
     requires { ⌜ State (now state) ⌝ }
     requires { ⌜ (at + n ≤ locations) × ((p < 65536) × (n ≡ evened q)) ⌝ }
     ensures { λ _. ⌜ Becomes (now (state .exit)) (store (memoryOf (now (state .entry))) at (textAt (decoded (now (c .entry))) p q)) ⌝ }
@@ -90,7 +90,7 @@ fn put_text(c: &code::Slots, state: &mut [u8], at: usize, p: usize, q: usize, n:
 }
 
 // The string constant of q characters from p on, to the locations from `at` on, which have values now (02, b, g).
-pub fn assign_text(c: &code::Slots, state: &mut [u8], at: usize, p: usize, q: usize)
+pub fn assign_text(c: &[u16], state: &mut [u8], at: usize, p: usize, q: usize)
     requires { ⌜ State (now state) ⌝ }
     requires { ⌜ (at + evened q ≤ locations) × (p < 65536) ⌝ }
     ensures { λ _. ⌜ Becomes (now (state .exit)) (mark (store (memoryOf (now (state .entry))) at (textAt (decoded (now (c .entry))) p q)) at (length (textAt (decoded (now (c .entry))) p q))) ⌝ }
@@ -353,7 +353,7 @@ pub fn begin(state: &mut [u8], r: usize, c: u16, size: u16, n: usize, words: &[u
 
 // Process p calls procedure q of its own module; the first n words of the buffer are the arguments.
 pub fn push_local(
-    c: &code::Slots,
+    c: &[u16],
     state: &mut [u8],
     p: usize,
     q: usize,
@@ -374,7 +374,7 @@ pub fn push_local(
 
 // Process p calls procedure q of process r, and holds its variables.
 pub fn push_process(
-    c: &code::Slots,
+    c: &[u16],
     state: &mut [u8],
     p: usize,
     q: usize,
@@ -418,7 +418,7 @@ pub fn pop_process(state: &mut [u8], p: usize, c: u16)
 
 // Process r, of module b, is started; the first n words of the buffer are its parameters.
 pub fn start(
-    c: &code::Slots,
+    c: &[u16],
     state: &mut [u8],
     r: usize,
     b: usize,
@@ -471,7 +471,7 @@ pub fn create_at(state: &mut [u8], p: usize, c: u16, n: usize, block: u16, at: u
 
 // Process r, of module b, is started with marked parameters, and process p goes on at statement next.
 pub fn start_on(
-    c: &code::Slots,
+    c: &[u16],
     state: &mut [u8],
     p: usize,
     next: u16,

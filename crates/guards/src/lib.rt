@@ -27,7 +27,7 @@ struct ArmFound {
 }
 
 // 11.1: the process goes on.
-pub fn skip(c: &code::Slots, state: &mut [u8], page: &[u8], x: Context) -> u8
+pub fn skip(c: &[u16], state: &mut [u8], page: &[u8], x: Context) -> u8
     requires { ⌜ Standing (now c) (now state) (now page) x ⌝ }
     requires { ⌜ stmtKind (decoded (now c)) (x .statement) ≡ 0 ⌝ }
     ensures { λ r. ⌜ StatementLeaves (now (c .entry)) (now (state .entry)) (now (page .entry)) x r (now (state .exit)) (now (page .entry)) ⌝ }
@@ -38,7 +38,7 @@ pub fn skip(c: &code::Slots, state: &mut [u8], page: &[u8], x: Context) -> u8
 
 // The value of the guard of arm i.
 fn guard(
-    c: &code::Slots,
+    c: &[u16],
     k: &[u16],
     stack: &mut Stack,
     state: &[u8],
@@ -58,7 +58,7 @@ fn guard(
 
 // The guards of the arms from i on, in the order written (11.6).
 fn choose(
-    c: &code::Slots,
+    c: &[u16],
     k: &[u16],
     stack: &mut Stack,
     state: &[u8],
@@ -111,7 +111,7 @@ fn pass(state: &mut [u8], x: Context, waits: bool, i: usize) -> u8
 
 // An if, while, when or cycle is followed by its first arm.
 pub fn open(
-    c: &code::Slots,
+    c: &[u16],
     k: &[u16],
     stack: &mut Stack,
     state: &mut [u8],
@@ -137,7 +137,7 @@ pub fn open(
 }
 
 // The end of the arms from i on: each arm is linked to the next.
-fn end_of(c: &code::Slots, i: usize) -> usize
+fn end_of(c: &[u16], i: usize) -> usize
     requires { ⌜ Linked (decoded (now c)) i ⌝ }
     ensures { λ r. ⌜ ArmsEnd (decoded (now (c .entry))) i r ⌝ }
 {
@@ -163,7 +163,7 @@ fn next(k: usize, opener: usize, end: usize) -> u16
 }
 
 // An arm or end that is reached from inside: the conditional statements have been executed (11.7 to 11.10).
-pub fn end_arm(c: &code::Slots, state: &mut [u8], page: &[u8], x: Context) -> u8
+pub fn end_arm(c: &[u16], state: &mut [u8], page: &[u8], x: Context) -> u8
     requires { ⌜ Standing (now c) (now state) (now page) x ⌝ }
     requires { ⌜ (10 ≤ stmtKind (decoded (now c)) (x .statement)) × (stmtKind (decoded (now c)) (x .statement) ≤ 11) ⌝ }
     ensures { λ r. ⌜ StatementLeaves (now (c .entry)) (now (state .entry)) (now (page .entry)) x r (now (state .exit)) (now (page .entry)) ⌝ }

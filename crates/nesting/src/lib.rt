@@ -45,7 +45,7 @@ fn class_of(k: usize) -> usize
 }
 
 // The class of statement i; past the last there is none.
-fn stmt_class(c: &code::Slots, i: usize) -> usize
+fn stmt_class(c: &[u16], i: usize) -> usize
     ensures { λ r. ⌜ ClassIs (decoded (now (c .entry))) i r ⌝ }
 {
     if i < code::statements(c) {
@@ -55,7 +55,7 @@ fn stmt_class(c: &code::Slots, i: usize) -> usize
 }
 
 // The number after the statement at i, or 0 where there is none.
-fn stmt_end(c: &code::Slots, i: usize) -> usize
+fn stmt_end(c: &[u16], i: usize) -> usize
     ensures { λ r. ⌜ StmtEnds (decoded (now (c .entry))) i r ⌝ }
 {
     let class = stmt_class(c, i);
@@ -69,7 +69,7 @@ fn stmt_end(c: &code::Slots, i: usize) -> usize
 }
 
 // The number after the body that begins at i, or 0 where there is none.
-fn body_end(c: &code::Slots, i: usize) -> usize
+fn body_end(c: &[u16], i: usize) -> usize
     ensures { λ r. ⌜ BodyEnds (decoded (now (c .entry))) i r ⌝ }
 {
     let mut j = i;
@@ -86,7 +86,7 @@ fn body_end(c: &code::Slots, i: usize) -> usize
 }
 
 // The number after the body of the arm at i, which is its link, or 0 where that is not so.
-fn arm_end(c: &code::Slots, i: usize) -> usize
+fn arm_end(c: &[u16], i: usize) -> usize
     ensures { λ r. ⌜ ArmEnds (decoded (now (c .entry))) i r ⌝ }
 {
     if stmt_class(c, i) != ARM {
@@ -100,7 +100,7 @@ fn arm_end(c: &code::Slots, i: usize) -> usize
 }
 
 // The number after the end at j, or 0 where it is not that of opener o.
-fn closing(c: &code::Slots, o: usize, j: usize) -> usize
+fn closing(c: &[u16], o: usize, j: usize) -> usize
     requires { ⌜ j < 65536 ⌝ }
     ensures { λ r. ⌜ r ≡ closed (decoded (now (c .entry))) o j ⌝ }
 {
@@ -111,7 +111,7 @@ fn closing(c: &code::Slots, o: usize, j: usize) -> usize
 }
 
 // The number after the arms of opener o that begin at i, and their end; or 0 where that is not so.
-fn arms_end(c: &code::Slots, o: usize, i: usize) -> usize
+fn arms_end(c: &[u16], o: usize, i: usize) -> usize
     ensures { λ r. ⌜ ArmsEnds (decoded (now (c .entry))) o i r ⌝ }
 {
     let mut j = i;
@@ -128,7 +128,7 @@ fn arms_end(c: &code::Slots, o: usize, i: usize) -> usize
 }
 
 // The number after the block end at e of block b, or 0 where it is not there.
-fn finish(c: &code::Slots, b: usize, e: usize) -> usize
+fn finish(c: &[u16], b: usize, e: usize) -> usize
     ensures { λ r. ⌜ r ≡ afterBlock (decoded (now (c .entry))) b e ⌝ }
 {
     if stmt_class(c, e) == BLOCK_END {
@@ -141,7 +141,7 @@ fn finish(c: &code::Slots, b: usize, e: usize) -> usize
 }
 
 // The number after block b, where j is free, or 0 where the block is not there.
-fn block_end(c: &code::Slots, b: usize, j: usize) -> usize
+fn block_end(c: &[u16], b: usize, j: usize) -> usize
     ensures { λ r. ⌜ r ≡ blockEnd (decoded (now (c .entry))) b j ⌝ }
 {
     if code::first_stmt(c, b) == j {
@@ -155,7 +155,7 @@ fn block_end(c: &code::Slots, b: usize, j: usize) -> usize
 }
 
 // The rule of nesting.
-pub fn all_nested(c: &code::Slots) -> bool
+pub fn all_nested(c: &[u16]) -> bool
     ensures { λ r. ⌜ r ≡ nested (decoded (now (c .entry))) ⌝ }
 {
     let n = code::blocks(c);

@@ -8,7 +8,7 @@ ghost use Rattle.table.specs.Entries.{blockCount};
 ghost use Rattle.numbers.specs.Blocks.{programPlaced, ownerRanged, blockPlaced, spaceRanged, modePlaced, variablesPlaced, blockRanged};
 
 // Block 0 is the only program and has no parameters.
-fn program_placed(c: &code::Slots, b: usize) -> bool
+fn program_placed(c: &[u16], b: usize) -> bool
     ensures { λ r. ⌜ r ≡ programPlaced (decoded (now (c .entry))) b ⌝ }
 {
     let k = code::block_kind(c, b);
@@ -21,7 +21,7 @@ fn program_placed(c: &code::Slots, b: usize) -> bool
     kinds::MODULE <= k
 }
 
-fn owner_ranged(c: &code::Slots, b: usize) -> bool
+fn owner_ranged(c: &[u16], b: usize) -> bool
     ensures { λ r. ⌜ r ≡ ownerRanged (decoded (now (c .entry))) b ⌝ }
 {
     let o = code::block_owner(c, b);
@@ -34,7 +34,7 @@ fn owner_ranged(c: &code::Slots, b: usize) -> bool
     o == b
 }
 
-fn space_ranged(c: &code::Slots, b: usize) -> bool
+fn space_ranged(c: &[u16], b: usize) -> bool
     ensures { λ r. ⌜ r ≡ spaceRanged (decoded (now (c .entry))) b ⌝ }
 {
     let x = code::block_space(c, b);
@@ -48,7 +48,7 @@ fn space_ranged(c: &code::Slots, b: usize) -> bool
 }
 
 // Variable j of block b is a parameter or a local, by its place.
-fn mode_placed(c: &code::Slots, b: usize, j: usize) -> bool
+fn mode_placed(c: &[u16], b: usize, j: usize) -> bool
     requires { ⌜ j < 65536 ⌝ }
     ensures { λ r. ⌜ r ≡ modePlaced (decoded (now (c .entry))) b j ⌝ }
 {
@@ -59,7 +59,7 @@ fn mode_placed(c: &code::Slots, b: usize, j: usize) -> bool
     m == kinds::LOCAL
 }
 
-fn modes_placed(c: &code::Slots, b: usize, n: usize) -> bool
+fn modes_placed(c: &[u16], b: usize, n: usize) -> bool
     requires { ⌜ n < 65536 ⌝ }
     ensures { λ r. ⌜ r ≡ allBelow n (modePlaced (decoded (now (c .entry))) b) ⌝ }
 {
@@ -74,7 +74,7 @@ fn modes_placed(c: &code::Slots, b: usize, n: usize) -> bool
     true
 }
 
-fn variables_placed(c: &code::Slots, b: usize) -> bool
+fn variables_placed(c: &[u16], b: usize) -> bool
     ensures { λ r. ⌜ r ≡ variablesPlaced (decoded (now (c .entry))) b ⌝ }
 {
     let n = code::block_vars(c, b);
@@ -84,7 +84,7 @@ fn variables_placed(c: &code::Slots, b: usize) -> bool
     false
 }
 
-fn block_placed(c: &code::Slots, b: usize) -> bool
+fn block_placed(c: &[u16], b: usize) -> bool
     ensures { λ r. ⌜ r ≡ blockPlaced (decoded (now (c .entry))) b ⌝ }
 {
     if program_placed(c, b) {
@@ -93,7 +93,7 @@ fn block_placed(c: &code::Slots, b: usize) -> bool
     false
 }
 
-fn block_ranged(c: &code::Slots, b: usize) -> bool
+fn block_ranged(c: &[u16], b: usize) -> bool
     ensures { λ r. ⌜ r ≡ blockRanged (decoded (now (c .entry))) b ⌝ }
 {
     if block_placed(c, b) {
@@ -108,7 +108,7 @@ fn block_ranged(c: &code::Slots, b: usize) -> bool
     false
 }
 
-pub fn all_blocks(c: &code::Slots) -> bool
+pub fn all_blocks(c: &[u16]) -> bool
     ensures { λ r. ⌜ r ≡ allBelow (blockCount (decoded (now (c .entry)))) (blockRanged (decoded (now (c .entry)))) ⌝ }
 {
     let n = code::blocks(c);

@@ -12,14 +12,14 @@ ghost use Rattle.numbers.specs.Marking.{Clear, ModuleMarks, moduleMarked
 use super::sorts;
 
 // Field j of record x has a type with a lower number.
-fn field_below(c: &code::Slots, x: usize, j: usize) -> bool
+fn field_below(c: &[u16], x: usize, j: usize) -> bool
     requires { ⌜ j < 65536 ⌝ }
     ensures { λ r. ⌜ r ≡ fieldBelow (decoded (now (c .entry))) x j ⌝ }
 {
     code::field_type(c, code::type_p(c, x) + j) < x
 }
 
-fn fields_below(c: &code::Slots, x: usize, q: usize) -> bool
+fn fields_below(c: &[u16], x: usize, q: usize) -> bool
     requires { ⌜ q < 65536 ⌝ }
     ensures { λ r. ⌜ r ≡ allBelow q (fieldBelow (decoded (now (c .entry))) x) ⌝ }
 {
@@ -34,7 +34,7 @@ fn fields_below(c: &code::Slots, x: usize, q: usize) -> bool
     true
 }
 
-fn record_ranged(c: &code::Slots, x: usize) -> bool
+fn record_ranged(c: &[u16], x: usize) -> bool
     ensures { λ r. ⌜ r ≡ recordRanged (decoded (now (c .entry))) x ⌝ }
 {
     let q = code::type_q(c, x);
@@ -44,7 +44,7 @@ fn record_ranged(c: &code::Slots, x: usize) -> bool
     false
 }
 
-fn array_ranged(c: &code::Slots, x: usize) -> bool
+fn array_ranged(c: &[u16], x: usize) -> bool
     ensures { λ r. ⌜ r ≡ arrayRanged (decoded (now (c .entry))) x ⌝ }
 {
     if code::type_p(c, x) <= kinds::CHARACTER {
@@ -54,7 +54,7 @@ fn array_ranged(c: &code::Slots, x: usize) -> bool
 }
 
 // Type 3 + i.
-fn type_ranged(c: &code::Slots, i: usize) -> bool
+fn type_ranged(c: &[u16], i: usize) -> bool
     requires { ⌜ i < 65536 ⌝ }
     ensures { λ r. ⌜ r ≡ typeRanged (decoded (now (c .entry))) i ⌝ }
 {
@@ -71,7 +71,7 @@ fn type_ranged(c: &code::Slots, i: usize) -> bool
     true
 }
 
-pub fn all_types(c: &code::Slots) -> bool
+pub fn all_types(c: &[u16]) -> bool
     ensures { λ r. ⌜ r ≡ allBelow (typeCount (decoded (now (c .entry)))) (typeRanged (decoded (now (c .entry)))) ⌝ }
 {
     let n = code::types(c);
@@ -86,13 +86,13 @@ pub fn all_types(c: &code::Slots) -> bool
     true
 }
 
-fn var_ranged(c: &code::Slots, i: usize) -> bool
+fn var_ranged(c: &[u16], i: usize) -> bool
     ensures { λ r. ⌜ r ≡ entryRanged (decoded (now (c .entry))) 2 i ⌝ }
 {
     code::var_type(c, i) < kinds::STANDARD + code::types(c)
 }
 
-pub fn all_vars(c: &code::Slots) -> bool
+pub fn all_vars(c: &[u16]) -> bool
     ensures { λ r. ⌜ r ≡ allBelow (varCount (decoded (now (c .entry)))) (entryRanged (decoded (now (c .entry))) 2) ⌝ }
 {
     let n = code::variables(c);
@@ -108,7 +108,7 @@ pub fn all_vars(c: &code::Slots) -> bool
 }
 
 // Marks the module that type 3 + i names, where it is a process type.
-fn mark_module(c: &code::Slots, i: usize, marks: &mut [u8])
+fn mark_module(c: &[u16], i: usize, marks: &mut [u8])
     requires { ⌜ i < 65536 ⌝ }
     ensures { λ _. ⌜ now (marks .exit) ≡ moduleMarked (decoded (now (c .entry))) i (now (marks .entry)) ⌝ }
 {
@@ -117,7 +117,7 @@ fn mark_module(c: &code::Slots, i: usize, marks: &mut [u8])
     }
 }
 
-fn mark_modules(c: &code::Slots, marks: &mut [u8])
+fn mark_modules(c: &[u16], marks: &mut [u8])
     requires { ⌜ Clear (decoded (now c)) (now marks) ⌝ }
     ensures { λ _. ⌜ ModuleMarks (decoded (now (c .entry))) (typeCount (decoded (now (c .entry)))) (now (marks .exit)) ⌝ }
 {
@@ -130,7 +130,7 @@ fn mark_modules(c: &code::Slots, marks: &mut [u8])
 }
 
 // Block b is marked once at most.
-fn named_once(c: &code::Slots, marks: &[u8], b: usize) -> bool
+fn named_once(c: &[u16], marks: &[u8], b: usize) -> bool
     requires { ⌜ ModuleMarks (decoded (now c)) (typeCount (decoded (now c))) (now marks) ⌝ }
     requires { ⌜ b < blockCount (decoded (now c)) ⌝ }
     ensures { λ r. ⌜ r ≡ namedOnce (decoded (now (c .entry))) b ⌝ }
@@ -138,7 +138,7 @@ fn named_once(c: &code::Slots, marks: &[u8], b: usize) -> bool
     marks[b] <= 1
 }
 
-fn marked_once(c: &code::Slots, marks: &[u8]) -> bool
+fn marked_once(c: &[u16], marks: &[u8]) -> bool
     requires { ⌜ ModuleMarks (decoded (now c)) (typeCount (decoded (now c))) (now marks) ⌝ }
     ensures { λ r. ⌜ r ≡ modulesOnce (decoded (now (c .entry))) ⌝ }
 {
@@ -155,7 +155,7 @@ fn marked_once(c: &code::Slots, marks: &[u8]) -> bool
 }
 
 // No two process types name the same block. The marks are 0 at first.
-pub fn modules_once(c: &code::Slots, marks: &mut [u8]) -> bool
+pub fn modules_once(c: &[u16], marks: &mut [u8]) -> bool
     requires { ⌜ Clear (decoded (now c)) (now marks) ⌝ }
     ensures { λ r. ⌜ r ≡ modulesOnce (decoded (now (c .entry))) ⌝ }
 {

@@ -12,7 +12,7 @@ ghost use Rattle.types.specs.Kept.{Types};
 ghost use Rattle.numbers.specs.Marking.{Clear};
 ghost use Rattle.numbers.specs.Ranges.{inOrder, typesRanged, declarationsRanged, operandsRanged, inRange};
 
-fn in_order(c: &code::Slots) -> bool
+fn in_order(c: &[u16]) -> bool
     ensures { λ r. ⌜ r ≡ inOrder (decoded (now (c .entry))) ⌝ }
 {
     if order::fields_taken(c) {
@@ -27,7 +27,7 @@ fn in_order(c: &code::Slots) -> bool
     false
 }
 
-fn types_ranged(c: &code::Slots, marks: &mut [u8]) -> bool
+fn types_ranged(c: &[u16], marks: &mut [u8]) -> bool
     requires { ⌜ Clear (decoded (now c)) (now marks) ⌝ }
     ensures { λ r. ⌜ r ≡ typesRanged (decoded (now (c .entry))) ⌝ }
 {
@@ -37,7 +37,7 @@ fn types_ranged(c: &code::Slots, marks: &mut [u8]) -> bool
     false
 }
 
-fn declarations_ranged(c: &code::Slots) -> bool
+fn declarations_ranged(c: &[u16]) -> bool
     ensures { λ r. ⌜ r ≡ declarationsRanged (decoded (now (c .entry))) ⌝ }
 {
     if 1 <= code::blocks(c) {
@@ -49,7 +49,7 @@ fn declarations_ranged(c: &code::Slots) -> bool
     false
 }
 
-fn operands_ranged(c: &code::Slots, types: &[u16]) -> bool
+fn operands_ranged(c: &[u16], types: &[u16]) -> bool
     requires { ⌜ Types (decoded (now c)) (now types) ⌝ }
     ensures { λ r. ⌜ r ≡ operandsRanged (decoded (now (c .entry))) ⌝ }
 {
@@ -63,7 +63,7 @@ fn operands_ranged(c: &code::Slots, types: &[u16]) -> bool
 }
 
 // Whether the table escapes refusal 4. `types` holds the types of its nodes; `marks` are 0, one for each block at least.
-pub fn in_range(c: &code::Slots, types: &[u16], marks: &mut [u8]) -> bool
+pub fn in_range(c: &[u16], types: &[u16], marks: &mut [u8]) -> bool
     requires { ⌜ Types (decoded (now c)) (now types) ⌝ }
     requires { ⌜ Clear (decoded (now c)) (now marks) ⌝ }
     ensures { λ r. ⌜ r ≡ inRange (decoded (now (c .entry))) ⌝ }

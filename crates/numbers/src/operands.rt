@@ -11,13 +11,13 @@ ghost use Rattle.numbers.specs.Operands.{placeRanged, nodeRanged};
 ghost use Rattle.numbers.specs.Tested.{pRanged, qRanged, aVariable, aExpression, aBlock, aRanged, bExpression, bRanged, linkRanged};
 use super::sorts;
 
-fn arg_ranged(c: &code::Slots, i: usize) -> bool
+fn arg_ranged(c: &[u16], i: usize) -> bool
     ensures { λ r. ⌜ r ≡ entryRanged (decoded (now (c .entry))) 4 i ⌝ }
 {
     code::arg_node(c, i) < code::nodes(c)
 }
 
-pub fn all_args(c: &code::Slots) -> bool
+pub fn all_args(c: &[u16]) -> bool
     ensures { λ r. ⌜ r ≡ allBelow (argCount (decoded (now (c .entry)))) (entryRanged (decoded (now (c .entry))) 4) ⌝ }
 {
     let n = code::arguments(c);
@@ -33,7 +33,7 @@ pub fn all_args(c: &code::Slots) -> bool
 }
 
 // The first operand of node n.
-fn p_ranged(c: &code::Slots, n: usize) -> bool
+fn p_ranged(c: &[u16], n: usize) -> bool
     ensures { λ r. ⌜ r ≡ pRanged (decoded (now (c .entry))) n ⌝ }
 {
     let k = code::node_kind(c, n);
@@ -54,7 +54,7 @@ fn p_ranged(c: &code::Slots, n: usize) -> bool
 }
 
 // The place q of a field in a variable of type x.
-fn place_ranged(c: &code::Slots, x: usize, q: usize) -> bool
+fn place_ranged(c: &[u16], x: usize, q: usize) -> bool
     ensures { λ r. ⌜ r ≡ placeRanged (decoded (now (c .entry))) x q ⌝ }
 {
     if code::type_kind(c, x) == kinds::RECORD {
@@ -64,7 +64,7 @@ fn place_ranged(c: &code::Slots, x: usize, q: usize) -> bool
 }
 
 // The second operand of node n.
-fn q_ranged(c: &code::Slots, types: &[u16], n: usize) -> bool
+fn q_ranged(c: &[u16], types: &[u16], n: usize) -> bool
     requires { ⌜ Types (decoded (now c)) (now types) ⌝ }
     ensures { λ r. ⌜ r ≡ qRanged (decoded (now (c .entry))) n ⌝ }
 {
@@ -88,7 +88,7 @@ fn q_ranged(c: &code::Slots, types: &[u16], n: usize) -> bool
     true
 }
 
-fn node_ranged(c: &code::Slots, types: &[u16], n: usize) -> bool
+fn node_ranged(c: &[u16], types: &[u16], n: usize) -> bool
     requires { ⌜ Types (decoded (now c)) (now types) ⌝ }
     ensures { λ r. ⌜ r ≡ nodeRanged (decoded (now (c .entry))) n ⌝ }
 {
@@ -98,7 +98,7 @@ fn node_ranged(c: &code::Slots, types: &[u16], n: usize) -> bool
     false
 }
 
-pub fn all_nodes(c: &code::Slots, types: &[u16]) -> bool
+pub fn all_nodes(c: &[u16], types: &[u16]) -> bool
     requires { ⌜ Types (decoded (now c)) (now types) ⌝ }
     ensures { λ r. ⌜ r ≡ allBelow (nodeCount (decoded (now (c .entry)))) (nodeRanged (decoded (now (c .entry)))) ⌝ }
 {
@@ -141,7 +141,7 @@ fn b_expression(k: usize) -> bool
     k == kinds::WRITE
 }
 
-fn a_block(c: &code::Slots, i: usize) -> bool
+fn a_block(c: &[u16], i: usize) -> bool
     ensures { λ r. ⌜ r ≡ aBlock (decoded (now (c .entry))) i ⌝ }
 {
     let k = code::stmt_kind(c, i);
@@ -156,7 +156,7 @@ fn a_block(c: &code::Slots, i: usize) -> bool
 }
 
 // What a of statement i names.
-fn a_ranged(c: &code::Slots, i: usize) -> bool
+fn a_ranged(c: &[u16], i: usize) -> bool
     ensures { λ r. ⌜ r ≡ aRanged (decoded (now (c .entry))) i ⌝ }
 {
     let k = code::stmt_kind(c, i);
@@ -171,7 +171,7 @@ fn a_ranged(c: &code::Slots, i: usize) -> bool
 }
 
 // What b of statement i names.
-fn b_ranged(c: &code::Slots, i: usize) -> bool
+fn b_ranged(c: &[u16], i: usize) -> bool
     ensures { λ r. ⌜ r ≡ bRanged (decoded (now (c .entry))) i ⌝ }
 {
     let k = code::stmt_kind(c, i);
@@ -185,7 +185,7 @@ fn b_ranged(c: &code::Slots, i: usize) -> bool
     true
 }
 
-fn link_ranged(c: &code::Slots, i: usize) -> bool
+fn link_ranged(c: &[u16], i: usize) -> bool
     ensures { λ r. ⌜ r ≡ linkRanged (decoded (now (c .entry))) i ⌝ }
 {
     if basics::between(kinds::ARM, kinds::END, code::stmt_kind(c, i)) {
@@ -194,7 +194,7 @@ fn link_ranged(c: &code::Slots, i: usize) -> bool
     true
 }
 
-fn stmt_ranged(c: &code::Slots, i: usize) -> bool
+fn stmt_ranged(c: &[u16], i: usize) -> bool
     ensures { λ r. ⌜ r ≡ entryRanged (decoded (now (c .entry))) 6 i ⌝ }
 {
     if a_ranged(c, i) {
@@ -206,7 +206,7 @@ fn stmt_ranged(c: &code::Slots, i: usize) -> bool
     false
 }
 
-pub fn all_stmts(c: &code::Slots) -> bool
+pub fn all_stmts(c: &[u16]) -> bool
     ensures { λ r. ⌜ r ≡ allBelow (stmtCount (decoded (now (c .entry)))) (entryRanged (decoded (now (c .entry))) 6) ⌝ }
 {
     let n = code::statements(c);

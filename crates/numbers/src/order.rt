@@ -33,28 +33,28 @@ fn after(takes: bool, first: usize, count: usize, j: usize) -> usize
     j
 }
 
-fn is_record(c: &code::Slots, i: usize) -> bool
+fn is_record(c: &[u16], i: usize) -> bool
     requires { ⌜ i < 65536 ⌝ }
     ensures { λ r. ⌜ r ≡ isRecord (decoded (now (c .entry))) i ⌝ }
 {
     code::type_kind(c, kinds::STANDARD + i) == kinds::RECORD
 }
 
-fn record_first(c: &code::Slots, i: usize) -> usize
+fn record_first(c: &[u16], i: usize) -> usize
     requires { ⌜ i < 65536 ⌝ }
     ensures { λ r. ⌜ Field (recordFirst (decoded (now (c .entry))) i) r ⌝ }
 {
     code::type_p(c, kinds::STANDARD + i)
 }
 
-fn record_count(c: &code::Slots, i: usize) -> usize
+fn record_count(c: &[u16], i: usize) -> usize
     requires { ⌜ i < 65536 ⌝ }
     ensures { λ r. ⌜ Field (recordCount (decoded (now (c .entry))) i) r ⌝ }
 {
     code::type_q(c, kinds::STANDARD + i)
 }
 
-fn is_call(c: &code::Slots, i: usize) -> bool
+fn is_call(c: &[u16], i: usize) -> bool
     ensures { λ r. ⌜ r ≡ isCall (decoded (now (c .entry))) i ⌝ }
 {
     let k = code::stmt_kind(c, i);
@@ -64,31 +64,31 @@ fn is_call(c: &code::Slots, i: usize) -> bool
     k == kinds::START
 }
 
-fn call_first(c: &code::Slots, i: usize) -> usize
+fn call_first(c: &[u16], i: usize) -> usize
     ensures { λ r. ⌜ Field (callFirst (decoded (now (c .entry))) i) r ⌝ }
 {
     code::stmt_c(c, i)
 }
 
-fn call_count(c: &code::Slots, i: usize) -> usize
+fn call_count(c: &[u16], i: usize) -> usize
     ensures { λ r. ⌜ Field (callCount (decoded (now (c .entry))) i) r ⌝ }
 {
     code::stmt_d(c, i)
 }
 
-fn string_first(c: &code::Slots, n: usize) -> usize
+fn string_first(c: &[u16], n: usize) -> usize
     ensures { λ r. ⌜ Field (stringFirst (decoded (now (c .entry))) n) r ⌝ }
 {
     code::node_p(c, n)
 }
 
-fn string_count(c: &code::Slots, n: usize) -> usize
+fn string_count(c: &[u16], n: usize) -> usize
     ensures { λ r. ⌜ Field (stringCount (decoded (now (c .entry))) n) r ⌝ }
 {
     code::node_q(c, n)
 }
 
-pub fn fields_taken(c: &code::Slots) -> bool
+pub fn fields_taken(c: &[u16]) -> bool
     ensures { λ r. ⌜ r ≡ fieldsTaken (decoded (now (c .entry))) ⌝ }
 {
     let n = code::types(c);
@@ -107,7 +107,7 @@ pub fn fields_taken(c: &code::Slots) -> bool
     j == code::fields(c)
 }
 
-pub fn variables_taken(c: &code::Slots) -> bool
+pub fn variables_taken(c: &[u16]) -> bool
     ensures { λ r. ⌜ r ≡ variablesTaken (decoded (now (c .entry))) ⌝ }
 {
     let n = code::blocks(c);
@@ -125,7 +125,7 @@ pub fn variables_taken(c: &code::Slots) -> bool
     j == code::variables(c)
 }
 
-pub fn arguments_taken(c: &code::Slots) -> bool
+pub fn arguments_taken(c: &[u16]) -> bool
     ensures { λ r. ⌜ r ≡ argumentsTaken (decoded (now (c .entry))) ⌝ }
 {
     let n = code::statements(c);
@@ -144,7 +144,7 @@ pub fn arguments_taken(c: &code::Slots) -> bool
     j == code::arguments(c)
 }
 
-pub fn characters_taken(c: &code::Slots) -> bool
+pub fn characters_taken(c: &[u16]) -> bool
     ensures { λ r. ⌜ r ≡ charactersTaken (decoded (now (c .entry))) ⌝ }
 {
     let n = code::nodes(c);

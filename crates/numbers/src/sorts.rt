@@ -4,7 +4,7 @@ ghost use Rattle.code.specs.Code.{decoded};
 ghost use Rattle.numbers.specs.Tested.{variableBelow, expressionBelow, isBlock};
 
 // Node v is below m and a variable.
-pub fn variable_below(c: &code::Slots, m: usize, v: usize) -> bool
+pub fn variable_below(c: &[u16], m: usize, v: usize) -> bool
     ensures { λ r. ⌜ r ≡ variableBelow (decoded (now (c .entry))) m v ⌝ }
 {
     if v < m {
@@ -14,7 +14,7 @@ pub fn variable_below(c: &code::Slots, m: usize, v: usize) -> bool
 }
 
 // Node e is below m and an expression.
-pub fn expression_below(c: &code::Slots, m: usize, e: usize) -> bool
+pub fn expression_below(c: &[u16], m: usize, e: usize) -> bool
     ensures { λ r. ⌜ r ≡ expressionBelow (decoded (now (c .entry))) m e ⌝ }
 {
     if e < m {
@@ -24,7 +24,7 @@ pub fn expression_below(c: &code::Slots, m: usize, e: usize) -> bool
 }
 
 // Block b exists and is of kind k.
-pub fn block_of(c: &code::Slots, k: usize, b: usize) -> bool
+pub fn block_of(c: &[u16], k: usize, b: usize) -> bool
     ensures { λ r. ⌜ r ≡ isBlock (decoded (now (c .entry))) k b ⌝ }
 {
     if b < code::blocks(c) {

@@ -36,7 +36,7 @@ pub fn value_at(state: &[u8], a: usize) -> u32
 }
 
 // The words of type y.
-pub fn words_of(c: &code::Slots, y: usize) -> usize
+pub fn words_of(c: &[u16], y: usize) -> usize
     requires { ⌜ Sized (now c) y ⌝ }
     ensures { λ r. ⌜ (r ≡ wordsOf (decoded (now (c .entry))) y) × (r ≤ 200) ⌝ }
 {
@@ -44,7 +44,7 @@ pub fn words_of(c: &code::Slots, y: usize) -> usize
 }
 
 // The words of node n's value.
-pub fn node_words(c: &code::Slots, n: usize) -> usize
+pub fn node_words(c: &[u16], n: usize) -> usize
     requires { ⌜ Valued (now c) n ⌝ }
     ensures { λ r. ⌜ (r ≡ wordsOf (decoded (now (c .entry))) (typeOf (decoded (now (c .entry))) n)) × (r ≤ 200) ⌝ }
 {
@@ -52,7 +52,7 @@ pub fn node_words(c: &code::Slots, n: usize) -> usize
 }
 
 // The value of node n has one word, and is no text: the type of a string constant has no number, and so no words here.
-pub fn is_single(c: &code::Slots, n: usize) -> bool
+pub fn is_single(c: &[u16], n: usize) -> bool
     requires { ⌜ Counted (now c) n ⌝ }
     ensures { λ r. ⌜ r ≡ single (decoded (now (c .entry))) n ⌝ }
 {

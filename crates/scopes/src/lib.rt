@@ -15,7 +15,7 @@ ghost use Rattle.uses.specs.Uses.{entryUses, usedOnce};
 ghost use Rattle.scopes.specs.Scopes.{ofBlock, inScope, staysIn, scoped};
 ghost use Rattle.scopes.specs.Handed.{withBlock, partNode, argNodes, roots, nodeVisible, Stays};
 
-fn is_among(c: &code::Slots, b: usize, x: usize) -> bool
+fn is_among(c: &[u16], b: usize, x: usize) -> bool
     ensures { λ r. ⌜ r ≡ ofBlock (decoded (now (c .entry))) b x ⌝ }
 {
     let first = code::first_var(c, b);
@@ -25,7 +25,7 @@ fn is_among(c: &code::Slots, b: usize, x: usize) -> bool
     false
 }
 
-fn is_visible(c: &code::Slots, b: usize, x: usize) -> bool
+fn is_visible(c: &[u16], b: usize, x: usize) -> bool
     ensures { λ r. ⌜ r ≡ inScope (decoded (now (c .entry))) b x ⌝ }
 {
     if is_among(c, b, x) {
@@ -35,7 +35,7 @@ fn is_visible(c: &code::Slots, b: usize, x: usize) -> bool
     is_among(c, o, x)
 }
 
-fn has_first(c: &code::Slots, n: usize) -> bool
+fn has_first(c: &[u16], n: usize) -> bool
     ensures { λ r. ⌜ r ≡ names 5 (held (decoded (now (c .entry))) 5 n 1) ⌝ }
 {
     let k = code::node_kind(c, n);
@@ -46,7 +46,7 @@ fn has_first(c: &code::Slots, n: usize) -> bool
     false
 }
 
-fn has_second(c: &code::Slots, n: usize) -> bool
+fn has_second(c: &[u16], n: usize) -> bool
     ensures { λ r. ⌜ r ≡ names 5 (held (decoded (now (c .entry))) 5 n 2) ⌝ }
 {
     let k = code::node_kind(c, n);
@@ -56,7 +56,7 @@ fn has_second(c: &code::Slots, n: usize) -> bool
     k == kinds::BINARY
 }
 
-fn names_a(c: &code::Slots, i: usize) -> bool
+fn names_a(c: &[u16], i: usize) -> bool
     ensures { λ r. ⌜ r ≡ names 5 (held (decoded (now (c .entry))) 6 i 1) ⌝ }
 {
     let k = code::stmt_kind(c, i);
@@ -78,7 +78,7 @@ fn names_a(c: &code::Slots, i: usize) -> bool
     k == kinds::WRITE
 }
 
-fn names_b(c: &code::Slots, i: usize) -> bool
+fn names_b(c: &[u16], i: usize) -> bool
     ensures { λ r. ⌜ r ≡ names 5 (held (decoded (now (c .entry))) 6 i 2) ⌝ }
 {
     let k = code::stmt_kind(c, i);
@@ -88,7 +88,7 @@ fn names_b(c: &code::Slots, i: usize) -> bool
     k == kinds::WRITE
 }
 
-fn has_arguments(c: &code::Slots, i: usize) -> bool
+fn has_arguments(c: &[u16], i: usize) -> bool
     ensures { λ r. ⌜ r ≡ isCall (decoded (now (c .entry))) i ⌝ }
 {
     let k = code::stmt_kind(c, i);
@@ -138,7 +138,7 @@ fn hand_part(blocks: &mut [u16], b: u16, part: &[u8], w: usize, count: usize)
 fn hand_arguments(
     t: &[u8],
     s: table::Sections,
-    c: &code::Slots,
+    c: &[u16],
     blocks: &mut [u16],
     b: u16,
     i: usize,
@@ -154,7 +154,7 @@ fn hand_arguments(
 }
 
 // The nodes that the fields of statement i name.
-fn hand_fields(c: &code::Slots, blocks: &mut [u16], b: u16, i: usize)
+fn hand_fields(c: &[u16], blocks: &mut [u16], b: u16, i: usize)
     ensures { λ _. ⌜ now (blocks .exit) ≡ withBlock b (entryUses (decoded (now (c .entry))) 6 i) (now (blocks .entry)) ⌝ }
 {
     if names_a(c, i) {
@@ -165,7 +165,7 @@ fn hand_fields(c: &code::Slots, blocks: &mut [u16], b: u16, i: usize)
     }
 }
 
-fn hand_stmt(t: &[u8], s: table::Sections, c: &code::Slots, blocks: &mut [u16], b: u16, i: usize)
+fn hand_stmt(t: &[u8], s: table::Sections, c: &[u16], blocks: &mut [u16], b: u16, i: usize)
     requires { ⌜ Decodes (now t) s (now c) ⌝ }
     ensures { λ _. ⌜ now (blocks .exit) ≡ withBlock b (roots (decoded (now (c .entry))) i) (now (blocks .entry)) ⌝ }
 {
@@ -174,7 +174,7 @@ fn hand_stmt(t: &[u8], s: table::Sections, c: &code::Slots, blocks: &mut [u16], 
 }
 
 // A local call from block b stays in its module.
-fn stays_in(c: &code::Slots, i: usize, b: usize) -> bool
+fn stays_in(c: &[u16], i: usize, b: usize) -> bool
     ensures { λ r. ⌜ r ≡ staysIn (decoded (now (c .entry))) i b ⌝ }
 {
     if code::stmt_kind(c, i) == kinds::LOCAL_CALL {
@@ -186,7 +186,7 @@ fn stays_in(c: &code::Slots, i: usize, b: usize) -> bool
 }
 
 // The block of the statement after i, where b is that of i.
-fn block_step(c: &code::Slots, i: usize, b: usize) -> usize
+fn block_step(c: &[u16], i: usize, b: usize) -> usize
     requires { ⌜ b < 65536 ⌝ }
     ensures { λ r. ⌜ (r ≡ blockStep (decoded (now (c .entry))) i b) × (r ≤ b + 1) ⌝ }
 {
@@ -197,7 +197,7 @@ fn block_step(c: &code::Slots, i: usize, b: usize) -> usize
 }
 
 // Hands the block of each statement to the nodes that it uses. Whether local calls stay in their modules.
-fn hand_stmts(t: &[u8], s: table::Sections, c: &code::Slots, blocks: &mut [u16]) -> bool
+fn hand_stmts(t: &[u8], s: table::Sections, c: &[u16], blocks: &mut [u16]) -> bool
     requires { ⌜ Decodes (now t) s (now c) ⌝ }
     requires { ⌜ nodeCount (decoded (now c)) ≤ length (now blocks) ⌝ }
     ensures { λ r. ⌜ Stays (decoded (now (c .entry))) r (now (blocks .exit)) ⌝ }
@@ -217,7 +217,7 @@ fn hand_stmts(t: &[u8], s: table::Sections, c: &code::Slots, blocks: &mut [u16])
     true
 }
 
-fn hand_operands(c: &code::Slots, blocks: &mut [u16], b: u16, n: usize)
+fn hand_operands(c: &[u16], blocks: &mut [u16], b: u16, n: usize)
     ensures { λ _. ⌜ now (blocks .exit) ≡ withBlock b (entryUses (decoded (now (c .entry))) 5 n) (now (blocks .entry)) ⌝ }
 {
     if has_first(c, n) {
@@ -229,7 +229,7 @@ fn hand_operands(c: &code::Slots, blocks: &mut [u16], b: u16, n: usize)
 }
 
 // Node n, in the block that it was handed, which it hands on.
-fn node_scoped(c: &code::Slots, blocks: &mut [u16], n: usize) -> bool
+fn node_scoped(c: &[u16], blocks: &mut [u16], n: usize) -> bool
     requires { ⌜ n < length (now blocks) ⌝ }
     ensures fits { λ r. ⌜ r ≡ nodeVisible (decoded (now (c .entry))) n (getD (now (blocks .entry)) n 0) ⌝ }
     ensures hands { λ r. ⌜ now (blocks .exit) ≡ withBlock (getD (now (blocks .entry)) n 0) (entryUses (decoded (now (c .entry))) 5 n) (now (blocks .entry)) ⌝ }
@@ -243,7 +243,7 @@ fn node_scoped(c: &code::Slots, blocks: &mut [u16], n: usize) -> bool
 }
 
 // From the last node to the first: the user of a node is a statement or stands after it.
-fn nodes_scoped(c: &code::Slots, blocks: &mut [u16]) -> bool
+fn nodes_scoped(c: &[u16], blocks: &mut [u16]) -> bool
     requires { ⌜ inRange (decoded (now c)) ≡ true ⌝ }
     requires { ⌜ usedOnce (decoded (now c)) ≡ true ⌝ }
     requires { ⌜ Stays (decoded (now c)) true (now blocks) ⌝ }
@@ -261,7 +261,7 @@ fn nodes_scoped(c: &code::Slots, blocks: &mut [u16]) -> bool
 }
 
 // Whether a table keeps the rule of refusal 8. `blocks` is lent, with room for a block for each node.
-pub fn all_scoped(t: &[u8], s: table::Sections, c: &code::Slots, blocks: &mut [u16]) -> bool
+pub fn all_scoped(t: &[u8], s: table::Sections, c: &[u16], blocks: &mut [u16]) -> bool
     requires { ⌜ Decodes (now t) s (now c) ⌝ }
     requires { ⌜ inRange (decoded (now c)) ≡ true ⌝ }
     requires { ⌜ usedOnce (decoded (now c)) ≡ true ⌝ }

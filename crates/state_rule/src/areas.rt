@@ -26,7 +26,7 @@ fn location_at(p: usize, k: usize) -> usize
 
 // Variable v, which begins at word `at` of the area of process p, has a value of its type.
 fn variable_holds(
-    c: &code::Slots,
+    c: &[u16],
     sizes: &[u16],
     heads: &[u16],
     state: &[u8],
@@ -47,7 +47,7 @@ fn variable_holds(
 
 // The variables of block b, at the beginning of the area of process p, have values of their types.
 pub fn modules_hold(
-    c: &code::Slots,
+    c: &[u16],
     sizes: &[u16],
     heads: &[u16],
     state: &[u8],
@@ -75,7 +75,7 @@ pub fn modules_hold(
 
 // At location a, in the area of a process that p worked on, stands one of its module's variables of type y, or such a part of one.
 fn lives_in_module(
-    c: &code::Slots,
+    c: &[u16],
     sizes: &[u16],
     jumps: &[u16],
     state: &[u8],
@@ -106,7 +106,7 @@ fn lives_in_module(
 
 // Word k of the area of process p lies in the frame at f, and a part of type y begins there.
 fn owned(
-    c: &code::Slots,
+    c: &[u16],
     sizes: &[u16],
     jumps: &[u16],
     state: &[u8],
@@ -127,7 +127,7 @@ fn owned(
 
 // Word k lies in one of the d calls of process p, the innermost of which has its frame at f.
 fn owns_word(
-    c: &code::Slots,
+    c: &[u16],
     sizes: &[u16],
     jumps: &[u16],
     state: &[u8],
@@ -155,7 +155,7 @@ fn owns_word(
 
 // At location a stands a live variable of type y, or such a part of one.
 fn lives_at(
-    c: &code::Slots,
+    c: &[u16],
     sizes: &[u16],
     jumps: &[u16],
     state: &[u8],
@@ -181,7 +181,7 @@ fn lives_at(
 
 // Variable v, which begins at word `at` of the variables of the frame at f: a var parameter names a live variable of its type.
 fn frame_variable_holds(
-    c: &code::Slots,
+    c: &[u16],
     sizes: &[u16],
     heads: &[u16],
     jumps: &[u16],
@@ -216,7 +216,7 @@ fn frame_variable_holds(
 
 // The variables of a call of procedure q with its frame at f.
 pub fn frames_hold(
-    c: &code::Slots,
+    c: &[u16],
     sizes: &[u16],
     heads: &[u16],
     jumps: &[u16],

@@ -25,7 +25,7 @@ ghost use Rattle.state_rule.specs.Chains.{Sum, startedOf, frameFits, cal
 ghost use Rattle.values.specs.Walks.{SmallSizes};
 
 // Where the statements of block b end: at the first of the next block, or at the end of all.
-fn next_first(c: &code::Slots, b: usize) -> usize
+fn next_first(c: &[u16], b: usize) -> usize
     requires { ⌜ b < 65536 ⌝ }
     ensures { λ r. ⌜ r ≡ stmtLimit (decoded (now (c .entry))) b ⌝ }
 {
@@ -36,7 +36,7 @@ fn next_first(c: &code::Slots, b: usize) -> usize
 }
 
 // Statement i is one of block b's.
-fn lies_in(c: &code::Slots, b: usize, i: usize) -> bool
+fn lies_in(c: &[u16], b: usize, i: usize) -> bool
     requires { ⌜ b < 65536 ⌝ }
     ensures { λ r. ⌜ r ≡ liesIn (decoded (now (c .entry))) b i ⌝ }
 {
@@ -46,7 +46,7 @@ fn lies_in(c: &code::Slots, b: usize, i: usize) -> bool
     false
 }
 
-fn is_procedure(c: &code::Slots, b: usize) -> bool
+fn is_procedure(c: &[u16], b: usize) -> bool
     ensures { λ r. ⌜ r ≡ isProcedure (decoded (now (c .entry))) b ⌝ }
 {
     if b < code::blocks(c) {
@@ -55,7 +55,7 @@ fn is_procedure(c: &code::Slots, b: usize) -> bool
     false
 }
 
-pub fn is_module(c: &code::Slots, b: usize) -> bool
+pub fn is_module(c: &[u16], b: usize) -> bool
     ensures { λ r. ⌜ r ≡ isModule (decoded (now (c .entry))) b ⌝ }
 {
     if b < code::blocks(c) {
@@ -65,7 +65,7 @@ pub fn is_module(c: &code::Slots, b: usize) -> bool
 }
 
 // The words of a procedure's variables in its frame.
-fn frame_words(c: &code::Slots, sizes: &[u16], q: usize) -> usize
+fn frame_words(c: &[u16], sizes: &[u16], q: usize) -> usize
     requires { ⌜ SmallSizes (decoded (now c)) (now sizes) ⌝ }
     ensures { λ r. ⌜ Sum (frameWords (decoded (now (c .entry))) q) r ⌝ }
 {
@@ -81,7 +81,7 @@ fn frame_words(c: &code::Slots, sizes: &[u16], q: usize) -> usize
 }
 
 // The words of the variables of a module or of block 0.
-fn module_words(c: &code::Slots, sizes: &[u16], b: usize) -> usize
+fn module_words(c: &[u16], sizes: &[u16], b: usize) -> usize
     requires { ⌜ SmallSizes (decoded (now c)) (now sizes) ⌝ }
     ensures { λ r. ⌜ Sum (moduleWords (decoded (now (c .entry))) b) r ⌝ }
 {
@@ -115,7 +115,7 @@ fn is_of(state: &[u8], b: usize, w: usize) -> bool
 }
 
 // q is a procedure of the block of the process w, which has been started.
-fn called_ok(c: &code::Slots, state: &[u8], w: usize, q: usize) -> bool
+fn called_ok(c: &[u16], state: &[u8], w: usize, q: usize) -> bool
     requires { ⌜ State (now state) ⌝ }
     ensures { λ r. ⌜ r ≡ calledOk (decoded (now (c .entry))) (memoryOf (now (state .entry))) w q ⌝ }
 {
@@ -126,7 +126,7 @@ fn called_ok(c: &code::Slots, state: &[u8], w: usize, q: usize) -> bool
 }
 
 // The frame of procedure q at f ends at the top, within the area. The words are added up only where the frame can fit.
-fn frame_fits(c: &code::Slots, sizes: &[u16], f: usize, top: usize, q: usize) -> bool
+fn frame_fits(c: &[u16], sizes: &[u16], f: usize, top: usize, q: usize) -> bool
     requires { ⌜ SmallSizes (decoded (now c)) (now sizes) ⌝ }
     requires { ⌜ f < 65536 ⌝ }
     ensures { λ r. ⌜ r ≡ frameFits (decoded (now (c .entry))) f top q ⌝ }
@@ -142,7 +142,7 @@ fn frame_fits(c: &code::Slots, sizes: &[u16], f: usize, top: usize, q: usize) ->
 
 // A call of procedure q, with its frame at f, that stands at statement i and works on process w; its frame ends at the top.
 fn frame_ok(
-    c: &code::Slots,
+    c: &[u16],
     sizes: &[u16],
     state: &[u8],
     f: usize,
@@ -167,7 +167,7 @@ fn frame_ok(
 // The call with its frame at f, d calls below it: its frame, the holder of what it works on, the statement that called, and its variables,
 // which take longest.
 fn call_ok(
-    c: &code::Slots,
+    c: &[u16],
     sizes: &[u16],
     heads: &[u16],
     jumps: &[u16],
@@ -198,7 +198,7 @@ fn call_ok(
 
 // Below its calls process p stands at statement i of its own block, and works on itself; it holds its variables, but where it waits.
 fn base_ok(
-    c: &code::Slots,
+    c: &[u16],
     sizes: &[u16],
     state: &[u8],
     p: usize,
@@ -235,7 +235,7 @@ fn stands_alone(p: usize, f: usize, w: usize) -> bool
 
 // The calls of process p that have not ended, the innermost first. A frame has at least 4 of the 256 words: there are no more than 64.
 pub fn chain_ok(
-    c: &code::Slots,
+    c: &[u16],
     sizes: &[u16],
     heads: &[u16],
     jumps: &[u16],

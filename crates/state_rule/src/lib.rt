@@ -25,7 +25,7 @@ ghost use Rattle.state_rule.specs.Chains.{runningOk, processesHold};
 ghost use Rattle.values.specs.Walks.{SmallSizes};
 
 // Process 1 is started and runs block 0; the others are created, of a process module.
-fn module_ok(c: &code::Slots, state: &[u8], p: usize) -> bool
+fn module_ok(c: &[u16], state: &[u8], p: usize) -> bool
     requires { ⌜ State (now state) ⌝ }
     requires { ⌜ (1 ≤ p) × (p ≤ 64) ⌝ }
     ensures { λ r. ⌜ r ≡ moduleOk (decoded (now (c .entry))) (memoryOf (now (state .entry))) p ⌝ }
@@ -46,7 +46,7 @@ fn module_ok(c: &code::Slots, state: &[u8], p: usize) -> bool
 
 // A started process has calls, and stands at a statement.
 fn running_ok(
-    c: &code::Slots,
+    c: &[u16],
     sizes: &[u16],
     heads: &[u16],
     jumps: &[u16],
@@ -64,7 +64,7 @@ fn running_ok(
 }
 
 fn process_ok(
-    c: &code::Slots,
+    c: &[u16],
     sizes: &[u16],
     heads: &[u16],
     jumps: &[u16],
@@ -117,7 +117,7 @@ fn run_ok(state: &[u8]) -> bool
 
 // Each created process.
 fn processes_hold(
-    c: &code::Slots,
+    c: &[u16],
     sizes: &[u16],
     heads: &[u16],
     jumps: &[u16],
@@ -140,7 +140,7 @@ fn processes_hold(
 }
 
 // The same, where nothing is found of the types yet. The table has few: the chains are short.
-fn few_hold(c: &code::Slots, sizes: &[u16], state: &[u8], n: usize) -> bool
+fn few_hold(c: &[u16], sizes: &[u16], state: &[u8], n: usize) -> bool
     requires { ⌜ StateTest (decoded (now c)) (now sizes) (now state) ⌝ }
     requires { ⌜ (memoryOf (now state) createdAt ≤ 64) × ((3 ≤ n) × (n ≤ 16)) ⌝ }
     ensures { λ r. ⌜ r ≡ processesHold (decoded (now (c .entry))) (memoryOf (now (state .entry))) ⌝ }
@@ -152,7 +152,7 @@ fn few_hold(c: &code::Slots, sizes: &[u16], state: &[u8], n: usize) -> bool
 }
 
 // The same. It has many, and heads and jumps are found for those below n.
-fn many_hold(c: &code::Slots, sizes: &[u16], state: &[u8], n: usize) -> bool
+fn many_hold(c: &[u16], sizes: &[u16], state: &[u8], n: usize) -> bool
     requires { ⌜ StateTest (decoded (now c)) (now sizes) (now state) ⌝ }
     requires { ⌜ (memoryOf (now state) createdAt ≤ 64) × ((3 ≤ n) × (n ≤ 258)) ⌝ }
     ensures { λ r. ⌜ r ≡ processesHold (decoded (now (c .entry))) (memoryOf (now (state .entry))) ⌝ }
@@ -192,7 +192,7 @@ fn worth_finding(state: &[u8], n: usize) -> usize
 }
 
 // The same, by either way.
-fn all_hold(c: &code::Slots, sizes: &[u16], state: &[u8]) -> bool
+fn all_hold(c: &[u16], sizes: &[u16], state: &[u8]) -> bool
     requires { ⌜ StateTest (decoded (now c)) (now sizes) (now state) ⌝ }
     requires { ⌜ memoryOf (now state) createdAt ≤ 64 ⌝ }
     ensures { λ r. ⌜ r ≡ processesHold (decoded (now (c .entry))) (memoryOf (now (state .entry))) ⌝ }
@@ -205,7 +205,7 @@ fn all_hold(c: &code::Slots, sizes: &[u16], state: &[u8]) -> bool
 }
 
 // THE STATE RULE: the lent state is one that a run of the table can be in, as far as its words show.
-pub fn rule_holds(c: &code::Slots, sizes: &[u16], state: &[u8]) -> bool
+pub fn rule_holds(c: &[u16], sizes: &[u16], state: &[u8]) -> bool
     requires { ⌜ SmallSizes (decoded (now c)) (now sizes) ⌝ }
     requires { ⌜ State (now state) ⌝ }
     ensures { λ r. ⌜ r ≡ rule (decoded (now (c .entry))) (memoryOf (now (state .entry))) ⌝ }

@@ -32,7 +32,7 @@ pub fn has_worked(state: &[u8], p: usize, d: usize, f: usize, w: usize, r: usize
 }
 
 // Statement i is a when (kind 8) or a cycle (kind 9).
-fn may_wait(c: &code::Slots, i: usize) -> bool
+fn may_wait(c: &[u16], i: usize) -> bool
     ensures { λ r. ⌜ r ≡ mayWait (stmtAt (decoded (now (c .entry))) i) ⌝ }
 {
     if i < code::statements(c) {
@@ -46,7 +46,7 @@ fn may_wait(c: &code::Slots, i: usize) -> bool
 }
 
 // Process p holds the variables of process w, or stands at a when or cycle where it works on w.
-pub fn holds_on(c: &code::Slots, state: &[u8], p: usize, w: usize) -> bool
+pub fn holds_on(c: &[u16], state: &[u8], p: usize, w: usize) -> bool
     requires { ⌜ State (now state) ⌝ }
     requires { ⌜ (1 ≤ p) × ((p ≤ 64) × ((1 ≤ w) × (w < 65536))) ⌝ }
     ensures { λ r. ⌜ r ≡ holdsOn (decoded (now (c .entry))) (memoryOf (now (state .entry))) p w ⌝ }
@@ -63,7 +63,7 @@ pub fn holds_on(c: &code::Slots, state: &[u8], p: usize, w: usize) -> bool
 // Statement i calls procedure q, with its frame at f and d calls below it, and makes process p work on w: a local call (kind 2) on what it
 // worked on before, one of another process (kind 3) on none of those outside.
 pub fn call_made(
-    c: &code::Slots,
+    c: &[u16],
     state: &[u8],
     p: usize,
     d: usize,

@@ -11,7 +11,7 @@ ghost use Rattle.evaluation.specs.Acting.{Acting};
 
 // Calls, create and start: kinds 2 to 5.
 fn perform_call(
-    c: &code::Slots,
+    c: &[u16],
     k: &[u16],
     stack: &mut Stack,
     state: &mut [u8],
@@ -37,7 +37,7 @@ fn perform_call(
 
 // The statement where its process stands: the answer, the state and the page are those of `statementStep`.
 pub fn perform(
-    c: &code::Slots,
+    c: &[u16],
     k: &[u16],
     stack: &mut Stack,
     state: &mut [u8],

@@ -81,7 +81,7 @@ fn stand_first(state: &mut [u8], statement: u16, top: u16)
 }
 
 // The words of the program's variables.
-fn program_words(c: &code::Slots, sizes: &[u16]) -> usize
+fn program_words(c: &[u16], sizes: &[u16]) -> usize
     requires { ⌜ Sizes (decoded (now c)) (now sizes) ⌝ }
     requires { ⌜ Accepted (decoded (now c)) ⌝ }
     ensures { λ r. ⌜ (r ≡ moduleWords (decoded (now (c .entry))) 0) × (r < 65536) ⌝ }
@@ -90,7 +90,7 @@ fn program_words(c: &code::Slots, sizes: &[u16]) -> usize
 }
 
 // Makes the lent bytes the state in which a run with this number begins, whatever stood there.
-pub fn begin_state(c: &code::Slots, sizes: &[u16], state: &mut [u8], number: u16)
+pub fn begin_state(c: &[u16], sizes: &[u16], state: &mut [u8], number: u16)
     requires { ⌜ Sizes (decoded (now c)) (now sizes) ⌝ }
     requires { ⌜ Accepted (decoded (now c)) ⌝ }
     requires { ⌜ State (now state) ⌝ }
@@ -124,7 +124,7 @@ fn is_shown(state: &[u8], p: usize) -> bool
 }
 
 // v is a variable of block b; how many variables there are is a word.
-fn belongs_to(c: &code::Slots, b: usize, v: usize) -> bool
+fn belongs_to(c: &[u16], b: usize, v: usize) -> bool
     ensures { λ r. ⌜ (r ≡ belongs (decoded (now (c .entry))) b v) × (r ≡ true → v < 65536) ⌝ }
 {
     if v < code::variables(c) {
@@ -138,7 +138,7 @@ fn belongs_to(c: &code::Slots, b: usize, v: usize) -> bool
 }
 
 // Process p, variable v and place k name a word of a process's module variables.
-fn is_visible(c: &code::Slots, sizes: &[u16], state: &[u8], p: usize, v: usize, k: usize) -> bool
+fn is_visible(c: &[u16], sizes: &[u16], state: &[u8], p: usize, v: usize, k: usize) -> bool
     requires { ⌜ Sizes (decoded (now c)) (now sizes) ⌝ }
     requires { ⌜ Accepted (decoded (now c)) ⌝ }
     requires { ⌜ State (now state) ⌝ }
@@ -156,7 +156,7 @@ fn is_visible(c: &code::Slots, sizes: &[u16], state: &[u8], p: usize, v: usize, 
 }
 
 // Where the variable v of the module or program b begins.
-fn variable_offset(c: &code::Slots, sizes: &[u16], b: usize, v: usize) -> usize
+fn variable_offset(c: &[u16], sizes: &[u16], b: usize, v: usize) -> usize
     requires { ⌜ Sizes (decoded (now c)) (now sizes) ⌝ }
     requires { ⌜ Accepted (decoded (now c)) ⌝ }
     requires { ⌜ (b < blockCount (decoded (now c))) × (blockKind (decoded (now c)) b ≤ 1) ⌝ }
@@ -169,7 +169,7 @@ fn variable_offset(c: &code::Slots, sizes: &[u16], b: usize, v: usize) -> usize
 }
 
 // Where the word stands that process p, variable v and place k name.
-fn visible_at(c: &code::Slots, sizes: &[u16], state: &[u8], p: usize, v: usize, k: usize) -> usize
+fn visible_at(c: &[u16], sizes: &[u16], state: &[u8], p: usize, v: usize, k: usize) -> usize
     requires { ⌜ Sizes (decoded (now c)) (now sizes) ⌝ }
     requires { ⌜ Accepted (decoded (now c)) ⌝ }
     requires { ⌜ State (now state) ⌝ }
@@ -197,7 +197,7 @@ fn word_there(state: &[u8], a: usize) -> u32
 
 // 65,536 and the word that process, variable and place name; 32 where it is unmarked, 11 where they name none.
 pub fn look_word(
-    c: &code::Slots,
+    c: &[u16],
     sizes: &[u16],
     state: &[u8],
     process: u32,
@@ -221,7 +221,7 @@ pub fn look_word(
 
 // The same of any state, where it is known whether it meets its rule: 10 where it does not.
 pub fn look_judged(
-    c: &code::Slots,
+    c: &[u16],
     sizes: &[u16],
     state: &[u8],
     ruled: bool,

@@ -34,7 +34,7 @@ fn copy(state: &mut [u8], x: Context, from: usize, to: usize, n: usize)
 
 // A value of one word, to location i.
 fn assign_word(
-    c: &code::Slots,
+    c: &[u16],
     k: &[u16],
     stack: &mut Stack,
     state: &mut [u8],
@@ -59,7 +59,7 @@ fn assign_word(
 
 // The value of a variable (8.7), all of whose words must be marked (02, g).
 fn assign_words(
-    c: &code::Slots,
+    c: &[u16],
     k: &[u16],
     stack: &mut Stack,
     state: &mut [u8],
@@ -85,7 +85,7 @@ fn assign_words(
 }
 
 // A string constant (02, b). The page is left what it is.
-fn assign_text(c: &code::Slots, state: &mut [u8], page: &[u8], x: Context, i: usize) -> u8
+fn assign_text(c: &[u16], state: &mut [u8], page: &[u8], x: Context, i: usize) -> u8
     requires { ⌜ Assigning (now c) (now state) (now page) x i ⌝ }
     requires { ⌜ nodeKind (decoded (now c)) (stmtB (decoded (now c)) (x .statement)) ≡ 8 ⌝ }
     ensures { λ r. ⌜ StatementLeaves (now (c .entry)) (now (state .entry)) (now (page .entry)) x r (now (state .exit)) (now (page .entry)) ⌝ }
@@ -100,7 +100,7 @@ fn assign_text(c: &code::Slots, state: &mut [u8], page: &[u8], x: Context, i: us
 
 // The value, to location i: one of several words is a string constant or that of a variable.
 fn assign_at(
-    c: &code::Slots,
+    c: &[u16],
     k: &[u16],
     stack: &mut Stack,
     state: &mut [u8],
@@ -124,7 +124,7 @@ fn assign_at(
 
 // 11.2.
 pub fn assign(
-    c: &code::Slots,
+    c: &[u16],
     k: &[u16],
     stack: &mut Stack,
     state: &mut [u8],

@@ -40,7 +40,7 @@ fn create_next(state: &mut [u8], page: &[u8], x: Context, i: usize, block: usize
 
 // 11.4.
 pub fn create(
-    c: &code::Slots,
+    c: &[u16],
     k: &[u16],
     stack: &mut Stack,
     state: &mut [u8],

@@ -37,7 +37,7 @@ fn write_word(state: &mut [u8], page: &mut [u8], x: Context, address: u16, v: u1
 
 // The value, then the store, where the address is known.
 fn write_value(
-    c: &code::Slots,
+    c: &[u16],
     k: &[u16],
     stack: &mut Stack,
     state: &mut [u8],
@@ -59,7 +59,7 @@ fn write_value(
 
 // 12.3.
 pub fn write(
-    c: &code::Slots,
+    c: &[u16],
     k: &[u16],
     stack: &mut Stack,
     state: &mut [u8],

@@ -40,7 +40,7 @@ fn refer_at(state: &[u8], a: usize) -> Reference
 
 // The process that the variable of node n refers to.
 pub fn reference(
-    c: &code::Slots,
+    c: &[u16],
     k: &[u16],
     stack: &mut Stack,
     state: &[u8],

@@ -25,7 +25,7 @@ fn narrow(x: usize) -> u16
 }
 
 // The type of field i of the type x.
-fn field_of(c: &code::Slots, x: usize, i: usize) -> usize
+fn field_of(c: &[u16], x: usize, i: usize) -> usize
     ensures { λ r. ⌜ Field (fieldOf (decoded (now (c .entry))) x i) r ⌝ }
 {
     if code::type_kind(c, x) == kinds::RECORD {
@@ -38,7 +38,7 @@ fn field_of(c: &code::Slots, x: usize, i: usize) -> usize
 }
 
 // The type of the elements of the type x.
-fn element_of(c: &code::Slots, x: usize) -> usize
+fn element_of(c: &[u16], x: usize) -> usize
     ensures { λ r. ⌜ Field (elementOf (decoded (now (c .entry))) x) r ⌝ }
 {
     if code::type_kind(c, x) == kinds::ARRAY {
@@ -71,7 +71,7 @@ fn binary_type(o: usize, x: usize) -> usize
 }
 
 // The type of a node of kinds 2 to 6 whose first operand has type x.
-fn operand_type(c: &code::Slots, n: usize, x: usize) -> usize
+fn operand_type(c: &[u16], n: usize, x: usize) -> usize
     requires { ⌜ x < 65536 ⌝ }
     ensures { λ r. ⌜ Field (operandType (decoded (now (c .entry))) n x) r ⌝ }
 {
@@ -95,7 +95,7 @@ fn operand_type(c: &code::Slots, n: usize, x: usize) -> usize
 }
 
 // The type of node p where it stands before node n.
-fn before(c: &code::Slots, types: &[u16], n: usize, p: usize) -> usize
+fn before(c: &[u16], types: &[u16], n: usize, p: usize) -> usize
     requires { ⌜ Holds (typeOf (decoded (now c))) n (now types) ⌝ }
     ensures { λ r. ⌜ Field (upto noType (nodeType (decoded (now (c .entry)))) n p) r ⌝ }
 {
@@ -106,7 +106,7 @@ fn before(c: &code::Slots, types: &[u16], n: usize, p: usize) -> usize
 }
 
 // The type of node n, below the count, where those of the nodes before it are known.
-fn node_type(c: &code::Slots, types: &[u16], n: usize) -> usize
+fn node_type(c: &[u16], types: &[u16], n: usize) -> usize
     requires { ⌜ Holds (typeOf (decoded (now c))) n (now types) ⌝ }
     ensures { λ r. ⌜ Field (typeOf (decoded (now (c .entry))) n) r ⌝ }
 {
@@ -128,7 +128,7 @@ fn node_type(c: &code::Slots, types: &[u16], n: usize) -> usize
 }
 
 // Finds the types of all nodes.
-pub fn find_types(c: &code::Slots, types: &mut [u16])
+pub fn find_types(c: &[u16], types: &mut [u16])
     requires { ⌜ Room (decoded (now c)) (now types) ⌝ }
     ensures { λ _. ⌜ Types (decoded (now (c .entry))) (now (types .exit)) ⌝ }
 {
@@ -141,7 +141,7 @@ pub fn find_types(c: &code::Slots, types: &mut [u16])
 }
 
 // The type of node n.
-pub fn type_of(c: &code::Slots, types: &[u16], n: usize) -> usize
+pub fn type_of(c: &[u16], types: &[u16], n: usize) -> usize
     requires { ⌜ Types (decoded (now c)) (now types) ⌝ }
     ensures { λ r. ⌜ Field (typeOf (decoded (now (c .entry))) n) r ⌝ }
 {
@@ -173,13 +173,13 @@ fn span_of(low: usize, high: usize) -> usize
 }
 
 // How many elements an array type has.
-pub fn elements_of(c: &code::Slots, x: usize) -> usize
+pub fn elements_of(c: &[u16], x: usize) -> usize
     ensures { λ r. ⌜ (r ≡ elements (decoded (now (c .entry))) x) × (r ≤ 65536) ⌝ }
 {
     span_of(code::type_low(c, x), code::type_high(c, x))
 }
 
-pub fn is_string(c: &code::Slots, x: usize) -> bool
+pub fn is_string(c: &[u16], x: usize) -> bool
     ensures { λ r. ⌜ r ≡ isString (decoded (now (c .entry))) x ⌝ }
 {
     if code::type_kind(c, x) == kinds::ARRAY {
@@ -197,7 +197,7 @@ pub fn evened_of(n: usize) -> usize
 }
 
 // The type of node n is a string type.
-fn is_text(c: &code::Slots, types: &[u16], n: usize) -> bool
+fn is_text(c: &[u16], types: &[u16], n: usize) -> bool
     requires { ⌜ Types (decoded (now c)) (now types) ⌝ }
     ensures { λ r. ⌜ r ≡ isText (decoded (now (c .entry))) (typeOfNode (decoded (now (c .entry))) n) ⌝ }
 {
@@ -208,7 +208,7 @@ fn is_text(c: &code::Slots, types: &[u16], n: usize) -> bool
 }
 
 // Its characters.
-fn characters_of(c: &code::Slots, types: &[u16], n: usize) -> usize
+fn characters_of(c: &[u16], types: &[u16], n: usize) -> usize
     requires { ⌜ Types (decoded (now c)) (now types) ⌝ }
     ensures { λ r. ⌜ r ≡ characters (decoded (now (c .entry))) (typeOfNode (decoded (now (c .entry))) n) ⌝ }
 {
@@ -219,7 +219,7 @@ fn characters_of(c: &code::Slots, types: &[u16], n: usize) -> usize
 }
 
 // The type of node n is the one of number y.
-fn is_numbered(c: &code::Slots, types: &[u16], n: usize, y: usize) -> bool
+fn is_numbered(c: &[u16], types: &[u16], n: usize, y: usize) -> bool
     requires { ⌜ Types (decoded (now c)) (now types) ⌝ }
     ensures { λ r. ⌜ r ≡ sameNumber (typeOfNode (decoded (now (c .entry))) n) (numbered y) ⌝ }
 {
@@ -230,7 +230,7 @@ fn is_numbered(c: &code::Slots, types: &[u16], n: usize, y: usize) -> bool
 }
 
 // The types of nodes p and q are one of one number.
-fn same_number(c: &code::Slots, types: &[u16], p: usize, q: usize) -> bool
+fn same_number(c: &[u16], types: &[u16], p: usize, q: usize) -> bool
     requires { ⌜ Types (decoded (now c)) (now types) ⌝ }
     ensures { λ r. ⌜ r ≡ sameNumber (typeOfNode (decoded (now (c .entry))) p) (typeOfNode (decoded (now (c .entry))) q) ⌝ }
 {
@@ -241,7 +241,7 @@ fn same_number(c: &code::Slots, types: &[u16], p: usize, q: usize) -> bool
 }
 
 // The types of nodes p and q are equal.
-pub fn are_equal(c: &code::Slots, types: &[u16], p: usize, q: usize) -> bool
+pub fn are_equal(c: &[u16], types: &[u16], p: usize, q: usize) -> bool
     requires { ⌜ Types (decoded (now c)) (now types) ⌝ }
     ensures { λ r. ⌜ r ≡ isEqual (matching (decoded (now (c .entry))) (typeOfNode (decoded (now (c .entry))) p) (typeOfNode (decoded (now (c .entry))) q)) ⌝ }
 {
@@ -258,7 +258,7 @@ pub fn are_equal(c: &code::Slots, types: &[u16], p: usize, q: usize) -> bool
 }
 
 // The type of node n is equal to, or fitted to, the one of number y.
-pub fn is_fit(c: &code::Slots, types: &[u16], n: usize, y: usize) -> bool
+pub fn is_fit(c: &[u16], types: &[u16], n: usize, y: usize) -> bool
     requires { ⌜ Types (decoded (now c)) (now types) ⌝ }
     ensures { λ r. ⌜ r ≡ isFit (matching (decoded (now (c .entry))) (typeOfNode (decoded (now (c .entry))) n) (numbered y)) ⌝ }
 {

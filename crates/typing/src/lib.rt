@@ -26,7 +26,7 @@ fn constant_typed(x: usize, v: usize) -> bool
     true
 }
 
-fn element_typed(c: &code::Slots, x: usize, y: usize) -> bool
+fn element_typed(c: &[u16], x: usize, y: usize) -> bool
     ensures { λ r. ⌜ r ≡ elementTyped (decoded (now (c .entry))) x y ⌝ }
 {
     if code::type_kind(c, x) == kinds::ARRAY {
@@ -57,7 +57,7 @@ fn alike_typed(o: usize, x: usize) -> bool
 }
 
 // The operator o takes the types of nodes p and q.
-fn binary_typed(c: &code::Slots, types: &[u16], o: usize, p: usize, q: usize) -> bool
+fn binary_typed(c: &[u16], types: &[u16], o: usize, p: usize, q: usize) -> bool
     requires { ⌜ Types (decoded (now c)) (now types) ⌝ }
     ensures { λ r. ⌜ r ≡ binaryTyped (decoded (now (c .entry))) o p q ⌝ }
 {
@@ -72,21 +72,21 @@ fn binary_typed(c: &code::Slots, types: &[u16], o: usize, p: usize, q: usize) ->
 }
 
 // The types of the operands of node n.
-fn type_p(c: &code::Slots, types: &[u16], n: usize) -> usize
+fn type_p(c: &[u16], types: &[u16], n: usize) -> usize
     requires { ⌜ Types (decoded (now c)) (now types) ⌝ }
     ensures { λ r. ⌜ Field (typeOf (decoded (now (c .entry))) (nodeP (decoded (now (c .entry))) n)) r ⌝ }
 {
     types::type_of(c, types, code::node_p(c, n))
 }
 
-fn type_q(c: &code::Slots, types: &[u16], n: usize) -> usize
+fn type_q(c: &[u16], types: &[u16], n: usize) -> usize
     requires { ⌜ Types (decoded (now c)) (now types) ⌝ }
     ensures { λ r. ⌜ Field (typeOf (decoded (now (c .entry))) (nodeQ (decoded (now (c .entry))) n)) r ⌝ }
 {
     types::type_of(c, types, code::node_q(c, n))
 }
 
-fn node_typed(c: &code::Slots, types: &[u16], n: usize) -> bool
+fn node_typed(c: &[u16], types: &[u16], n: usize) -> bool
     requires { ⌜ Types (decoded (now c)) (now types) ⌝ }
     ensures { λ r. ⌜ r ≡ nodeTyped (decoded (now (c .entry))) n ⌝ }
 {
@@ -113,7 +113,7 @@ fn node_typed(c: &code::Slots, types: &[u16], n: usize) -> bool
     true
 }
 
-fn argument_typed(c: &code::Slots, types: &[u16], x: usize, n: usize) -> bool
+fn argument_typed(c: &[u16], types: &[u16], x: usize, n: usize) -> bool
     requires { ⌜ Types (decoded (now c)) (now types) ⌝ }
     ensures { λ r. ⌜ r ≡ argumentTyped (decoded (now (c .entry))) x n ⌝ }
 {
@@ -131,7 +131,7 @@ fn argument_typed(c: &code::Slots, types: &[u16], x: usize, n: usize) -> bool
 }
 
 // Each of the arguments that a part holds, in numbers of w bytes, is one for its parameter, of those from x on.
-fn part_typed(c: &code::Slots, types: &[u16], part: &[u8], w: usize, x: usize, count: usize) -> bool
+fn part_typed(c: &[u16], types: &[u16], part: &[u8], w: usize, x: usize, count: usize) -> bool
     requires { ⌜ Types (decoded (now c)) (now types) ⌝ }
     requires { ⌜ (1 ≤ w) × (w ≤ 2) × (x < 65536) × (count < 65536) ⌝ }
     ensures { λ r. ⌜ r ≡ allBelow count (parameterIn (decoded (now (c .entry))) w (now (part .entry)) x) ⌝ }
@@ -151,7 +151,7 @@ fn part_typed(c: &code::Slots, types: &[u16], part: &[u8], w: usize, x: usize, c
 fn arguments_typed(
     t: &[u8],
     s: table::Sections,
-    c: &code::Slots,
+    c: &[u16],
     types: &[u16],
     b: usize,
     first: usize,
@@ -171,7 +171,7 @@ fn arguments_typed(
 fn process_call_typed(
     t: &[u8],
     s: table::Sections,
-    c: &code::Slots,
+    c: &[u16],
     types: &[u16],
     x: usize,
     b: usize,
@@ -194,7 +194,7 @@ fn process_call_typed(
 fn start_typed(
     t: &[u8],
     s: table::Sections,
-    c: &code::Slots,
+    c: &[u16],
     types: &[u16],
     x: usize,
     first: usize,
@@ -211,21 +211,21 @@ fn start_typed(
 }
 
 // The types of the nodes of statement i.
-fn type_a(c: &code::Slots, types: &[u16], i: usize) -> usize
+fn type_a(c: &[u16], types: &[u16], i: usize) -> usize
     requires { ⌜ Types (decoded (now c)) (now types) ⌝ }
     ensures { λ r. ⌜ Field (typeOf (decoded (now (c .entry))) (stmtA (decoded (now (c .entry))) i)) r ⌝ }
 {
     types::type_of(c, types, code::stmt_a(c, i))
 }
 
-fn type_b(c: &code::Slots, types: &[u16], i: usize) -> usize
+fn type_b(c: &[u16], types: &[u16], i: usize) -> usize
     requires { ⌜ Types (decoded (now c)) (now types) ⌝ }
     ensures { λ r. ⌜ Field (typeOf (decoded (now (c .entry))) (stmtB (decoded (now (c .entry))) i)) r ⌝ }
 {
     types::type_of(c, types, code::stmt_b(c, i))
 }
 
-fn call_typed(t: &[u8], s: table::Sections, c: &code::Slots, types: &[u16], i: usize) -> bool
+fn call_typed(t: &[u8], s: table::Sections, c: &[u16], types: &[u16], i: usize) -> bool
     requires { ⌜ Decodes (now t) s (now c) ⌝ }
     requires { ⌜ Types (decoded (now c)) (now types) ⌝ }
     ensures { λ r. ⌜ r ≡ callTyped (decoded (now (c .entry))) i ⌝ }
@@ -258,7 +258,7 @@ fn write_typed(x: usize, y: usize) -> bool
     false
 }
 
-fn stmt_typed(t: &[u8], s: table::Sections, c: &code::Slots, types: &[u16], i: usize) -> bool
+fn stmt_typed(t: &[u8], s: table::Sections, c: &[u16], types: &[u16], i: usize) -> bool
     requires { ⌜ Decodes (now t) s (now c) ⌝ }
     requires { ⌜ Types (decoded (now c)) (now types) ⌝ }
     ensures { λ r. ⌜ r ≡ stmtTyped (decoded (now (c .entry))) i ⌝ }
@@ -276,7 +276,7 @@ fn stmt_typed(t: &[u8], s: table::Sections, c: &code::Slots, types: &[u16], i: u
     call_typed(t, s, c, types, i)
 }
 
-fn is_simple(c: &code::Slots, x: usize) -> bool
+fn is_simple(c: &[u16], x: usize) -> bool
     ensures { λ r. ⌜ r ≡ simple (decoded (now (c .entry))) x ⌝ }
 {
     if x <= kinds::CHARACTER {
@@ -285,7 +285,7 @@ fn is_simple(c: &code::Slots, x: usize) -> bool
     code::type_kind(c, x) == kinds::PROCESS
 }
 
-fn param_simple(c: &code::Slots, x: usize, k: usize) -> bool
+fn param_simple(c: &[u16], x: usize, k: usize) -> bool
     requires { ⌜ (x < 65536) × (k < 65536) ⌝ }
     ensures { λ r. ⌜ r ≡ paramSimple (decoded (now (c .entry))) x k ⌝ }
 {
@@ -295,7 +295,7 @@ fn param_simple(c: &code::Slots, x: usize, k: usize) -> bool
     false
 }
 
-fn each_simple(c: &code::Slots, x: usize, count: usize) -> bool
+fn each_simple(c: &[u16], x: usize, count: usize) -> bool
     requires { ⌜ (x < 65536) × (count < 65536) ⌝ }
     ensures { λ r. ⌜ r ≡ allBelow count (paramSimple (decoded (now (c .entry))) x) ⌝ }
 {
@@ -310,7 +310,7 @@ fn each_simple(c: &code::Slots, x: usize, count: usize) -> bool
     true
 }
 
-fn params_simple(c: &code::Slots, b: usize) -> bool
+fn params_simple(c: &[u16], b: usize) -> bool
     ensures { λ r. ⌜ r ≡ paramsSimple (decoded (now (c .entry))) b ⌝ }
 {
     if code::block_kind(c, b) == kinds::MODULE {
@@ -319,7 +319,7 @@ fn params_simple(c: &code::Slots, b: usize) -> bool
     true
 }
 
-fn nodes_typed(c: &code::Slots, types: &[u16]) -> bool
+fn nodes_typed(c: &[u16], types: &[u16]) -> bool
     requires { ⌜ Types (decoded (now c)) (now types) ⌝ }
     ensures { λ r. ⌜ r ≡ allBelow (nodeCount (decoded (now (c .entry)))) (nodeTyped (decoded (now (c .entry)))) ⌝ }
 {
@@ -335,7 +335,7 @@ fn nodes_typed(c: &code::Slots, types: &[u16]) -> bool
     true
 }
 
-fn statements_typed(t: &[u8], s: table::Sections, c: &code::Slots, types: &[u16]) -> bool
+fn statements_typed(t: &[u8], s: table::Sections, c: &[u16], types: &[u16]) -> bool
     requires { ⌜ Decodes (now t) s (now c) ⌝ }
     requires { ⌜ Types (decoded (now c)) (now types) ⌝ }
     ensures { λ r. ⌜ r ≡ allBelow (stmtCount (decoded (now (c .entry)))) (stmtTyped (decoded (now (c .entry)))) ⌝ }
@@ -352,7 +352,7 @@ fn statements_typed(t: &[u8], s: table::Sections, c: &code::Slots, types: &[u16]
     true
 }
 
-fn blocks_simple(c: &code::Slots) -> bool
+fn blocks_simple(c: &[u16]) -> bool
     ensures { λ r. ⌜ r ≡ allBelow (blockCount (decoded (now (c .entry)))) (paramsSimple (decoded (now (c .entry)))) ⌝ }
 {
     let count = code::blocks(c);
@@ -368,7 +368,7 @@ fn blocks_simple(c: &code::Slots) -> bool
 }
 
 // Characters are 0..127, as constants of that type are.
-fn characters_typed(c: &code::Slots) -> bool
+fn characters_typed(c: &[u16]) -> bool
     ensures { λ r. ⌜ r ≡ allBelow (charCount (decoded (now (c .entry)))) (characterTyped (decoded (now (c .entry)))) ⌝ }
 {
     let count = code::characters(c);
@@ -384,7 +384,7 @@ fn characters_typed(c: &code::Slots) -> bool
 }
 
 // Whether a table keeps the rule of refusal 9; `types` are those of its nodes.
-pub fn all_typed(t: &[u8], s: table::Sections, c: &code::Slots, types: &[u16]) -> bool
+pub fn all_typed(t: &[u8], s: table::Sections, c: &[u16], types: &[u16]) -> bool
     requires { ⌜ Decodes (now t) s (now c) ⌝ }
     requires { ⌜ Types (decoded (now c)) (now types) ⌝ }
     ensures { λ r. ⌜ r ≡ typed (decoded (now (c .entry))) ⌝ }

@@ -43,7 +43,7 @@ fn begins_whole(x: usize, y: usize, k: usize) -> bool
 }
 
 // The words of type f as a part of type x: none where its number is not lower.
-fn part_words(c: &code::Slots, sizes: &[u16], x: usize, f: usize) -> usize
+fn part_words(c: &[u16], sizes: &[u16], x: usize, f: usize) -> usize
     requires { ⌜ SmallSizes (decoded (now c)) (now sizes) ⌝ }
     ensures { λ r. ⌜ WordCount (partWords (decoded (now (c .entry))) x f) r ⌝ }
 {
@@ -54,7 +54,7 @@ fn part_words(c: &code::Slots, sizes: &[u16], x: usize, f: usize) -> usize
 }
 
 // The last type not below y, down the chain of only parts of x, where word k is one of a variable of type x.
-fn chain_end(c: &code::Slots, sizes: &[u16], jumps: &[u16], x: usize, y: usize, k: usize) -> usize
+fn chain_end(c: &[u16], sizes: &[u16], jumps: &[u16], x: usize, y: usize, k: usize) -> usize
     requires { ⌜ PartSearch (decoded (now c)) (now sizes) (now jumps) ⌝ }
     ensures { λ r. ⌜ LeadsAtWord (decoded (now (c .entry))) y x k r ⌝ }
 {
@@ -65,7 +65,7 @@ fn chain_end(c: &code::Slots, sizes: &[u16], jumps: &[u16], x: usize, y: usize, 
 }
 
 // A part of type y begins at word k of a variable of type x.
-fn part_begins(c: &code::Slots, sizes: &[u16], jumps: &[u16], x: usize, y: usize, k: usize) -> bool
+fn part_begins(c: &[u16], sizes: &[u16], jumps: &[u16], x: usize, y: usize, k: usize) -> bool
     requires { ⌜ PartSearch (decoded (now c)) (now sizes) (now jumps) ⌝ }
     ensures { λ r. ⌜ r ≡ part (decoded (now (c .entry))) y x k ⌝ }
 {
@@ -84,7 +84,7 @@ fn part_begins(c: &code::Slots, sizes: &[u16], jumps: &[u16], x: usize, y: usize
 }
 
 fn part_of_fields(
-    c: &code::Slots,
+    c: &[u16],
     sizes: &[u16],
     jumps: &[u16],
     x: usize,
@@ -111,7 +111,7 @@ fn part_of_fields(
 
 // The part begins in the field of type f that begins at word `at`.
 fn part_of_field(
-    c: &code::Slots,
+    c: &[u16],
     sizes: &[u16],
     jumps: &[u16],
     x: usize,
@@ -137,7 +137,7 @@ fn part_of_field(
 }
 
 fn part_of_element(
-    c: &code::Slots,
+    c: &[u16],
     sizes: &[u16],
     jumps: &[u16],
     x: usize,
@@ -159,7 +159,7 @@ fn part_of_element(
 }
 
 // The words of variable v in its area or frame.
-pub fn var_words(c: &code::Slots, sizes: &[u16], v: usize) -> usize
+pub fn var_words(c: &[u16], sizes: &[u16], v: usize) -> usize
     requires { ⌜ SmallSizes (decoded (now c)) (now sizes) ⌝ }
     ensures { λ r. ⌜ WordCount (varWords (decoded (now (c .entry))) v) r ⌝ }
 {
@@ -171,7 +171,7 @@ pub fn var_words(c: &code::Slots, sizes: &[u16], v: usize) -> usize
 
 // A part of type y begins at word k, in the variable v that begins at word `at`, no var parameter.
 fn part_of_variable(
-    c: &code::Slots,
+    c: &[u16],
     sizes: &[u16],
     jumps: &[u16],
     y: usize,
@@ -197,7 +197,7 @@ fn part_of_variable(
 
 // A part of type y begins at word k of the variables of block b.
 pub fn part_of_block(
-    c: &code::Slots,
+    c: &[u16],
     sizes: &[u16],
     jumps: &[u16],
     b: usize,

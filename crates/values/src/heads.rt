@@ -12,7 +12,7 @@ ghost use Rattle.table.specs.Entries.{typeKind};
 ghost use Rattle.values.specs.Heads.{hasParts, Head, Heads, HeadsTo, PartSaid, FieldsSaid};
 
 // A record or an array.
-fn has_parts(c: &code::Slots, x: usize) -> bool
+fn has_parts(c: &[u16], x: usize) -> bool
     ensures { λ r. ⌜ r ≡ hasParts (decoded (now (c .entry))) x ⌝ }
 {
     let kind = code::type_kind(c, x);
@@ -23,7 +23,7 @@ fn has_parts(c: &code::Slots, x: usize) -> bool
 }
 
 // The head of type x. Those of the types below `heads.len()` are known; any other type may stand for itself.
-pub fn head_of(c: &code::Slots, heads: &[u16], x: usize) -> usize
+pub fn head_of(c: &[u16], heads: &[u16], x: usize) -> usize
     requires { ⌜ Heads (decoded (now c)) (now heads) ⌝ }
     ensures { λ r. ⌜ Head (decoded (now (c .entry))) x r ⌝ }
 {
@@ -34,7 +34,7 @@ pub fn head_of(c: &code::Slots, heads: &[u16], x: usize) -> usize
 }
 
 // A part of type f, of a value of type x, has a lower type with the head h.
-fn part_shares(c: &code::Slots, heads: &[u16], x: usize, h: usize, f: usize) -> bool
+fn part_shares(c: &[u16], heads: &[u16], x: usize, h: usize, f: usize) -> bool
     requires { ⌜ Heads (decoded (now c)) (now heads) ⌝ }
     ensures { λ r. ⌜ PartSaid (decoded (now (c .entry))) x h f r ⌝ }
 {
@@ -44,7 +44,7 @@ fn part_shares(c: &code::Slots, heads: &[u16], x: usize, h: usize, f: usize) -> 
     false
 }
 
-fn fields_share(c: &code::Slots, heads: &[u16], x: usize, h: usize) -> bool
+fn fields_share(c: &[u16], heads: &[u16], x: usize, h: usize) -> bool
     requires { ⌜ Heads (decoded (now c)) (now heads) ⌝ }
     ensures { λ r. ⌜ FieldsSaid (decoded (now (c .entry))) x h r ⌝ }
 {
@@ -63,7 +63,7 @@ fn fields_share(c: &code::Slots, heads: &[u16], x: usize, h: usize) -> bool
 }
 
 // A record of one field has the head of its field; one whose fields have one simple head has that; any other has itself.
-fn record_head(c: &code::Slots, heads: &[u16], x: usize) -> usize
+fn record_head(c: &[u16], heads: &[u16], x: usize) -> usize
     requires { ⌜ Heads (decoded (now c)) (now heads) ⌝ }
     requires { ⌜ typeKind (decoded (now c)) x ≡ 1 ⌝ }
     ensures { λ r. ⌜ Head (decoded (now (c .entry))) x r ⌝ }
@@ -86,7 +86,7 @@ fn record_head(c: &code::Slots, heads: &[u16], x: usize) -> usize
 }
 
 // So for an array.
-fn array_head(c: &code::Slots, heads: &[u16], x: usize) -> usize
+fn array_head(c: &[u16], heads: &[u16], x: usize) -> usize
     requires { ⌜ Heads (decoded (now c)) (now heads) ⌝ }
     requires { ⌜ typeKind (decoded (now c)) x ≡ 2 ⌝ }
     ensures { λ r. ⌜ Head (decoded (now (c .entry))) x r ⌝ }
@@ -105,7 +105,7 @@ fn array_head(c: &code::Slots, heads: &[u16], x: usize) -> usize
     h
 }
 
-fn found_head(c: &code::Slots, heads: &[u16], x: usize) -> usize
+fn found_head(c: &[u16], heads: &[u16], x: usize) -> usize
     requires { ⌜ Heads (decoded (now c)) (now heads) ⌝ }
     ensures { λ r. ⌜ Head (decoded (now (c .entry))) x r ⌝ }
 {
@@ -120,7 +120,7 @@ fn found_head(c: &code::Slots, heads: &[u16], x: usize) -> usize
 }
 
 // Finds the heads of the types below n, the standard types first.
-pub fn find_heads(c: &code::Slots, heads: &mut [u16], n: usize)
+pub fn find_heads(c: &[u16], heads: &mut [u16], n: usize)
     requires { ⌜ (3 ≤ n) × ((n ≤ 65536) × (n ≤ length (now heads))) ⌝ }
     ensures { λ _. ⌜ HeadsTo (decoded (now (c .entry))) n (now (heads .exit)) ⌝ }
 {
@@ -135,7 +135,7 @@ pub fn find_heads(c: &code::Slots, heads: &mut [u16], n: usize)
 }
 
 // The types of a table, the standard ones too, for which an array of 258 has room.
-pub fn known_types(c: &code::Slots) -> usize
+pub fn known_types(c: &[u16]) -> usize
     ensures { λ r. ⌜ (3 ≤ r) × (r ≤ 258) ⌝ }
 {
     let n = code::types(c);

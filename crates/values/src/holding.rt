@@ -16,7 +16,7 @@ ghost use Rattle.values.specs.Heads.{Tested, ValueTest, wordsHold, wordU
 ghost use Rattle.values.specs.Walks.{SmallSizes, Near, WordCount, referenceHolds, fieldsHold, elementsHold, RecordAt, ArrayAt};
 
 // The words of type x.
-pub fn words_of(c: &code::Slots, sizes: &[u16], x: usize) -> usize
+pub fn words_of(c: &[u16], sizes: &[u16], x: usize) -> usize
     requires { ⌜ SmallSizes (decoded (now c)) (now sizes) ⌝ }
     ensures { λ r. ⌜ WordCount (wordsOf (decoded (now (c .entry))) x) r ⌝ }
 {
@@ -78,7 +78,7 @@ fn references_hold(state: &[u8], home: usize, a: usize, n: usize) -> bool
 }
 
 // A value of the simple or process type h, integers apart, stands at each of the n words from location a on.
-fn words_hold(c: &code::Slots, state: &[u8], h: usize, a: usize, n: usize) -> bool
+fn words_hold(c: &[u16], state: &[u8], h: usize, a: usize, n: usize) -> bool
     requires { ⌜ State (now state) ⌝ }
     requires { ⌜ Tested (decoded (now c)) h ⌝ }
     requires { ⌜ (a ≤ 20000000) × (n ≤ 200) ⌝ }
@@ -98,7 +98,7 @@ fn words_hold(c: &code::Slots, state: &[u8], h: usize, a: usize, n: usize) -> bo
 
 // A value of type x stands at location a.
 pub fn value_holds(
-    c: &code::Slots,
+    c: &[u16],
     sizes: &[u16],
     heads: &[u16],
     state: &[u8],
@@ -124,7 +124,7 @@ pub fn value_holds(
 }
 
 fn fields_hold(
-    c: &code::Slots,
+    c: &[u16],
     sizes: &[u16],
     heads: &[u16],
     state: &[u8],
@@ -155,7 +155,7 @@ fn fields_hold(
 }
 
 fn elements_hold(
-    c: &code::Slots,
+    c: &[u16],
     sizes: &[u16],
     heads: &[u16],
     state: &[u8],

@@ -22,7 +22,7 @@ fn packed(j: usize, rank: usize) -> usize
 }
 
 // Where the jump of type x leads. Those of the types below `jumps.len()` are known; any other stays where it is.
-fn jump_of(c: &code::Slots, jumps: &[u16], x: usize) -> usize
+fn jump_of(c: &[u16], jumps: &[u16], x: usize) -> usize
     requires { ⌜ Jumps (decoded (now c)) (now jumps) ⌝ }
     ensures { λ r. ⌜ Jump (decoded (now (c .entry))) x r ⌝ }
 {
@@ -43,7 +43,7 @@ fn rank_of(jumps: &[u16], x: usize) -> usize
 }
 
 // The only part of type x, or x itself.
-fn only_part(c: &code::Slots, x: usize) -> usize
+fn only_part(c: &[u16], x: usize) -> usize
     ensures { λ r. ⌜ Jump (decoded (now (c .entry))) x r ⌝ }
 {
     let kind = code::type_kind(c, x);
@@ -70,7 +70,7 @@ fn only_part(c: &code::Slots, x: usize) -> usize
     x
 }
 
-fn found_jump(c: &code::Slots, jumps: &[u16], x: usize) -> usize
+fn found_jump(c: &[u16], jumps: &[u16], x: usize) -> usize
     requires { ⌜ Jumps (decoded (now c)) (now jumps) ⌝ }
     requires { ⌜ x < 512 ⌝ }
     ensures { λ r. ⌜ JumpWord (decoded (now (c .entry))) x r ⌝ }
@@ -91,7 +91,7 @@ fn found_jump(c: &code::Slots, jumps: &[u16], x: usize) -> usize
 }
 
 // Finds the jumps of the types below n.
-pub fn find_jumps(c: &code::Slots, jumps: &mut [u16], n: usize)
+pub fn find_jumps(c: &[u16], jumps: &mut [u16], n: usize)
     requires { ⌜ (n ≤ 512) × (n ≤ length (now jumps)) ⌝ }
     ensures { λ _. ⌜ JumpsTo (decoded (now (c .entry))) n (now (jumps .exit)) ⌝ }
 {
@@ -103,7 +103,7 @@ pub fn find_jumps(c: &code::Slots, jumps: &mut [u16], n: usize)
 }
 
 // A type down the chain from x, not below y: where its jump leads, or the next one; x itself where there is none.
-fn step_of(c: &code::Slots, jumps: &[u16], x: usize, y: usize) -> usize
+fn step_of(c: &[u16], jumps: &[u16], x: usize, y: usize) -> usize
     requires { ⌜ Jumps (decoded (now c)) (now jumps) ⌝ }
     ensures { λ r. ⌜ Leads (decoded (now (c .entry))) y x r ⌝ }
 {
@@ -119,7 +119,7 @@ fn step_of(c: &code::Slots, jumps: &[u16], x: usize, y: usize) -> usize
 }
 
 // The last of them.
-pub fn lowest(c: &code::Slots, jumps: &[u16], x: usize, y: usize) -> usize
+pub fn lowest(c: &[u16], jumps: &[u16], x: usize, y: usize) -> usize
     requires { ⌜ Jumps (decoded (now c)) (now jumps) ⌝ }
     ensures { λ r. ⌜ Leads (decoded (now (c .entry))) y x r ⌝ }
 {

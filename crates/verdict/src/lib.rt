@@ -1,11 +1,14 @@
 // The verdict on a table: the lowest refusal that applies, 0 where none does (01, Verdicts and other refusals).
+use code::kinds;
 ghost use mathlib.Core.Path.{_≡_};
 ghost use mathlib.Core.Bool.{true};
 ghost use Prim.Native.Nat.{_≤_};
 ghost use lib.ListN.{length};
 ghost use Rattle.table.specs.Entries.{nodeCount};
 ghost use Rattle.code.specs.Code.{decoded, Decodes};
-ghost use Rattle.code.specs.Decoding as decoding;
+ghost use Rattle.table.specs.Bytes.{whole};
+ghost use Rattle.table.specs.Empty.{bytesRead};
+ghost use Rattle.code.specs.Decoding.{Decodable};
 ghost use Rattle.types.specs.Kept.{Types};
 ghost use Rattle.sizes.specs.Kept.{SizeRoom, Sizes};
 ghost use Rattle.numbers.specs.Ranges.{inRange};
@@ -13,13 +16,13 @@ ghost use Rattle.uses.specs.Uses.{usedOnce};
 ghost use Rattle.uses.specs.Marked.{NoMarks};
 ghost use Rattle.verdict.specs.Verdict.{judged, judgedUses, judgedLate, verdict};
 ghost use Rattle.verdict.specs.Rooms.{Rooms};
-ghost use Rattle.verdict.specs.Checked.{CheckLeaves, CheckedBytes};
+ghost use Rattle.verdict.specs.Checked.{FewRows, RowsTo, ShapeOf, Checkable, CheckLeaves, CheckedBytes};
 
 // Refusals 7 to 9, of a table that the earlier rules accept. The words of its types are left in their array.
 fn judge_late(
     t: &[u8],
     s: table::Sections,
-    c: &code::Slots,
+    c: &[u16],
     types: &[u16],
     sizes: &mut [u16],
     blocks: &mut [u16],
@@ -50,7 +53,7 @@ fn judge_late(
 fn judge_uses(
     t: &[u8],
     s: table::Sections,
-    c: &code::Slots,
+    c: &[u16],
     types: &[u16],
     sizes: &mut [u16],
     seen: &mut [u8],
@@ -79,7 +82,7 @@ fn judge_uses(
 fn judge(
     t: &[u8],
     s: table::Sections,
-    c: &code::Slots,
+    c: &[u16],
     types: &mut [u16],
     sizes: &mut [u16],
     marks: &mut [u8],
@@ -111,7 +114,7 @@ pub struct Judgement {
 }
 
 // The arrays of the small edition: sections of at most 255 rows.
-fn judge_small(t: &[u8], s: table::Sections, c: &code::Slots) -> Judgement
+fn judge_small(t: &[u8], s: table::Sections, c: &[u16]) -> Judgement
     requires { ⌜ Decodes (now t) s (now c) ⌝ }
     requires { ⌜ s .w ≡ 1 ⌝ }
     ensures verdict { λ r. ⌜ r .verdict ≡ judged (decoded (now (c .entry))) ⌝ }
@@ -171,16 +174,83 @@ const LISTING: [u8; 27] = [
     0x00,
 ];
 
-// All refusals of the bytes that are read; of bytes that are accepted the table is left decoded, with its types and sizes.
-fn check_bytes(t: &[u8], c: &mut code::Slots) -> Judgement
-    requires { ⌜ decoding.Blank (now c) ⌝ }
+// Where the sections of a table are, and how many rows its slots need.
+pub struct Shape {
+    pub read: table::Read,
+    pub rows: usize,
+}
+
+fn larger(a: usize, b: usize) -> usize
+    ensures { λ r. ⌜ (a ≤ r) × ((b ≤ r) × (a ≤ 258 → b ≤ 258 → r ≤ 258)) ⌝ }
+{
+    if a < b {
+        return b;
+    }
+    a
+}
+
+// The rows that sections need: for each as many as it has, and for types the three standard ones too.
+fn rows_for(s: table::Sections) -> usize
+    requires { ⌜ FewRows (s .counts) ⌝ }
+    ensures { λ r. ⌜ RowsTo (s .counts) 8 r ⌝ }
+{
+    let counts = s.counts;
+    let mut n = kinds::STANDARD + counts[0];
+    let mut k = 1;
+    while k < 8 {
+        n = larger(n, counts[k]);
+        k += 1;
+    }
+    n
+}
+
+// The shape of the bytes that are read. Bytes that are not whole sections need no rows.
+fn shape_of(t: &[u8]) -> Shape
+    ensures { λ r. ⌜ ShapeOf (now (t .entry)) r ⌝ }
+{
+    let read = table::read_sections(t, 1);
+    if read.found {
+        let s = read.sections;
+        let rows = rows_for(s);
+        return Shape { read, rows };
+    }
+    Shape { read, rows: 0 }
+}
+
+// The shape of a table.
+pub fn find_shape(t: &[u8]) -> Shape
+    ensures { λ r. ⌜ ShapeOf (bytesRead 1 (now (t .entry))) r ⌝ }
+{
+    if t.len() == 0 {
+        let listing = LISTING;
+        return shape_of(&listing[..]);
+    }
+    shape_of(t)
+}
+
+// The refusals 3 to 9 of the bytes that are read, whose sections are s. The table is left decoded, of one that is accepted with its types and sizes.
+fn check_bytes(t: &[u8], s: table::Sections, c: &mut [u16]) -> Judgement
+    requires { ⌜ Decodable (now t) s (now c) ⌝ }
+    requires { ⌜ (s .w ≡ 1) × (whole 1 (now t) ≡ true) ⌝ }
     ensures { λ r. ⌜ CheckedBytes 1 (now (t .entry)) (r .verdict) (now (c .exit)) (r .types) (r .sizes) ⌝ }
 {
-    let r = table::read_sections(t, 1);
+    code::decode::decode(t, s, c);
+    judge_small(t, s, c)
+}
+
+// The verdict on any bytes, in the small edition; of bytes that are accepted the table is left decoded, with the types of its nodes and
+// the words of its types. The slots are blank, and as many as the table's shape asks for.
+pub fn check_into(t: &[u8], r: table::Read, c: &mut [u16]) -> Judgement
+    requires { ⌜ Checkable 1 (now t) r (now c) ⌝ }
+    ensures { λ j. ⌜ CheckLeaves 1 (now (t .entry)) (j .verdict) (now (c .exit)) (j .types) (j .sizes) ⌝ }
+{
     if r.found {
         let s = r.sections;
-        code::decode::decode(t, s, c);
-        return judge_small(t, s, c);
+        if t.len() == 0 {
+            let listing = LISTING;
+            return check_bytes(&listing[..], s, c);
+        }
+        return check_bytes(t, s, c);
     }
     let types = [0u16; 256];
     let sizes = [0u16; 258];
@@ -191,24 +261,29 @@ fn check_bytes(t: &[u8], c: &mut code::Slots) -> Judgement
     }
 }
 
-// The verdict on any bytes, in the small edition; of bytes that are accepted the table is left decoded, with the types of its nodes and
-// the words of its types.
-pub fn check_into(t: &[u8], c: &mut code::Slots) -> Judgement
-    requires { ⌜ decoding.Blank (now c) ⌝ }
-    ensures { λ r. ⌜ CheckLeaves 1 (now (t .entry)) (r .verdict) (now (c .exit)) (r .types) (r .sizes) ⌝ }
+// The verdict alone, with slots of this many rows.
+fn check_in(t: &[u8], r: table::Read, c: &mut [u16]) -> u32
+    requires { ⌜ Checkable 1 (now t) r (now c) ⌝ }
+    ensures { λ v. ⌜ v ≡ verdict 1 (now (t .entry)) ⌝ }
 {
-    if t.len() == 0 {
-        let listing = LISTING;
-        return check_bytes(&listing[..], c);
-    }
-    check_bytes(t, c)
+    let j = check_into(t, r, c);
+    j.verdict
 }
 
-// The verdict alone.
+// The verdict alone. Slots are blank words, so a table gets those of one of a few sizes.
 pub fn check(t: &[u8]) -> u32
     ensures { λ r. ⌜ r ≡ verdict 1 (now (t .entry)) ⌝ }
 {
+    let a = find_shape(t);
+    let r = a.read;
+    if a.rows <= 64 {
+        let mut c = [0u16; 2056];
+        return check_in(t, r, &mut c[..]);
+    }
+    if a.rows <= 128 {
+        let mut c = [0u16; 4104];
+        return check_in(t, r, &mut c[..]);
+    }
     let mut c = [0u16; 8264];
-    let j = check_into(t, &mut c);
-    j.verdict
+    check_in(t, r, &mut c[..])
 }

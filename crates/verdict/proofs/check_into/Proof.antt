@@ -1,5 +1,5 @@
 use Rattle.table.specs.Empty.{field, fieldsOf, listing}
-use Rattle.verdict.proofs.Rooming.{checked-empty, checked-some}
+use Rattle.verdict.proofs.Rooming.{decodable-empty, decodable-some, checked-empty, checked-some, checked-none}
 use borrow.Author.Needs.{needs}
 use Rattle.verdict.proofs.check_into.Statement.{statement}
 use Rattle.verdict.proofs.check_into.Tie as tie
@@ -10,7 +10,10 @@ check-into-spec =
     tie.close
     (tie.spec
     (λ c. search needs)
-    (λ c κs. search needs)
-    (λ c. checked-empty _ _ _ _ _ _ (c .before .before .before .if1 .taken) (c .check-bytes .ensures))
-    (λ c κs. search needs)
-    (λ c. search checked-some))
+    (λ c κs. search decodable-empty)
+    (λ c. search needs)
+    (λ c. search checked-empty)
+    (λ c κs. search decodable-some)
+    (λ c. search needs)
+    (λ c. search checked-some)
+    (λ c. search checked-none))

@@ -13,5 +13,5 @@ judge-small-spec =
     (λ c. search needs)
     (λ c. search needs)
     (λ c. search needs)
-    (λ c κs. let a = c .before .before .before .before .before in (search needs, rooms-small (a .before .args .t .now) (λ i. omega (arith, a .shared-slice-known .given i)) _ _ (a .before .pre .0) (a .before .pre .1)))
+    (λ c κs. let a = c .before .before .before .before .before in (search needs, rooms-small (a .before .before .args .t .now) (λ i. omega (arith, a .before .shared-slice-known .given i)) _ _ (a .before .before .pre .0) (a .before .before .pre .1)))
     (λ c. search needs))
