@@ -58,6 +58,7 @@ counted-single t n τ w h f g =
     (λ k.
     let c = eqb-true (nodeKind (decoded t) n) 8 k in
     let o : τ ≡ 65535 = e ∙ constant-none (decoded t) n c in
+    let m = h .code .few in
     let z : w ≡ 0 = d ∙ sym (slot-none t τ 5 (omega arith) .is) in
     rw z (sym (single-constant (decoded t) n c)))
     (λ k.
