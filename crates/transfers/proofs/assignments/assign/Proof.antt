@@ -14,6 +14,11 @@ assign-spec =
     (λ c. search needs)
     (λ c. search assigned)
     (λ c κs. search needs)
-    (λ c κs. (search needs, search assign-target))
+    (λ c κs. (
+      search needs,
+      let b = c .before .before .before .before in
+          let r = b .before .before .before .before .before .before .before .before .pre in
+          assign-target _ _ _ _ (r .0 .standing) (r .1) _ (b .before .before .before .stmt-a .ensures .is) _ (b .select .ensures) _ (search needs) (search needs),
+    ))
     (λ c. search needs)
     (λ c. search needs))

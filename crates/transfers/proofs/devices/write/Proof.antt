@@ -18,7 +18,7 @@ write-spec =
     (λ c κs. (
       search needs,
       let b = c .before .before .before .before .before in
-          let r = b .before .before .before .before .before .before .before .before .pre in
+          let r = b .before .before .before .before .before .before .before .before .before .pre in
           address-writing _ _ _ _ (r .0 .standing) (r .1) _ (b .before .before .before .before .stmt-a .ensures .is) _ (b .eval .ensures) _ (search needs) (search needs),
     ))
     (λ c. search needs)
