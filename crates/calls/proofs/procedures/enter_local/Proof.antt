@@ -13,6 +13,21 @@ enter-local-spec =
     (λ c κs. search entering-lent)
     (λ c. search needs)
     (λ c. search entering-over)
-    (λ c κs. (search entering-lent, (search entering-fits, ((search entering-room, (search entering-held, search entering-small)), search entering-size))))
+    (λ c κs.
+    let i = c .before in
+    let o = i .before in
+    let m = o .before in
+    let z = m .before .before in
+    let h = z .before .before .before .before .before .pre in
+    (
+      search entering-lent,
+      (
+        entering-fits _ _ _ _ _ _ _ _ _ _ h _ _ (z .procedure-words .ensures) (m .limit-of .ensures) _ (o .is-over .ensures) (i .if1 .left),
+        (
+          (entering-room _ _ _ _ _ _ _ _ _ _ h _ _ (z .procedure-words .ensures) (m .limit-of .ensures) _ (o .is-over .ensures) (i .if1 .left), (entering-held _ _ _ _ _ _ _ _ _ _ h _ _ (z .procedure-words .ensures) (m .limit-of .ensures) _ (o .is-over .ensures) (i .if1 .left), search entering-small)),
+          entering-size _ _ _ _ _ _ _ _ _ _ h _ _ (z .procedure-words .ensures) (m .limit-of .ensures) _ (o .is-over .ensures) (i .if1 .left),
+        ),
+      ),
+    ))
     (λ c. search needs)
     (λ c. search entering-local))

@@ -18,7 +18,7 @@ start-created-spec =
       search needs,
       (
         let b = c .before .before .before in
-            let r = b .before .before .before .before .before .before .before .before .pre in
+            let r = b .before .before .before .before .before .before .before .before .before .pre in
             start-calling _ _ _ _ _ (r .1 .0) (r .1 .1) _ _ _ _ _ (b .before .before .before .before .stmt-a .ensures .is) (b .before .before .before .type-of .ensures .is) (b .before .before .type-p .ensures .is) (b .before .stmt-c .ensures .is) (b .stmt-d .ensures .is),
         (search start-arguments, search needs),
       ),
@@ -29,12 +29,12 @@ start-created-spec =
     (λ c. search needs)
     (λ c κs.
     let b = c .before .before .before .before .before .before .before .before .before .before in
-    let r = b .before .before .before .before .before .before .before .before .pre in
+    let r = b .before .before .before .before .before .before .before .before .before .pre in
     start-begins _ _ _ _ _ (r .1 .0) (r .1 .1) _ _ _ _ _ (b .before .before .before .before .stmt-a .ensures .is) (b .before .before .before .type-of .ensures .is) (b .before .before .type-p .ensures .is) (b .before .stmt-c .ensures .is) (b .stmt-d .ensures .is) _ _ _ (c .before .before .before .before .before .before .arguments .ensures) _ (c .before .before .before .g2 .given .1))
     (λ c. search needs)
     (λ c.
     let b = c .before .before .before .before .before .before .before .before .before .before .before .before in
-    let r = b .before .before .before .before .before .before .before .before .pre in
+    let r = b .before .before .before .before .before .before .before .before .before .pre in
     start-fails _ _ _ _ _ (r .1 .0) (r .1 .1) _ _ _ _ _ (b .before .before .before .before .stmt-a .ensures .is) (b .before .before .before .type-of .ensures .is) (b .before .before .type-p .ensures .is) (b .before .stmt-c .ensures .is) (b .stmt-d .ensures .is) _ _ _ (c .before .before .before .before .before .before .before .before .arguments .ensures) _ _ _ (c .before .before .before .before .before .g .given .1) (c .before .before .fail .ensures .0) (c .before .before .fail .ensures .1))
     (λ c. search needs)
     (λ c. search needs))
