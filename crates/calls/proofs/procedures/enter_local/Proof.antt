@@ -18,8 +18,7 @@ enter-local-spec =
     let o = i .before in
     let m = o .before in
     let z = m .before .before in
-    let h = z .before .before .before .before .before .pre in
-    (
+    let h = z .before .before .before .before .before .pre in (
       search entering-lent,
       (
         entering-fits _ _ _ _ _ _ _ _ _ _ h _ _ (z .procedure-words .ensures) (m .limit-of .ensures) _ (o .is-over .ensures) (i .if1 .left),
