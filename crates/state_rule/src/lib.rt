@@ -116,13 +116,7 @@ fn run_ok(state: &[u8]) -> bool
 }
 
 // Each created process.
-fn processes_hold(
-    c: &[u16],
-    sizes: &[u16],
-    heads: &[u16],
-    jumps: &[u16],
-    state: &[u8],
-) -> bool
+fn processes_hold(c: &[u16], sizes: &[u16], heads: &[u16], jumps: &[u16], state: &[u8]) -> bool
     requires { ⌜ RuleTest (decoded (now c)) (now sizes) (now heads) (now jumps) (now state) ⌝ }
     requires { ⌜ memoryOf (now state) createdAt ≤ 64 ⌝ }
     ensures { λ r. ⌜ r ≡ processesHold (decoded (now (c .entry))) (memoryOf (now (state .entry))) ⌝ }

@@ -8,15 +8,14 @@ use lib.Dec.{eqb, leb, ltb}
 use lib.ListN.{length, getD, set, length-set, List·getD-eq-default}
 use lib.Seq.{getD-set-same, getD-set-other}
 use borrow.Author.Needs.{needs}
-use borrow.Author.Tests.{eq-eqb, ne-eqb, eqb-true, eqb-false, leb-true, ltb-true, ltb-false}
+use borrow.Author.Tests.{eq-eqb, ne-eqb, le-leb, eqb-true, eqb-false, leb-true, ltb-true, ltb-false}
 use Rattle.basics.specs.Cases.{cases}
 use Rattle.basics.specs.Choice.{pick, both}
-use Rattle.basics.proofs.Bools.{no-true, both-l, both-r}
+use Rattle.basics.proofs.Bools.{no-true, both-l, both-r, both-i}
 use Rattle.table.specs.Table.{Table}
 use Rattle.table.specs.Entries.{firstStmt, vars}
 use Rattle.words.specs.Bytes.{Bytes}
 use Rattle.code.specs.Code.{decoded}
-use Rattle.code.proofs.Blanks.{new-blank}
 use Rattle.sizes.specs.Kept.{Sizes}
 use Rattle.sizes.specs.Sizes.{typesSized, varOffset, moduleWords}
 use Rattle.sizes.proofs.Promise.{types-pass, module-most, var-exact}
@@ -25,6 +24,7 @@ use Rattle.verdict.specs.Verdict.{verdict}
 use Rattle.verdict.specs.Accepted.{Accepted}
 use Rattle.verdict.specs.Checked.{CheckLeaves}
 use Rattle.verdict.proofs.Promise.{promise}
+use Rattle.verdict.proofs.Rooming.{checkable-few, checkable-more, checkable-all}
 use Rattle.machine.specs.Memory.{Memory, update, within, fill, zeros, memoryOf, bytesOf}
 use Rattle.machine.specs.Lent.{WordSlice, Changed, State, Becomes}
 use Rattle.machine.specs.Layout.{statusAt, statementAt, frameAt, topAt, worksAt, holderAt, depthAt, createdAt, numberAt, plainWords, markWords, stateWords, stateSize}
@@ -176,21 +176,26 @@ module _ (w : ℕ) (t c y z : List ℕ) (v : ℕ) (h : CheckLeaves w t v c y z) 
   pub check-sizes : Sizes (decoded c) z
   check-sizes = h .sizes o
 
-  pub begun-done : (s s₁ : List ℕ) (n k : ℕ) (b : Bool) → b ≡ both (eqb (length s) stateSize) (leb n 1) → b ≡ true → k ≡ n
-      → s₁ ≡ bytesOf stateWords (begin (decoded c) k) → begun 0 s₁ ≡ beginCall verdict w t s n
-  unfolding beginCall beginRefusal
-  begun-done s s₁ n k b l g i e = let g' = rw (h .table o, i) at e in rw (← l, g, ← (h .is), eq-eqb v 0 o, g')
+-- a state of its length, and a number that is 0 or 1
+module _ (s : List ℕ) (n : ℕ) (l : State s) (m : n ≤ 1) where
+  beginnable : both (eqb (length s) stateSize) (leb n 1) ≡ true
+  beginnable = both-i _ _ (eq-eqb (length s) stateSize (l .long)) (le-leb n 1 m)
+
+  module _ (w : ℕ) (t c y z : List ℕ) (v : ℕ) (h : CheckLeaves w t v c y z) where
+    pub begun-done : (s₁ : List ℕ) (k : ℕ) → v ≡ 0 → k ≡ n → s₁ ≡ bytesOf stateWords (begin (decoded c) k) → begun 0 s₁ ≡ beginCall verdict w t s n
+    unfolding beginCall beginRefusal
+    begun-done s₁ k o i e = let g = rw (h .table o, i) at e in rw (beginnable, ← (h .is), eq-eqb v 0 o, g)
+
+    pub begun-refused : (v ≡ 0 → ⊥) → begun v s ≡ beginCall verdict w t s n
+    unfolding beginCall beginRefusal
+    begun-refused d = rw (beginnable, ← (h .is), ne-eqb v 0 d)
 
 module _ (s : List ℕ) (n : ℕ) (b : Bool) (l : b ≡ both (eqb (length s) stateSize) (leb n 1)) where
   pub begun-lent : b ≡ true → State s
   begun-lent g = lent-bytes s (eqb-true (length s) stateSize (both-l _ _ (sym l ∙ g)))
 
-  pub begun-word : b ≡ true → n < 65536
-  begun-word g = let h = leb-true n 1 (both-r _ _ (sym l ∙ g)) in omega arith
-
-  pub begun-refused : (w : ℕ) (t c y z : List ℕ) (v : ℕ) → b ≡ true → CheckLeaves w t v c y z → (v ≡ 0 → ⊥) → begun v s ≡ beginCall verdict w t s n
-  unfolding beginCall beginRefusal
-  begun-refused w t c y z v g h d = rw (← l, g, ← (h .is), ne-eqb v 0 d)
+  pub begun-low : b ≡ true → n ≤ 1
+  begun-low g = leb-true n 1 (both-r _ _ (sym l ∙ g))
 
   pub begun-short : (w : ℕ) (t : List ℕ) → b ≡ false → begun 1 s ≡ beginCall verdict w t s n
   unfolding beginCall beginRefusal
@@ -204,4 +209,6 @@ pub beginnable-short : (k n : ℕ) → (k ≡ stateSize → ⊥) → false ≡ b
 unfolding both
 beginnable-short k n d = rw (ne-eqb k stateSize d)
 
-pub ruleset begins = (new-blank, check-accepted, check-sizes, begun-lent, begun-word, begun-done, begun-refused, begun-short, needs)
+pub ruleset begins = (check-accepted, check-sizes, begun-done, begun-refused, needs)
+
+pub ruleset shapes = (checkable-few, checkable-more, checkable-all, begun-lent, begun-low, begun-short)

@@ -12,6 +12,7 @@ ghost use Rattle.sizes.specs.Kept.{Sizes};
 ghost use Rattle.sizes.specs.Sizes.{moduleWords};
 ghost use Rattle.verdict.specs.Verdict.{verdict};
 ghost use Rattle.verdict.specs.Accepted.{Accepted};
+ghost use Rattle.verdict.specs.Checked.{Checkable};
 ghost use Rattle.machine.specs.Memory.{memoryOf, bytesOf, zeros, fill};
 ghost use Rattle.machine.specs.Lent.{State, Becomes};
 ghost use Rattle.machine.specs.Layout.{location, moduleAt, createdAt, locations, plainWords, markWords, stateWords, stateSize};
@@ -251,20 +252,40 @@ fn is_beginnable(state: usize, number: u32) -> bool
     false
 }
 
-// Makes the lent state that in which a run of the table with this number begins, or refuses.
+// Makes the lent state that in which a run of the table with this number begins, or refuses. The slots are as many as the table's shape asks for.
+fn begin_in(t: &[u8], r: table::Read, c: &mut [u16], state: &mut [u8], number: u32) -> u32
+    requires { ⌜ Checkable 1 (now t) r (now c) ⌝ }
+    requires { ⌜ State (now state) ⌝ }
+    requires { ⌜ number ≤ 1 ⌝ }
+    ensures { λ v. ⌜ begun v (now (state .exit)) ≡ beginCall verdict 1 (now (t .entry)) (now (state .entry)) number ⌝ }
+{
+    let j = verdict::check_into(t, r, c);
+    let v = j.verdict;
+    if v == 0 {
+        let sizes = j.sizes;
+        begin_state(c, &sizes[..], state, number as u16);
+        return 0;
+    }
+    v
+}
+
+// The same of any bytes, with slots of one of a few sizes.
 pub fn begin(table: &[u8], state: &mut [u8], number: u32) -> u32
     ensures { λ r. ⌜ begun r (now (state .exit)) ≡ beginCall verdict 1 (now (table .entry)) (now (state .entry)) number ⌝ }
 {
     if is_beginnable(state.len(), number) {
-        let mut c = [0u16; 8264];
-        let j = verdict::check_into(table, &mut c);
-        let v = j.verdict;
-        if v == 0 {
-            let sizes = j.sizes;
-            begin_state(&c, &sizes[..], state, number as u16);
-            return 0;
+        let a = verdict::find_shape(table);
+        let r = a.read;
+        if a.rows <= 64 {
+            let mut c = [0u16; 2056];
+            return begin_in(table, r, &mut c[..], state, number);
         }
-        return v;
+        if a.rows <= 128 {
+            let mut c = [0u16; 4104];
+            return begin_in(table, r, &mut c[..], state, number);
+        }
+        let mut c = [0u16; 8264];
+        return begin_in(table, r, &mut c[..], state, number);
     }
     1
 }

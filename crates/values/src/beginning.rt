@@ -83,14 +83,7 @@ fn part_begins(c: &[u16], sizes: &[u16], jumps: &[u16], x: usize, y: usize, k: u
     false
 }
 
-fn part_of_fields(
-    c: &[u16],
-    sizes: &[u16],
-    jumps: &[u16],
-    x: usize,
-    y: usize,
-    k: usize,
-) -> bool
+fn part_of_fields(c: &[u16], sizes: &[u16], jumps: &[u16], x: usize, y: usize, k: usize) -> bool
     requires { ⌜ PartSearch (decoded (now c)) (now sizes) (now jumps) ⌝ }
     ensures { λ r. ⌜ r ≡ fieldsBegin (decoded (now (c .entry))) y x k ⌝ }
 {
@@ -136,14 +129,7 @@ fn part_of_field(
     false
 }
 
-fn part_of_element(
-    c: &[u16],
-    sizes: &[u16],
-    jumps: &[u16],
-    x: usize,
-    y: usize,
-    k: usize,
-) -> bool
+fn part_of_element(c: &[u16], sizes: &[u16], jumps: &[u16], x: usize, y: usize, k: usize) -> bool
     requires { ⌜ PartSearch (decoded (now c)) (now sizes) (now jumps) ⌝ }
     ensures { λ r. ⌜ r ≡ elementBegins (decoded (now (c .entry))) y x k ⌝ }
 {
@@ -196,14 +182,7 @@ fn part_of_variable(
 }
 
 // A part of type y begins at word k of the variables of block b.
-pub fn part_of_block(
-    c: &[u16],
-    sizes: &[u16],
-    jumps: &[u16],
-    b: usize,
-    y: usize,
-    k: usize,
-) -> bool
+pub fn part_of_block(c: &[u16], sizes: &[u16], jumps: &[u16], b: usize, y: usize, k: usize) -> bool
     requires { ⌜ PartSearch (decoded (now c)) (now sizes) (now jumps) ⌝ }
     ensures { λ r. ⌜ r ≡ partOfBlock (decoded (now (c .entry))) b y k ⌝ }
 {

@@ -123,14 +123,7 @@ pub fn value_holds(
     words_hold(c, state, h, a, words_of(c, sizes, x))
 }
 
-fn fields_hold(
-    c: &[u16],
-    sizes: &[u16],
-    heads: &[u16],
-    state: &[u8],
-    x: usize,
-    a: usize,
-) -> bool
+fn fields_hold(c: &[u16], sizes: &[u16], heads: &[u16], state: &[u8], x: usize, a: usize) -> bool
     requires { ⌜ ValueTest (decoded (now c)) (now sizes) (now heads) (now state) ⌝ }
     requires { ⌜ RecordAt (decoded (now c)) (memoryOf (now state)) x a ⌝ }
     ensures { λ r. ⌜ r ≡ fieldsHold (decoded (now (c .entry))) (memoryOf (now (state .entry))) x a ⌝ }
@@ -154,14 +147,7 @@ fn fields_hold(
     true
 }
 
-fn elements_hold(
-    c: &[u16],
-    sizes: &[u16],
-    heads: &[u16],
-    state: &[u8],
-    x: usize,
-    a: usize,
-) -> bool
+fn elements_hold(c: &[u16], sizes: &[u16], heads: &[u16], state: &[u8], x: usize, a: usize) -> bool
     requires { ⌜ ValueTest (decoded (now c)) (now sizes) (now heads) (now state) ⌝ }
     requires { ⌜ ArrayAt (decoded (now c)) (memoryOf (now state)) x a ⌝ }
     ensures { λ r. ⌜ r ≡ elementsHold (decoded (now (c .entry))) (memoryOf (now (state .entry))) x a ⌝ }

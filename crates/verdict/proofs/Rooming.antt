@@ -5,6 +5,8 @@ use mathlib.Core.Bool.{Bool, true, false}
 use mathlib.Core.List.{List, [], _∷_}
 use lib.ListN.{length, getD, replicate, length-replicate, getD-replicate}
 use native.Mathlib.Omega.{arith}
+use mir.Val.{Fits}
+use mir.Syntax.{w64}
 use Rattle.table.specs.Bytes.{whole}
 use Rattle.table.specs.Empty.{listing, bytesRead}
 use Rattle.table.specs.Table.{tableAt, tableOf}
@@ -63,6 +65,9 @@ module _ (t : List ℕ) (bytes : (i : ℕ) → getD t i 0 < 256) where
 
 -- ---- the rows that slots need
 module _ (l : List ℕ) where
+  pub rows-fit : FewRows l → Fits w64 (3 + getD l 0 0)
+  rows-fit f = let a = f .bytes 0 (omega arith) in omega arith
+
   pub rows-first : FewRows l → RowsTo l 1 (3 + getD l 0 0)
   rows-first f =
       let a = f .bytes 0 (omega arith) in
@@ -111,16 +116,26 @@ shape-some [] r e h = absurd (e refl)
 shape-some (b ∷ t) r e h = h
 
 -- new slots of n rows, for a table whose shape asks for no more
-pub checkable-new : (t : List ℕ) (r : Shape) (n : ℕ) → ShapeOf (bytesRead 1 t) r → r .rows ≤ n → Checkable 1 t (r .read) (replicate (n * 32 + 8) 0)
-checkable-new t r n h l =
-    record {
-      read = h .read;
-      room = λ e.
-          let q = h .room e in
-          let d : length {A = ℕ} (replicate (n * 32 + 8) 0) / 32 ≡ n = rw (length-replicate {A = ℕ} (n * 32 + 8) 0) (omega arith) in
-          rw d (record { rows = λ k g. let u = q .rows k g in omega arith; types = let u = q .types in omega arith });
-      blank = new-blank n;
-    }
+module _ (t : List ℕ) (r : Shape) (h : ShapeOf (bytesRead 1 t) r) where
+  checkable-new : (n : ℕ) → r .rows ≤ n → Checkable 1 t (r .read) (replicate (n * 32 + 8) 0)
+  checkable-new n l =
+      record {
+        read = h .read;
+        room = λ e.
+            let q = h .room e in
+            let d : length {A = ℕ} (replicate (n * 32 + 8) 0) / 32 ≡ n = rw (length-replicate {A = ℕ} (n * 32 + 8) 0) (omega arith) in
+            rw d (record { rows = λ k g. let u = q .rows k g in omega arith; types = let u = q .types in omega arith });
+        blank = new-blank n;
+      }
+
+  pub checkable-few : r .rows ≤ 64 → Checkable 1 t (r .read) (replicate 2056 0)
+  checkable-few = checkable-new 64
+
+  pub checkable-more : r .rows ≤ 128 → Checkable 1 t (r .read) (replicate 4104 0)
+  checkable-more = checkable-new 128
+
+  pub checkable-all : Checkable 1 t (r .read) (replicate 8264 0)
+  checkable-all = checkable-new 258 (h .few)
 
 -- a test that passed says the rule
 pub rule-holds : (r b : Bool) → r ≡ b → r ≡ true → b ≡ true

@@ -2,7 +2,7 @@ use Prim.Native.Nat.{_-_, _≤_}
 use native.Mathlib.Omega.{arith}
 use borrow.Author.Needs.{needs}
 use Rattle.verdict.specs.Checked.{RowsTo}
-use Rattle.verdict.proofs.Rooming.{rows-first, rows-more, rows-all}
+use Rattle.verdict.proofs.Rooming.{rows-fit, rows-first, rows-more, rows-all}
 use Rattle.verdict.proofs.rows_for.Statement.{statement}
 use Rattle.verdict.proofs.rows_for.Tie as tie
 
@@ -19,7 +19,7 @@ rows-for-spec =
     Inv-loop
     μ-loop
     (λ c. search needs)
-    (λ c. ?)
+    (λ c. search rows-fit)
     (λ c. (omega arith, search rows-first))
     (λ c. search needs)
     (λ c. search needs)

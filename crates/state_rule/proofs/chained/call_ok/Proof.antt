@@ -14,7 +14,7 @@ call-ok-spec =
     (λ c. search needs)
     (λ c κs. search needs)
     (λ c κs. search needs)
-    (λ c κs. search (c .before .before .before .before .before .before .before .before .before .before .before .before .pre, needs))
+    (λ c κs. search (c .before .before .before .before .before .before .before .before .before .before .before .before .before .pre, needs))
     (λ c. search onecall)
     (λ c. search onecall)
     (λ c. search onecall)

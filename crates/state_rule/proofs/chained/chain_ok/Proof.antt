@@ -33,7 +33,7 @@ chain-ok-spec =
     (λ c κs. search needs)
     (λ c. search needs)
     (λ c κs. search needs)
-    (λ c κs. search (c .before .before .before .before .before .before .before .before .before .before .before .before .before .before .before .before .pre, needs))
+    (λ c κs. search (c .before .before .before .before .before .before .before .before .before .before .before .before .before .before .before .before .before .pre, needs))
     (λ c. search needs)
     (λ c. omega arith)
     (λ c. (c .area-word3 .ensures .small, (c .before .area-word2 .ensures .small, left-next _ _ _ _ _ _ _ _ (c .before .before .before .before .before .before .loop .inv .1 .1) _ (c .before .before .before .before .before .loop-test .taken) (c .before .before .before .before .call-ok .ensures) _ _ _ (c .before .before .before .if2 .taken) (c .before .before .area-word .ensures .is) (c .before .area-word2 .ensures .is) (c .area-word3 .ensures .is))))
