@@ -117,25 +117,25 @@ shape-some (b ∷ t) r e h = h
 
 -- new slots of n rows, for a table whose shape asks for no more
 module _ (t : List ℕ) (r : Shape) (h : ShapeOf (bytesRead 1 t) r) where
-  checkable-new : (n : ℕ) → r .rows ≤ n → Checkable 1 t (r .read) (replicate (n * 32 + 8) 0)
-  checkable-new n l =
+  checkable-new : (n : ℕ) → n ≤ 65535 → r .rows ≤ n → Checkable 1 t (r .read) (replicate (n * 32 + 8) 0)
+  checkable-new n q l =
       record {
         read = h .read;
         room = λ e.
-            let q = h .room e in
+            let v = h .room e in
             let d : length {A = ℕ} (replicate (n * 32 + 8) 0) / 32 ≡ n = rw (length-replicate {A = ℕ} (n * 32 + 8) 0) (omega arith) in
-            rw d (record { rows = λ k g. let u = q .rows k g in omega arith; types = let u = q .types in omega arith });
-        blank = new-blank n;
+            rw d (record { rows = λ k g. let u = v .rows k g in omega arith; types = let u = v .types in omega arith });
+        blank = new-blank n q;
       }
 
   pub checkable-few : r .rows ≤ 64 → Checkable 1 t (r .read) (replicate 2056 0)
-  checkable-few = checkable-new 64
+  checkable-few = checkable-new 64 (omega arith)
 
   pub checkable-more : r .rows ≤ 128 → Checkable 1 t (r .read) (replicate 4104 0)
-  checkable-more = checkable-new 128
+  checkable-more = checkable-new 128 (omega arith)
 
   pub checkable-all : Checkable 1 t (r .read) (replicate 8264 0)
-  checkable-all = checkable-new 258 (h .few)
+  checkable-all = checkable-new 258 (omega arith) (h .few)
 
 -- a test that passed says the rule
 pub rule-holds : (r b : Bool) → r ≡ b → r ≡ true → b ≡ true
