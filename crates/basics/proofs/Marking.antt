@@ -1,6 +1,6 @@
 -- Marks count occurrences up to two. Assumes nothing.
 use Prim.Native.Nat.{ℕ, ◌+◌, ◌≤◌, ◌<◌, min}
-use mathlib.Core.Path.{◌≡◌, refl, sym, ap, ◌∙◌}
+use mathlib.Core.Path.{◌≡◌, refl, sym, ap, ◌∙◌, subst}
 use mathlib.Core.List.{List, [], ◌∷◌, ◌++◌}
 use lib.ListN.{length, get_or, set, replicate, length-set, length-replicate, get_or-replicate}
 use lib.Seq.{get_or-set_same, get_or-set_other}
@@ -66,7 +66,7 @@ module _ (x : ℕ) (l seen : List ℕ) (s : MarksOf l seen) where
         marks = λ j h.
             let g : j < length seen = rw (length_marked x seen) at h in
             cases (eqb x j)
-            (λ q. let e : x ≡ j = eqb-true x j q in rw (← e, eq-eqb x x refl) (at_x (rw (← e) at g)))
+            (λ q. let e : x ≡ j = eqb-true x j q in subst (λ (y : ℕ). get_or (with_mark x seen) y 0 ≡ min (occurs y (x ∷ l)) 2) e (rw (eq-eqb x x refl) (at_x (rw (← e) at g))))
             (λ q. rw q (at_other j (λ e. eqb-false x j q (sym e)) ∙ s.marks j g));
       }
 
