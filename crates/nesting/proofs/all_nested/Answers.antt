@@ -1,5 +1,4 @@
 use native.Mathlib.Omega.{arith}
-use Prim.Native.Nat.{◌-◌}
 use Rattle.nesting.proofs.Flat.{rounds}
 use Rattle.nesting.proofs.all_nested.Goals as goal
 
