@@ -1,4 +1,6 @@
 // What every crate's definitions and laws share, in specs/ and proofs/; and the marks that count occurrences.
+#![tactic(auto)]
+
 ghost use Rattle.std.specs.Prelude.{◌≡◌};
 ghost use Rattle.basics.specs.Choice.{between};
 ghost use Rattle.basics.specs.Loops.{with_mark};

@@ -1,4 +1,6 @@
 // Refusal 3: kinds, modes and operators are known, and unused fields are 0.
+#![tactic(auto)]
+
 ghost use Rattle.std.specs.Prelude.{◌≡◌, ◌+◌, ◌<◌};
 ghost use Rattle.basics.specs.Choice.{all_below};
 ghost use Rattle.code.specs.Code.{decoded};

@@ -1,4 +1,6 @@
 // What statements write into a lent state: where a process stands, frames, records (01, A step). Callers test first.
+#![tactic(auto)]
+
 ghost use Rattle.std.specs.Prelude.{◌≡◌, [], ◌+◌, ◌≤◌, ◌<◌, length, take};
 ghost use Rattle.types.specs.Types.{evened};
 ghost use Rattle.sizes.specs.Sizes.{module_words};

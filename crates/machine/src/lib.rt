@@ -1,4 +1,6 @@
 // Access to a lent state by word: areas, control records and frames (01, The four calls; docs/STATE.md).
+#![tactic(auto)]
+
 ghost use Rattle.std.specs.Prelude.{◌≡◌, ◌*◌, ◌≤◌, ◌<◌};
 ghost use Rattle.machine.specs.Memory.{memory_of, update};
 ghost use Rattle.machine.specs.Outcomes.{is_failure};

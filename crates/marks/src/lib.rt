@@ -1,4 +1,6 @@
 // The marks of locations (02, g): one bit each, sixteen in a word, behind the control records.
+#![tactic(auto)]
+
 ghost use Rattle.std.specs.Prelude.{◌≡◌, ◌+◌, ◌*◌, ◌%◌, ◌≤◌, ◌<◌};
 ghost use Rattle.machine.specs.Memory.{memory_of};
 ghost use Rattle.machine.specs.Layout.{locations};

@@ -8,7 +8,7 @@ use borrow.Author.Tests.{ne_eqb, le-leb, lt-leb}
 use Rattle.basics.specs.Choice.{pick, both, between, all_below}
 use Rattle.basics.specs.Chain.{always}
 use Rattle.table.specs.Table.{Table}
-use Rattle.table.specs.Entries.{var_type, arg_node, node_kind, node_p, node_q, stmt_kind, stmt_a, stmt_link, type_count, var_count, block_count, node_count, stmt_count, char_count}
+use Rattle.table.specs.Entries.{var_type, arg_node, node_kind, node_p, node_q, stmt_kind, stmt_a, stmt_link, type_count, var_count, block_count, node_count, stmt_count}
 use Rattle.table.specs.Kinds.{names, rows, row_of, held, each_field, is_call}
 use Rattle.table.proofs.EachKind.{type_kinds, node_kinds, stmt_kinds}
 use Rattle.table.proofs.EachField.{alone, all_four, all_five, all_six, declared_is}

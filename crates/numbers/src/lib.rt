@@ -1,4 +1,6 @@
 // Refusal 4: numbers lie in their sections and ranges, are of the right sort and stand in order.
+#![tactic(auto)]
+
 pub mod sorts; // nodes and blocks of the sort that a place asks
 pub mod order; // numbers that are taken in order
 pub mod declared; // types, fields, variables

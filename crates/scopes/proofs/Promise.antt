@@ -16,8 +16,8 @@ use Rattle.basics.proofs.Courses.{upto_below, upto_above}
 use Rattle.table.specs.Table.{Table}
 use Rattle.table.specs.Entries.{owner, first_var, vars, arg_node, node_kind, node_p, node_q, stmt_kind, stmt_a, stmt_b, stmt_c, stmt_d, stmt_count}
 use Rattle.nesting.specs.Nest.{block_step}
-use Rattle.table.specs.Kinds.{names, rows, row_of, held, each_field, is_call}
-use Rattle.scopes.specs.Scopes.{of_block, in_scope, field_scoped, node_scope, node_scoped, argument_scoped, arguments_scoped, stays_in, stmt_scoped, scoped}
+use Rattle.table.specs.Kinds.{names, rows, row_of, held, is_call}
+use Rattle.scopes.specs.Scopes.{of_block, in_scope, node_scope, node_scoped, argument_scoped, arguments_scoped, stays_in, stmt_scoped, scoped}
 use Rattle.scopes.specs.Parts.{fields_scoped}
 use Rattle.scopes.proofs.Rows.{node-scope, stmt_scope}
 

@@ -1,5 +1,7 @@
 // Refusal 8: a variable is its block's or its owner's, and a local call stays in its module. Each statement hands its block to the nodes that
 // it uses, and each node to its operands, which stand before it.
+#![tactic(auto)]
+
 ghost use Rattle.std.specs.Prelude.{◌≡◌, true, ◌+◌, ◌≤◌, ◌<◌, length, get_or, set};
 ghost use Rattle.basics.specs.Marks.{gather};
 ghost use Rattle.code.specs.Code.{decoded, Decodes};

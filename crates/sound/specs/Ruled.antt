@@ -1,6 +1,6 @@
 -- Inner: for code and proofs only; no public promise is said with these definitions.
 -- The state rule as records: what a state that meets it gives, in facts of numbers. Assumes nothing.
-use Rattle.std.specs.Prelude.{ℕ, suc, ◌+◌, ◌-◌, ◌≤◌, ◌<◌, ◌≡◌, true, List, length, get_or}
+use Rattle.std.specs.Prelude.{ℕ, suc, ◌+◌, ◌≤◌, ◌<◌, ◌≡◌, true, List, length, get_or}
 use Rattle.table.specs.Table.{Table}
 use Rattle.table.specs.Entries.{block_count, var_mode, var_type, block_kind, owner, first_var, params, vars, first_stmt, stmt_limit}
 use Rattle.sizes.specs.Sizes.{module_words}

@@ -1,17 +1,16 @@
 -- The two passes over a text, and the call. Assumes nothing.
 use Prim.Native.Nat.{ℕ, zero, suc, ◌+◌, ◌-◌, ◌*◌, ◌<◌, ◌≤◌}
 use mathlib.Core.Path.{◌≡◌, refl, sym, ap, ◌∙◌}
-use mathlib.Core.Bool.{Bool, true, false}
+use mathlib.Core.Bool.{true, false}
 use mathlib.Core.List.{List, [], ◌∷◌, ◌++◌}
-use native.Mathlib.Numerals.{add-one}
 use native.Mathlib.Nat.{zero-add, add-zero}
 use native.Mathlib.Omega.{arith}
-use lib.ListN.{length, get_or, take, drop, set, length-drop, length-append}
-use lib.Seq.{drop-cons, drop-drop, sets, length-sets, sets-eq}
-use lib.Dec.{eqb, leb}
+use lib.ListN.{length, drop, set, length-drop}
+use lib.Seq.{drop-drop, sets, length-sets, sets-eq}
+use lib.Dec.{eqb}
 use borrow.Author.Rules.{rules}
-use borrow.Author.Tests.{eq-eqb, ne_eqb, le-leb, lt-leb}
-use Rattle.basics.specs.Choice.{pick, both}
+use borrow.Author.Tests.{le-leb, lt-leb}
+use Rattle.basics.specs.Choice.{both}
 use Rattle.basics.specs.Cases.{cases}
 use Rattle.basics.proofs.Bools.{no_true, both_i, both_false_r}
 use Rattle.symbols.specs.Runs.{new_lines}

@@ -1,24 +1,22 @@
 -- Comments passed and lines counted. Assumes nothing.
-use Prim.Native.Nat.{ℕ, zero, suc, ◌+◌, ◌-◌, ◌<◌, ◌≤◌}
+use Prim.Native.Nat.{ℕ, zero, suc, ◌+◌, ◌<◌, ◌≤◌}
 use mathlib.Core.Path.{◌≡◌, refl, sym, ap, ◌∙◌}
 use mathlib.Core.Bool.{Bool, true, false}
 use mathlib.Core.List.{List, [], ◌∷◌}
 use native.Mathlib.Numerals.{add-one}
-use native.Mathlib.Nat.{not-suc-le-zero}
 use native.Mathlib.Omega.{arith}
-use lib.ListN.{length, get_or, drop, length-drop}
-use lib.Seq.{drop-cons, drop-drop, get_or-drop}
+use lib.ListN.{length, get_or, drop}
+use lib.Seq.{drop-cons, get_or-drop}
 use lib.Dec.{eqb}
 use borrow.Author.Rules.{rules}
 use borrow.Author.Tests.{eq-eqb, ne_eqb}
 use Rattle.basics.specs.Choice.{pick}
-use Rattle.basics.specs.Cases.{cases}
 use Rattle.symbols.specs.Characters.{in_comment}
 use Rattle.symbols.specs.Runs.{span_length, new_lines}
 use Rattle.symbols.specs.Symbols.{comment_length}
 use Rattle.symbols.specs.Steps.{Stands, Past}
-use Rattle.symbols.proofs.Going.{Going, drop_end, run_more, run_stop, run_end, going_none, going_more, going_stop, going_end}
-use Rattle.symbols.proofs.Lengths.{run_length, get_d_past}
+use Rattle.symbols.proofs.Going.{Going, run_more, run_stop, run_end, going_none, going_more, going_stop, going_end}
+use Rattle.symbols.proofs.Lengths.{get_d_past}
 
 -- ---- the characters of a comment
 

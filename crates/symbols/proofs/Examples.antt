@@ -1,7 +1,7 @@
 -- The readings of 02 (a) at small texts: longest first, numerals (6.1), constants (6.2, 6.3), comments and lines. Assumes nothing.
 use Prim.Native.Nat.{ℕ}
 use mathlib.Core.Path.{◌≡◌, refl}
-use mathlib.Core.List.{List, [], ◌∷◌}
+use mathlib.Core.List.{[], ◌∷◌}
 use Rattle.basics.specs.Choice.{both, either, between}
 use Rattle.symbols.specs.Characters.{graphic, letter, digit, octal_digit, in_name, in_comment, plain_graphic, small}
 use Rattle.symbols.specs.Runs.{span_length, new_lines}

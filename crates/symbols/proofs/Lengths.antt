@@ -16,7 +16,7 @@ use borrow.Author.Tests.{eq-eqb, ne_eqb, eqb-true, ltb-true, ltb-false}
 use Rattle.symbols.specs.Characters.{digit, octal_digit, plain_graphic}
 use Rattle.symbols.specs.Runs.{span_length}
 use Rattle.symbols.specs.Constants.{signed, numeral_length, character_length, characters_length, constant_length}
-use Rattle.symbols.proofs.Going.{drop_end, run_end}
+use Rattle.symbols.proofs.Going.{drop_end}
 
 signed_none : (n : ℕ) → n ≡ 0 → signed n ≡ 0
 unfolding signed

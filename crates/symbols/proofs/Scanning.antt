@@ -1,26 +1,22 @@
 -- From a place in the text to the next: comments and symbols passed. Assumes nothing.
-use Prim.Native.Nat.{ℕ, zero, suc, ◌+◌, ◌-◌, ◌*◌, ◌<◌, ◌≤◌}
+use Prim.Native.Nat.{ℕ, zero, suc, ◌+◌, ◌-◌, ◌<◌, ◌≤◌}
 use mathlib.Core.Path.{◌≡◌, refl, sym, ap, ◌∙◌}
-use mathlib.Core.Bool.{Bool, true, false}
+use mathlib.Core.Bool.{true}
 use mathlib.Core.List.{List, [], ◌∷◌}
-use native.Mathlib.Numerals.{add-one}
-use native.Mathlib.Nat.{not-suc-le-zero, add-zero}
+use native.Mathlib.Nat.{add-zero}
 use native.Mathlib.Omega.{arith}
-use lib.ListN.{length, get_or, take, drop, length-drop}
+use lib.ListN.{length, get_or, drop, length-drop}
 use lib.Seq.{drop-cons, drop-drop}
 use lib.Dec.{eqb, ltb}
 use borrow.Author.Rules.{rules}
-use borrow.Author.Tests.{eq-eqb, ne_eqb, eqb-true, eqb-false, ltb-true, ltb-false}
-use Rattle.basics.specs.Choice.{pick}
+use borrow.Author.Tests.{eq-eqb, ne_eqb, eqb-true, ltb-true, ltb-false}
 use Rattle.basics.specs.Cases.{cases}
-use Rattle.symbols.specs.Characters.{letter, digit, in_name, in_comment}
+use Rattle.symbols.specs.Characters.{in_comment}
 use Rattle.symbols.specs.Runs.{span_length, new_lines}
-use Rattle.symbols.specs.Constants.{numeral_length, character_length, characters_length, constant_length}
-use Rattle.symbols.specs.Vocabulary.{name_length, special_length, is_word}
-use Rattle.symbols.specs.Symbols.{or_else, symbol_length, name_kind, constant_kind, symbol_kind, comment_length, Symbol, Reading, fault, more, symbols_from, symbols_of}
+use Rattle.symbols.specs.Symbols.{or_else, symbol_length, symbol_kind, comment_length, Symbol, fault, more, symbols_from}
 use Rattle.symbols.specs.Steps.{Stands, Past, PassesTo}
 use Rattle.symbols.proofs.Going.{drop_end}
-use Rattle.symbols.proofs.Lengths.{run_length, get_d_past, numeral-length, constant-length}
+use Rattle.symbols.proofs.Lengths.{get_d_past, numeral-length, constant-length}
 use Rattle.symbols.proofs.Keys.{name-length}
 use Rattle.symbols.proofs.Specials.{special-length}
 

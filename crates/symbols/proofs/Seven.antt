@@ -1,11 +1,10 @@
 -- The seven stores of a symbol. Assumes nothing.
 use Prim.Native.Nat.{ℕ, suc, ◌+◌, ◌/◌, ◌%◌}
-use mathlib.Core.Path.{◌≡◌, refl}
-use mathlib.Core.List.{List, [], ◌∷◌}
+use mathlib.Core.Path.{◌≡◌}
+use mathlib.Core.List.{List}
 use native.Mathlib.Omega.{arith}
 use lib.ListN.{set}
 use lib.Seq.{sets}
-use Rattle.symbols.specs.Symbols.{Symbol}
 use Rattle.symbols.specs.Answer.{symbol_bytes}
 
 pub seven : (out : List ℕ) (at kind line place size a b d e f g : ℕ) → a ≡ line % 256 → b ≡ line / 256 → d ≡ place % 256 → e ≡ place / 256 → f ≡ size % 256 → g ≡ size / 256

@@ -1,6 +1,6 @@
 -- Trusted: public promises are said with these definitions.
 -- How far a class of bytes goes on, and how many new lines are passed. Assumes nothing.
-use Rattle.std.specs.Prelude.{ℕ, zero, suc, ◌+◌, Bool, true, false, List, [], ◌∷◌, eqb}
+use Rattle.std.specs.Prelude.{ℕ, zero, suc, Bool, List, [], ◌∷◌, eqb}
 use Rattle.basics.specs.Choice.{pick}
 
 -- how many bytes at the front are of a class

@@ -1,6 +1,6 @@
 -- Trusted: public promises are said with these definitions.
 -- The symbols of a text (3.2, 02 (a)). Assumes nothing.
-use Rattle.std.specs.Prelude.{ℕ, zero, suc, ◌+◌, ◌-◌, Bool, List, [], ◌∷◌, get_or, take, eqb}
+use Rattle.std.specs.Prelude.{ℕ, zero, suc, ◌+◌, ◌-◌, List, [], ◌∷◌, get_or, take, eqb}
 use Rattle.basics.specs.Choice.{pick}
 use Rattle.symbols.specs.Characters.{letter, digit, in_comment}
 use Rattle.symbols.specs.Runs.{span_length, new_lines}

@@ -1,6 +1,6 @@
 -- Trusted: public promises are said with these definitions.
 -- Special symbols, word symbols and names (3.2, 3.3). Assumes nothing.
-use Rattle.std.specs.Prelude.{ℕ, suc, max, Bool, true, false, List, [], ◌∷◌, map, length, take, eqb}
+use Rattle.std.specs.Prelude.{ℕ, suc, max, Bool, true, false, List, [], ◌∷◌, map, length, eqb}
 use Rattle.basics.specs.Choice.{pick, both, either}
 use Rattle.symbols.specs.Characters.{letter, in_name, small}
 use Rattle.symbols.specs.Runs.{span_length}

@@ -1,4 +1,6 @@
 // The symbols of chip texts (3.2, 02 (a)).
+#![tactic(auto)]
+
 mod characters;
 mod constants;
 mod cursor;

@@ -1,5 +1,7 @@
 // The table of a program, read from a lent slice of bytes: sections, rows, fields. Crate code decodes it, and all above goes by that.
 // The width w of a field, 1 or 2, is a parameter: 1 is the small edition.
+#![tactic(auto)]
+
 ghost use Rattle.std.specs.Prelude.{◌≡◌, ◌+◌, ◌-◌, ◌*◌, ◌≤◌, ◌<◌, min, length, eqb};
 ghost use Rattle.basics.specs.Choice.{both};
 ghost use Rattle.table.specs.Bytes.{num, shorts, words, fields, row_size, field_at, field_width};

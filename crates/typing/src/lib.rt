@@ -1,4 +1,6 @@
 // Refusal 9: the types of operands, guards, indexes, arguments and parameters.
+#![tactic(auto)]
+
 ghost use Rattle.std.specs.Prelude.{◌≡◌, ◌+◌, ◌≤◌, ◌<◌};
 ghost use Rattle.basics.specs.Choice.{all_below};
 ghost use Rattle.types.specs.Match.{in_standard};

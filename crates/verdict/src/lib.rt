@@ -1,4 +1,6 @@
 // The verdict on a table: the lowest refusal that applies, 0 where none does (01, Verdicts and other refusals).
+#![tactic(auto)]
+
 ghost use Rattle.std.specs.Prelude.{◌≡◌, true, ◌≤◌, length};
 ghost use Rattle.table.specs.Entries.{node_count};
 ghost use Rattle.code.specs.Code.{decoded, Decodes};

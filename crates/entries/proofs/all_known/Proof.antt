@@ -1,7 +1,6 @@
 use Rattle.basics.specs.Choice.{both}
 use Rattle.entries.specs.Tested.{tested}
 use Rattle.entries.proofs.Rows.{known_tested}
-use Rattle.code.specs.Code.{decoded}
 use Rattle.basics.proofs.Tests.{tests}
 use borrow.Author.Rules.{rules}
 use Rattle.entries.proofs.all_known.Statement.{statement}

@@ -1,4 +1,3 @@
-use Prim.Native.Nat.{◌-◌}
 use Rattle.frames.proofs.Storing.{copies}
 use Rattle.frames.proofs.copy_words.Goals as goal
 

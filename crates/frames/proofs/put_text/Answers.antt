@@ -1,4 +1,3 @@
-use Prim.Native.Nat.{◌-◌}
 use Rattle.frames.proofs.Storing.{texts}
 use Rattle.frames.proofs.put_text.Goals as goal
 

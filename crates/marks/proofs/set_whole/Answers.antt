@@ -1,4 +1,3 @@
-use Prim.Native.Nat.{◌-◌}
 use Rattle.marks.proofs.Marking.{marking}
 use Rattle.marks.proofs.set_whole.Goals as goal
 

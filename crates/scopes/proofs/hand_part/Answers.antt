@@ -1,4 +1,3 @@
-use Prim.Native.Nat.{◌-◌}
 use native.Mathlib.Omega.{arith}
 use Rattle.scopes.proofs.Scoping.{parts}
 use Rattle.scopes.proofs.hand_part.Goals as goal

@@ -1,7 +1,6 @@
 use Rattle.std.proofs.Common.{◌∙◌, arith}
 use borrow.Author.Rules.{rules}
-use Rattle.sizes.proofs.Sums.{product_fits}
-use Rattle.sizes.proofs.Counting.{counts, o_none, o_more, o_skip, o_all}
+use Rattle.sizes.proofs.Counting.{counts, o_none, o_more, o_skip}
 use Rattle.sizes.proofs.+fields_words_words.Goals as goal
 use Rattle.sizes.proofs.+fields_words_words.Goals.{fields_words-then-field-n, fields_words-else-field-n}
 

@@ -18,7 +18,7 @@ use Rattle.machine.specs.Memory.{Memory, update, within, store, clear}
 use Rattle.machine.specs.Layout.{location, record_at, status_at, module_at, frame_at, top_at, works_at, holder_at, depth_at, created_at, failure_at, caller_frame, called_block, locations}
 use Rattle.machine.specs.Variables.{frame_words}
 use Rattle.machine.specs.Marks.{set_marks}
-use Rattle.machine.specs.Outcomes.{Outcome, ok, fail, stuck}
+use Rattle.machine.specs.Outcomes.{Outcome, fail, stuck}
 use Rattle.machine.specs.Entries.{Statement, skip, assign, local_call, process_call, create, start, opener, arm, end_arms, write, block_end, no_statement, stmt_at}
 use Rattle.machine.specs.Context.{context_of}
 use Rattle.machine.specs.Calls.{standing, frame, top_after, pushed, frame_marked, popped, returns, return}

@@ -22,7 +22,7 @@ use Rattle.machine.specs.Outcomes.{stuck, and_then, fail_where, placed, on_place
 use Rattle.machine.specs.Entries.{process_type, type_at, waits, Statement, skip, assign, local_call, process_call, create, start, opener, arm, end_arms, write, block_end, no_statement}
 use Rattle.machine.specs.Variables.{frame_words}
 use Rattle.machine.specs.Context.{Context, context_of}
-use Rattle.machine.specs.Calls.{standing, frame, pushed, frame_marked, popped}
+use Rattle.machine.specs.Calls.{standing, pushed, frame_marked, popped}
 use Rattle.machine.specs.Processes.{on_module, on_process, refers, on_reference, created, started}
 use Rattle.machine.specs.Statements.{do_local_call, do_process_call, do_start, perform}
 use Rattle.machine.specs.Step.{Step, done, settled, performs, proceeds, exists, turn, step}

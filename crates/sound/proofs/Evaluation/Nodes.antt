@@ -29,8 +29,8 @@ use Rattle.machine.specs.Memory.{Memory, words_at}
 use Rattle.machine.specs.Texts.{text_at}
 use Rattle.machine.specs.Layout.{status_at, created_at}
 use Rattle.machine.specs.Marks.{all_marked}
-use Rattle.machine.specs.Outcomes.{Outcome, stuck, Operand, value, word_of}
-use Rattle.machine.specs.Entries.{whole, node_of, node_at}
+use Rattle.machine.specs.Outcomes.{Outcome, stuck, Operand, word_of}
+use Rattle.machine.specs.Entries.{node_of, node_at}
 use Rattle.machine.specs.Context.{context_of, block_of}
 use Rattle.machine.specs.Operands.{on_record, on_array, outside, place_at, field_place, element_place, retrieved, node_operand, operand_at, operand}
 use Rattle.machine.proofs.Entries.{at_record, at_array}

@@ -24,7 +24,7 @@ use Rattle.words.proofs.Integers.{word_lt, in_range_mag}
 use Rattle.words.proofs.StandardTypes.{boolean_is, character_is}
 use Rattle.words.proofs.BitLaws.{and_word, or_word, not_boolean, and_boolean, or_boolean}
 use Rattle.machine.specs.Memory.{Memory}
-use Rattle.machine.specs.Outcomes.{fail, need, word_of, is_failure}
+use Rattle.machine.specs.Outcomes.{need, word_of, is_failure}
 use Rattle.machine.specs.Entries.{unary_at, binary_at}
 use Rattle.machine.specs.Operands.{one_word, truth, given, device_word, unary_value, ordered, integral, logical, binary_value, outside}
 use Rattle.machine.proofs.Tests.{failure_i}

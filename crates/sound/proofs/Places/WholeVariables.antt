@@ -13,7 +13,7 @@ use Rattle.table.specs.Entries.{var_count, block_count, var_mode, var_type, owne
 use Rattle.numbers.proofs.TypePromise.{var-type}
 use Rattle.machine.specs.Memory.{Memory}
 use Rattle.machine.specs.Layout.{location, status_at, module_at, statement_at, frame_at, top_at, works_at, depth_at, created_at, caller_frame, caller_works, called_block}
-use Rattle.machine.specs.Outcomes.{ok, need, place, value}
+use Rattle.machine.specs.Outcomes.{ok, need, place}
 use Rattle.machine.specs.Variables.{var_words, offset_of, belongs, type_exists, fits}
 use Rattle.machine.specs.Values.{part_of_block}
 use Rattle.machine.specs.Context.{context_of, block_of}

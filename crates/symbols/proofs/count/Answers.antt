@@ -1,4 +1,3 @@
-use Prim.Native.Nat.{◌-◌}
 use Rattle.symbols.proofs.Answering.{counteds}
 use Rattle.symbols.proofs.count.Goals as goal
 

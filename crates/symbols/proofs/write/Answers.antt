@@ -1,4 +1,3 @@
-use Prim.Native.Nat.{◌-◌}
 use Rattle.symbols.proofs.Answering.{layings}
 use Rattle.symbols.proofs.write.Goals as goal
 

@@ -1,4 +1,3 @@
-use Prim.Native.Nat.{◌-◌}
 use native.Mathlib.Omega.{arith}
 use Rattle.typing.proofs.Passing.{counts}
 use Rattle.typing.proofs.blocks_simple.Goals as goal

@@ -1,4 +1,3 @@
-use Prim.Native.Nat.{◌-◌}
 use native.Mathlib.Omega.{arith}
 use Rattle.typing.proofs.Passing.{characters}
 use Rattle.typing.proofs.characters_typed.Goals as goal

@@ -1,4 +1,3 @@
-use Prim.Native.Nat.{◌-◌}
 use native.Mathlib.Omega.{arith}
 use Rattle.basics.proofs.Passes.{passes}
 use Rattle.typing.proofs.each_simple.Goals as goal

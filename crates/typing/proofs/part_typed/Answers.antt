@@ -1,4 +1,3 @@
-use Prim.Native.Nat.{◌-◌}
 use native.Mathlib.Omega.{arith}
 use Rattle.typing.proofs.Passing.{parameters}
 use Rattle.typing.proofs.part_typed.Goals as goal

@@ -1,5 +1,4 @@
 use native.Mathlib.Omega.{arith}
-use Prim.Native.Nat.{◌-◌}
 use Rattle.basics.proofs.Passes.{passes}
 use Rattle.uses.proofs.all_one.Goals as goal
 

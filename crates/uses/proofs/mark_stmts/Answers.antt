@@ -1,5 +1,4 @@
 use native.Mathlib.Omega.{arith}
-use Prim.Native.Nat.{◌-◌}
 use Rattle.uses.proofs.Noting.{rows}
 use Rattle.uses.proofs.mark_stmts.Goals as goal
 

@@ -1,4 +1,3 @@
-use Prim.Native.Nat.{◌-◌}
 use native.Mathlib.Omega.{arith}
 use Rattle.basics.proofs.Passes.{counts}
 use Rattle.numbers.proofs.blocks.all_blocks.Goals as goal

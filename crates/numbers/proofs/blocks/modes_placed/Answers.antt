@@ -1,4 +1,3 @@
-use Prim.Native.Nat.{◌-◌}
 use native.Mathlib.Omega.{arith}
 use Rattle.basics.proofs.Passes.{passes}
 use Rattle.numbers.proofs.blocks.modes_placed.Goals as goal

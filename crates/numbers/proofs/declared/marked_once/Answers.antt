@@ -1,4 +1,3 @@
-use Prim.Native.Nat.{◌-◌}
 use native.Mathlib.Omega.{arith}
 use Rattle.numbers.specs.Declarations.{modules_once}
 use Rattle.basics.proofs.Passes.{counts}

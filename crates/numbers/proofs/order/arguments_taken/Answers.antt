@@ -1,4 +1,3 @@
-use Prim.Native.Nat.{◌-◌}
 use native.Mathlib.Omega.{arith}
 use Rattle.basics.specs.Chain.{taken}
 use Rattle.numbers.specs.Operands.{arguments_taken}

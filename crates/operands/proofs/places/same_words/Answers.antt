@@ -1,4 +1,3 @@
-use Prim.Native.Nat.{◌-◌}
 use native.Mathlib.Omega.{arith}
 use Rattle.operands.proofs.Standing.{matching}
 use Rattle.operands.proofs.places.same_words.Goals as goal

@@ -1,4 +1,3 @@
-use Prim.Native.Nat.{◌-◌}
 use Rattle.symbols.proofs.Lengths.{strings, strung_stop, strung_more}
 use Rattle.symbols.proofs.constants.characters_end.Goals as goal
 

@@ -1,5 +1,4 @@
 use Rattle.symbols.proofs.Going.{goings}
-use Prim.Native.Nat.{◌-◌}
 use Rattle.symbols.proofs.constants.octals_end.Goals as goal
 
 pub loop-at-init : goal.loop-at-init

@@ -1,4 +1,3 @@
-use Prim.Native.Nat.{◌-◌}
 use Rattle.symbols.proofs.Comments.{countings}
 use Rattle.symbols.proofs.cursor.past_characters.Goals as goal
 

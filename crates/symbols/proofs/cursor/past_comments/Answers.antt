@@ -1,4 +1,3 @@
-use Prim.Native.Nat.{◌-◌}
 use Rattle.symbols.proofs.Scanning.{passings}
 use Rattle.symbols.proofs.cursor.past_comments.Goals as goal
 
