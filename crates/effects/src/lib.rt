@@ -1,4 +1,6 @@
 // What every statement ends with: the process goes on, waits, or the run fails (01, Step answers).
+#![tactic(auto)]
+
 ghost use Rattle.std.specs.Prelude.{◌≡◌, true, ◌+◌, ◌-◌, ◌≤◌, ◌<◌};
 ghost use Rattle.words.specs.Values.{failure_number};
 ghost use Rattle.machine.specs.Memory.{memory_of, update};

@@ -1,4 +1,6 @@
 // The structured statements (11.6 to 11.10) and skip: which arm is entered, where a process goes on after it, and when it is blocked.
+#![tactic(auto)]
+
 ghost use Rattle.std.specs.Prelude.{◌≡◌, ◌+◌, ◌≤◌, ◌<◌};
 ghost use Rattle.basics.specs.Choice.{pick};
 ghost use Rattle.table.specs.Entries.{stmt_count, stmt_kind, stmt_a};

@@ -1,4 +1,6 @@
 // The test of the state rule (01, Verdicts and other refusals): the words of a lent state against an accepted table.
+#![tactic(auto)]
+
 pub mod working; // who works on what
 pub mod areas; // the variables of areas and frames
 pub mod chained; // calls

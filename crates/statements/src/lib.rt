@@ -1,4 +1,6 @@
 // One statement of a process, by its kind (11; 12.3).
+#![tactic(auto)]
+
 ghost use Rattle.std.specs.Prelude.{◌≡◌, ◌≤◌};
 ghost use Rattle.table.specs.Entries.{stmt_kind};
 ghost use Rattle.code.specs.Code.{decoded};

@@ -1,4 +1,6 @@
 // The state of a run: how it begins, and a look at a word of it (01, The four calls).
+#![tactic(auto)]
+
 ghost use Rattle.std.specs.Prelude.{◌≡◌, true, eqb, leb, ◌≤◌, ◌<◌, ◌+◌};
 ghost use Rattle.basics.specs.Choice.{pick, both};
 ghost use Rattle.table.specs.Entries.{block_count, block_kind};

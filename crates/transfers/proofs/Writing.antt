@@ -27,7 +27,7 @@ use Rattle.words.proofs.DeviceLaws.{position_even, position_le}
 use Rattle.machine.specs.Memory.{memory_of, update}
 use Rattle.machine.specs.Layout.{statement_at, failure_at, page_size}
 use Rattle.machine.specs.Lent.{Becomes}
-use Rattle.machine.specs.Outcomes.{Outcome, fail, stuck, need, fail_where, Operand, on_word, word_of}
+use Rattle.machine.specs.Outcomes.{Outcome, stuck, need, fail_where, Operand, on_word, word_of}
 use Rattle.machine.specs.Entries.{stmt_at}
 use Rattle.machine.specs.Operands.{device_word}
 use Rattle.machine.specs.Statements.{do_write, perform}

@@ -1,4 +1,3 @@
-use Prim.Native.Nat.{◌-◌}
 use Rattle.guards.proofs.Choosing.{chooses}
 use Rattle.guards.proofs.choose.Goals as goal
 

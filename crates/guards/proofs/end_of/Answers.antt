@@ -1,4 +1,3 @@
-use Prim.Native.Nat.{◌-◌}
 use Rattle.guards.proofs.Linking.{links}
 use Rattle.guards.proofs.end_of.Goals as goal
 

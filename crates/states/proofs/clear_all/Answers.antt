@@ -1,4 +1,3 @@
-use Prim.Native.Nat.{◌-◌}
 use native.Mathlib.Omega.{arith}
 use Rattle.states.proofs.Beginning.{cleared_none, cleared_more, cleared_all}
 use Rattle.states.proofs.clear_all.Goals as goal

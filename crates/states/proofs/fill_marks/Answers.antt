@@ -1,4 +1,3 @@
-use Prim.Native.Nat.{◌-◌}
 use borrow.Author.Rules.{rules}
 use Rattle.states.proofs.Beginning.{fills_none, fills_lent, fills_more, fills_all}
 use Rattle.states.proofs.fill_marks.Goals as goal

@@ -1,6 +1,5 @@
 use native.Mathlib.Omega.{arith}
 use borrow.Author.Rules.{rules}
-use Prim.Native.Nat.{◌-◌}
 use Rattle.operands.proofs.Lending.{lends}
 use Rattle.calls.proofs.Gathering.{gathers}
 use Rattle.calls.proofs.arguments.arguments.Goals as goal

@@ -1,5 +1,4 @@
 use native.Mathlib.Omega.{arith}
-use Prim.Native.Nat.{◌-◌}
 use Rattle.calls.proofs.Putting.{puts}
 use Rattle.calls.proofs.arguments.put_words.Goals as goal
 
