@@ -11,23 +11,23 @@ TRUSTED = "-- Trusted: public promises are said with these definitions."
 INNER = "-- Inner: for code and proofs only; no public promise is said with these definitions."
 CALLS = "crates/joyce/src/lib.rt"
 THEOREMS = {
-    "crates/joyce/proofs/Logs.antt": ["calls-demand3"],
-    "crates/joyce/proofs/CallsCut.antt": ["calls-cut"],
-    "crates/joyce/proofs/EmptySlots.antt": ["empty-slot"],
+    "crates/joyce/proofs/Logs.antt": ["calls_demand3"],
+    "crates/joyce/proofs/CallsCut.antt": ["calls_cut"],
+    "crates/joyce/proofs/EmptySlots.antt": ["empty_slot"],
     "crates/nesting/proofs/Complete.antt": ["sound", "complete"],
-    "crates/words/proofs/BitLaws.antt": ["and-bit", "or-bit", "not-word-bit"],
+    "crates/words/proofs/BitLaws.antt": ["and_bit", "or_bit", "not_word_bit"],
     "crates/sound/proofs/Theorems/Demand3.antt": ["demand3"],
-    "crates/sound/proofs/Theorems/TestedAlike.antt": ["tested-alike"],
-    "crates/sound/proofs/Theorems/CutsAgree.antt": ["cuts", "cuts-one-each", "cuts-anywhere"],
+    "crates/sound/proofs/Theorems/TestedAlike.antt": ["tested_alike"],
+    "crates/sound/proofs/Theorems/CutsAgree.antt": ["cuts", "cuts_one_each", "cuts_anywhere"],
     "crates/sound/proofs/Theorems/Refusals.antt": ["results"],
-    "crates/sound/proofs/Theorems/StateRule.antt": ["state-rule"],
-    "crates/sound/proofs/Theorems/SpaceUse.antt": ["space-use"],
-    "crates/sound/proofs/Theorems/PlacesApart.antt": ["step-places"],
-    "crates/symbols/proofs/Splitting.antt": ["list-is", "list-found", "list-unique", "no-list", "places-rise"],
-    "crates/symbols/proofs/Lines.antt": ["lines-counted"],
+    "crates/sound/proofs/Theorems/StateRule.antt": ["state_rule"],
+    "crates/sound/proofs/Theorems/SpaceUse.antt": ["space_use"],
+    "crates/sound/proofs/Theorems/PlacesApart.antt": ["step_places"],
+    "crates/symbols/proofs/Splitting.antt": ["list_is", "list_found", "list_unique", "no_list", "places_rise"],
+    "crates/symbols/proofs/Lines.antt": ["lines_counted"],
 }
 
-USE = re.compile(r"^(?:ghost )?use Rattle·(\w+)(?:·specs|·proofs)?\.specs\.(\w+)(?:\.\{([^}]*)\}| as (\w+));?$", re.M)
+USE = re.compile(r"^(?:ghost )?use Rattle\.(\w+)\.specs\.(\w+)(?:\.\{([^}]*)\}| as (\w+));?$", re.M)
 HEAD = re.compile(r"(?:(?:unfoldable|abbrev) )*pub (?:(data|record) )?([^\s:({]+)")
 
 
