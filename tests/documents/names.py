@@ -37,7 +37,7 @@ report("definitions", missing, count)
 
 # crate/File: .., Type (constructor, constructor)
 missing, count = [], 0
-for crate, file, listed in re.findall(r"\b([a-z]+)/([A-Z][A-Za-z]*): [A-Za-z0-9_, ]+ \(([A-Za-z0-9]+(?:, [A-Za-z0-9]+)*)\)", page):
+for crate, file, listed in re.findall(r"\b([a-z]+)/([A-Z][A-Za-z]*): [A-Za-z0-9_, ]+ \(([A-Za-z0-9_]+(?:, [A-Za-z0-9_]+)*)\)", page):
     spec = text([pathlib.Path("crates", crate, "specs", file + ".antt")])
     for name in listed.split(", "):
         count += 1
@@ -47,7 +47,7 @@ report("constructors", missing, count)
 
 # `crates/crate/proofs/File.antt`: name, name; or `crates/crate/proofs/Folder/File.antt`
 missing, count = [], 0
-for path, listed in re.findall(r"`(crates/[a-z]+/proofs/(?:[A-Za-z0-9]+/)?[A-Za-z0-9]+\.antt)`: ([A-Za-z0-9-]+(?:, [A-Za-z0-9-]+)*)", page):
+for path, listed in re.findall(r"`(crates/[a-z]+/proofs/(?:[A-Za-z0-9]+/)?[A-Za-z0-9]+\.antt)`: ([A-Za-z0-9_'-]+(?:, [A-Za-z0-9_'-]+)*)", page):
     proofs = text([pathlib.Path(path)])
     for name in listed.split(", "):
         count += 1

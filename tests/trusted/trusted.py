@@ -1,6 +1,7 @@
 """What public promises are said with, and what not. A promise is a contract of crates/joyce or one of the theorems below; the definitions
 that its text names, and those that these name in turn, must be believed. Each file of crates/*/specs says in its first line whether it
-holds such definitions or others, and this test fails where that is not so. With --list it prints the files and their lines.
+holds such definitions or others, and this test fails where that is not so; and where an export of crates/joyce_c, which C links, has other
+clauses than the function of crates/joyce. With --list it prints the files and their lines.
 A line 'ok NAME' or 'FAIL NAME: why' a test."""
 import collections
 import pathlib
@@ -10,24 +11,25 @@ import sys
 TRUSTED = "-- Trusted: public promises are said with these definitions."
 INNER = "-- Inner: for code and proofs only; no public promise is said with these definitions."
 CALLS = "crates/joyce/src/lib.rt"
+EXPORTS = "crates/joyce_c/src/lib.rt"
 THEOREMS = {
-    "crates/joyce/proofs/Logs.antt": ["calls-demand3"],
-    "crates/joyce/proofs/CallsCut.antt": ["calls-cut"],
-    "crates/joyce/proofs/EmptySlots.antt": ["empty-slot"],
+    "crates/joyce/proofs/Logs.antt": ["calls_demand3"],
+    "crates/joyce/proofs/CallsCut.antt": ["calls_cut"],
+    "crates/joyce/proofs/EmptySlots.antt": ["empty_slot"],
     "crates/nesting/proofs/Complete.antt": ["sound", "complete"],
-    "crates/words/proofs/BitLaws.antt": ["and-bit", "or-bit", "not-word-bit"],
+    "crates/words/proofs/BitLaws.antt": ["and_bit", "or_bit", "not_word_bit"],
     "crates/sound/proofs/Theorems/Demand3.antt": ["demand3"],
-    "crates/sound/proofs/Theorems/TestedAlike.antt": ["tested-alike"],
-    "crates/sound/proofs/Theorems/CutsAgree.antt": ["cuts", "cuts-one-each", "cuts-anywhere"],
+    "crates/sound/proofs/Theorems/TestedAlike.antt": ["tested_alike"],
+    "crates/sound/proofs/Theorems/CutsAgree.antt": ["cuts", "cuts_one_each", "cuts_anywhere"],
     "crates/sound/proofs/Theorems/Refusals.antt": ["results"],
-    "crates/sound/proofs/Theorems/StateRule.antt": ["state-rule"],
-    "crates/sound/proofs/Theorems/SpaceUse.antt": ["space-use"],
-    "crates/sound/proofs/Theorems/PlacesApart.antt": ["step-places"],
-    "crates/symbols/proofs/Splitting.antt": ["list-is", "list-found", "list-unique", "no-list", "places-rise"],
-    "crates/symbols/proofs/Lines.antt": ["lines-counted"],
+    "crates/sound/proofs/Theorems/StateRule.antt": ["state_rule"],
+    "crates/sound/proofs/Theorems/SpaceUse.antt": ["space_use"],
+    "crates/sound/proofs/Theorems/PlacesApart.antt": ["step_places"],
+    "crates/symbols/proofs/Splitting.antt": ["list_is", "list_found", "list_unique", "no_list", "places_rise"],
+    "crates/symbols/proofs/Lines.antt": ["lines_counted"],
 }
 
-USE = re.compile(r"^(?:ghost )?use Rattle·(\w+)(?:·specs|·proofs)?\.specs\.(\w+)(?:\.\{([^}]*)\}| as (\w+));?$", re.M)
+USE = re.compile(r"^(?:ghost )?use Rattle\.(\w+)\.specs\.(\w+)(?:\.\{([^}]*)\}| as (\w+));?$", re.M)
 HEAD = re.compile(r"(?:(?:unfoldable|abbrev) )*pub (?:(data|record) )?([^\s:({]+)")
 
 
@@ -112,6 +114,12 @@ def promises():
     return found, missing
 
 
+def contracts(path):
+    """Each function that C calls, with its parameters and clauses, and the names that it brings in."""
+    text = pathlib.Path(path).read_text(encoding="utf-8")
+    return {name: (re.sub(r"[\s,]+", " ", rest), Names(text).names) for name, rest in re.findall(r'^pub extern "C" fn (\w+)(.*?)^\{$', text, re.S | re.M)}
+
+
 def reached(roots):
     seen, left = set(roots), list(roots)
     while left:
@@ -149,6 +157,8 @@ failed = report("promises", set(missing) if roots else {"none is found"}, len(ro
 failed |= report("marked", {label(key) for key in specs if key not in trusted | inner}, len(specs))
 failed |= report("inner", {label(key) for key in inner & holders}, len(inner))
 failed |= report("trusted", {f"{label(key)}: {name}" for key in trusted for name in specs[key].definitions if (key, name) not in believed}, len(believed))
+calls, exports = contracts(CALLS), contracts(EXPORTS)
+failed |= report("exports", {name for name in calls.keys() | exports.keys() if calls.get(name) != exports.get(name)} if calls else {"none is found"}, len(exports))
 page = pathlib.Path("docs/MAP.md").read_text(encoding="utf-8")
 order = re.findall(r"^\| ([a-z]+)/([A-Z]\w*) \| (\d+) \|", page, re.M)
 wrong = {f"{label(key)} is not listed" for key in trusted - {(crate, module) for crate, module, _ in order}}

@@ -37,7 +37,7 @@ fn perform_call(
     calls::processes::start(c, k, stack, state, page, x)
 }
 
-// The statement where its process stands: the answer, the state and the page are those of `statementStep`.
+// The statement where its process stands: the answer, the state and the page are those of `statement_step`.
 pub fn perform(
     c: &code::Slots,
     k: &[u16],

@@ -1,7 +1,7 @@
 -- Trusted: public promises are said with these definitions.
 -- THE RULE of refusal 9: operands, guards, indexes, arguments and parameters have the types that their places ask (01, Verdicts).
 -- The type of a node is read off the table, so each rule is a test of one row: by its number (`type_of`), which no rule finds of a string
--- constant, whose type has none; where types are matched, as it is (`typeOfNode`). Assumes nothing.
+-- constant, whose type has none; where types are matched, as it is (`type_of_node`). Assumes nothing.
 use Rattle.std.specs.Prelude.{ℕ, ◌+◌, Bool, true, false, eqb, leb}
 use Rattle.basics.specs.Choice.{pick, all_below}
 use Rattle.table.specs.Table.{Table}
