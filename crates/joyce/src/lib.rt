@@ -1,5 +1,7 @@
 // What C calls, by way of joyce_c: see include/joyce.h. Each call is thin over the crates below. Its contract gives result and slices by
 // equations for every input; those of begin and run stand in specs/Calls.antt, where a log of calls cites them too.
+#![tactic(auto)]
+
 ghost use Rattle.std.specs.Prelude.{◌≡◌};
 ghost use Rattle.verdict.specs.Verdict.{verdict};
 ghost use Rattle.machine.specs.Public.{look_call};
