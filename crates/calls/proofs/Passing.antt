@@ -109,6 +109,7 @@ value_word T τ (ok (place a σ)) w g (a_place h) l e = absurd (g refl)
 value_word T τ (ok (value σ ws)) w g (a_value h) l e = ap ok (fit_same 1 ws (h ∙ l) ∙ one_word ws w (h ∙ l) e)
 value_word T τ (fail k) w g a_failure l e = no_word w k e
 value_word T τ stuck w g a_stuck l e = absurd (g refl)
+value_word T τ (ok (text _)) w g f l e = elim f [ ]
 
 -- ---- the argument by its parameter's mode
 
@@ -119,6 +120,7 @@ value-is T τ σ m page x (ok (place a ρ)) (a_place h) g = absurd (g refl)
 value-is T τ σ m page x (ok (value ρ ws)) (a_value h) g = value_passed T τ ρ ws h g
 value-is T τ σ m page x (fail k) a_failure g = refl
 value-is T τ σ m page x stuck a_stuck g = absurd (g refl)
+value-is T τ σ m page x (ok (text _)) f g = elim f [ ]
 
 text_is : (T : Table) (τ : ℕ) (m page : Memory) (x : machine.Context) (ws : List ℕ)
     → (value_argument T m page x τ (ok (text ws)) ≡ stuck → ⊥) → value_argument T m page x τ (ok (text ws)) ≡ ok (fit (words_of T τ) ws)

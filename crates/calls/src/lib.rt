@@ -5,7 +5,7 @@ pub mod procedures;
 pub mod processes;
 
 // The number of words that arguments have, where 257 is 'more than 256', or the failure of the step.
-#[derive(Drop)]
+#[derive(Clone, Copy)]
 pub enum Gathered {
     Count(usize),
     Fail(words::values::Failure),

@@ -20,7 +20,7 @@ use operands::Context;
 use operands::packed::FAILURES;
 
 // The first arm whose guard is not false, with its value, or its failure (from 65,536 on); or the end of the arms, with 0.
-#[derive(Drop)]
+#[derive(Clone, Copy)]
 struct ArmFound {
     at: usize,
     value: u32,

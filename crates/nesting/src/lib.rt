@@ -1,5 +1,7 @@
 // The rule of nesting, refusal 6 of the table's verdict: statements nest in the blocks as in the report's 4.2 and 11.6.
 // The functions of a body and of arms call each other: the stack is as deep as the statements nest.
+#![tactic(auto)]
+
 ghost use Rattle.std.specs.Prelude.{◌≡◌, ◌<◌};
 ghost use Rattle.code.specs.Code.{decoded};
 ghost use Rattle.nesting.specs.Nest.{class_of, closed, after_block, block_end, nested};
@@ -55,7 +57,7 @@ fn stmt_class(c: &code::Slots, i: usize) -> usize
 }
 
 // The number after the statement at i, or 0 where there is none.
-#[cycle(arm_end_arms_end_body_end_stmt_end)]
+#[cycle(nest)]
 fn stmt_end(c: &code::Slots, i: usize) -> usize
     ensures { StmtEnds (decoded c.now) i result }
 {
@@ -70,7 +72,7 @@ fn stmt_end(c: &code::Slots, i: usize) -> usize
 }
 
 // The number after the body that begins at i, or 0 where there is none.
-#[cycle(arm_end_arms_end_body_end_stmt_end)]
+#[cycle(nest)]
 fn body_end(c: &code::Slots, i: usize) -> usize
     ensures { BodyEnds (decoded c.now) i result }
 {
@@ -88,7 +90,7 @@ fn body_end(c: &code::Slots, i: usize) -> usize
 }
 
 // The number after the body of the arm at i, which is its link, or 0 where that is not so.
-#[cycle(arm_end_arms_end_body_end_stmt_end)]
+#[cycle(nest)]
 fn arm_end(c: &code::Slots, i: usize) -> usize
     ensures { ArmEnds (decoded c.now) i result }
 {
@@ -114,7 +116,7 @@ fn closing(c: &code::Slots, o: usize, j: usize) -> usize
 }
 
 // The number after the arms of opener o that begin at i, and their end; or 0 where that is not so.
-#[cycle(arm_end_arms_end_body_end_stmt_end)]
+#[cycle(nest)]
 fn arms_end(c: &code::Slots, o: usize, i: usize) -> usize
     ensures { ArmsEnds (decoded c.now) o i result }
 {

@@ -83,6 +83,7 @@ module _ (T : Table) (τ : ℕ) where
   unfolding on_place and_then placed
   of_on_place σ (ok (place a ρ)) g (a_place e) f = f a
   of_on_place σ (ok (value ρ ws)) g (a_value e) f = a_stuck
+  of_on_place σ (ok (text _)) g x f = elim x [ ]
   of_on_place σ (fail k) g a_failure f = a_failure
   of_on_place σ stuck g a_stuck f = a_stuck
 
@@ -90,6 +91,7 @@ module _ (T : Table) (τ : ℕ) where
   unfolding on_value and_then valued
   of_on_value σ (ok (place a ρ)) g (a_place e) f = a_stuck
   of_on_value σ (ok (value ρ ws)) g (a_value e) f = f ws
+  of_on_value σ (ok (text _)) g x f = elim x [ ]
   of_on_value σ (fail k) g a_failure f = a_failure
   of_on_value σ stuck g a_stuck f = a_stuck
 
@@ -97,6 +99,7 @@ module _ (T : Table) (τ : ℕ) where
   unfolding on_typed and_then typed_words
   of_on_typed σ (ok (place a ρ)) g (a_place e) f = a_stuck
   of_on_typed σ (ok (value ρ ws)) g (a_value e) f = f ws
+  of_on_typed σ (ok (text _)) g x f = elim x [ ]
   of_on_typed σ (fail k) g a_failure f = a_failure
   of_on_typed σ stuck g a_stuck f = a_stuck
 

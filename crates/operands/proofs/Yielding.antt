@@ -33,15 +33,18 @@ use Rattle.operands.proofs.Typed.{OfType, a_place, unary_cases}
 pub no_unstuck : {A : Type 0} (o : Outcome Operand) → o ≡ stuck → Unstuck o → A
 no_unstuck (ok x) e goes = let q : ◌≡◌ {A = ℕ} 0 1 = cc in absurd (omega arith)
 no_unstuck (fail k) e fails = let q : ◌≡◌ {A = ℕ} 0 1 = cc in absurd (omega arith)
+no_unstuck stuck e x = elim x [ ]
 
 need_is : (b : Bool) (o : Outcome Operand) → Unstuck (need b o) → need b o ≡ o
 unfolding need
 need_is true o h = refl
+need_is bool.false o h = elim h [ ]
 
 pub first_place : (o : Outcome Operand) (g : ℕ → ℕ → Outcome Operand) → Unstuck (on_place o g) → Unstuck o
 unfolding on_place and_then
 first_place (ok x) g h = goes
 first_place (fail k) g h = fails
+first_place stuck g h = elim h [ ]
 
 -- the words of a value of which the first is w
 pub record Gave (T : Table) (o : Outcome Operand) (τ w : ℕ) : Type 0 where

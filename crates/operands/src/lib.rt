@@ -5,14 +5,14 @@ pub mod packed;
 pub mod places;
 
 // A location, or the failure of the step.
-#[derive(Drop)]
+#[derive(Clone, Copy)]
 pub enum Place {
     At(usize),
     Fail(words::values::Failure),
 }
 
 // What the next statement of a process is, and which variables it can name (13).
-#[derive(Drop)]
+#[derive(Clone, Copy)]
 pub struct Context {
     pub process: usize,
     pub statement: usize,

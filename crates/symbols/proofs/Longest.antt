@@ -186,8 +186,8 @@ longest_found (u ∷ ss) l n =
     cases (begins_with u l)
     (λ b. cases (leb (longest ss l) (length u))
     (λ h. let g = leb-true (longest ss l) (length u) h in let m : max (length u) (longest ss l) ≡ length u = omega arith in rw (b, m, begins_take u l b, same_self u))
-    (λ h. let g = leb-false (longest ss l) (length u) h in let m : max (length u) (longest ss l) ≡ longest ss l = omega arith in rw (b, m) (either_any (same_bytes (take (longest ss l) l) u) (among (take (longest ss l) l) ss) (longest_found ss l (λ z. omega arith)))))
-    (λ b. let m : max 0 (longest ss l) ≡ longest ss l = omega arith in rw (b, m) (either_any (same_bytes (take (longest ss l) l) u) (among (take (longest ss l) l) ss) (longest_found ss l (λ z. n (rw b (omega arith))))))
+    (λ h. let g = leb-false (longest ss l) (length u) h in let m : max (length u) (longest ss l) ≡ longest ss l = omega arith in let k : longest (u ∷ ss) l ≡ longest ss l = rw (b, m) in subst (λ n. among (take n l) (u ∷ ss) ≡ true) (sym k) (either_any (same_bytes (take (longest ss l) l) u) (among (take (longest ss l) l) ss) (longest_found ss l (λ z. omega arith)))))
+    (λ b. let m : max 0 (longest ss l) ≡ longest ss l = omega arith in let k : longest (u ∷ ss) l ≡ longest ss l = rw (b, m) in subst (λ n. among (take n l) (u ∷ ss) ≡ true) (sym k) (either_any (same_bytes (take (longest ss l) l) u) (among (take (longest ss l) l) ss) (longest_found ss l (λ z. n (rw b (omega arith))))))
 
 -- ---- symbols of different sorts begin differently
 

@@ -8,7 +8,7 @@ ghost use Rattle.symbols.specs.Steps.{Stands, Past, PassesTo};
 use super::characters::in_comment;
 
 // A place, and its line from 1.
-#[derive(Drop)]
+#[derive(Clone, Copy)]
 pub struct Cursor {
     pub place: usize,
     pub line: usize,

@@ -7,14 +7,14 @@ ghost use Rattle.table.specs.Table.{table_at};
 ghost use Rattle.table.specs.Reading.{section_at, SectionsOf, ReadAnswer, Field};
 ghost use Rattle.table.specs.Parts.{argument_part, argument_in};
 
-#[derive(Drop)]
+#[derive(Clone, Copy)]
 pub struct Sections {
     pub w: usize,
     pub counts: [usize; 8],
     pub starts: [usize; 8],
 }
 
-#[derive(Drop)]
+#[derive(Clone, Copy)]
 pub enum Section {
     Whole {
         count: usize,
@@ -25,7 +25,7 @@ pub enum Section {
 }
 
 // Whether the bytes are whole sections, and then which. (An enum that holds arrays has no covered proof.)
-#[derive(Drop)]
+#[derive(Clone, Copy)]
 pub struct Read {
     pub found: bool,
     pub sections: Sections,

@@ -86,6 +86,7 @@ value_gave T τ (ok (place a σ)) f w g (a_place l) e = absurd (g refl)
 value_gave T τ (ok (value σ ws)) f w g (a_value l) e = record { words = ws; is = refl; first = cc; long = l }
 value_gave T τ (fail k) f w g a_failure e = no_word w k e
 value_gave T τ stuck f w g a_stuck e = absurd (g refl)
+value_gave T τ (ok (text _)) f w g h e = elim h [ ]
 
 -- an expression of any type, then something
 module _ {A : Type 0} (o : Outcome Operand) (f : NodeType → List ℕ → Outcome A) where
@@ -114,3 +115,4 @@ typed_gave T τ (ok (place a σ)) f w g (a_place l) e = absurd (g refl)
 typed_gave T τ (ok (value σ ws)) f w g (a_value l) e = record { words = ws; is = refl; first = cc; long = l }
 typed_gave T τ (fail k) f w g a_failure e = no_word w k e
 typed_gave T τ stuck f w g a_stuck e = absurd (g refl)
+typed_gave T τ (ok (text _)) f w g h e = elim h [ ]

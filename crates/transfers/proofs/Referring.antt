@@ -20,7 +20,7 @@ use Rattle.machine.specs.Memory.{Memory, memory_of}
 use Rattle.machine.specs.Layout.{module_at, created_at, locations}
 use Rattle.machine.specs.Marks.{marked}
 use Rattle.machine.specs.Context as machine
-use Rattle.machine.specs.Outcomes.{Outcome, ok, fail, stuck, and_then, need, fail_where, Operand, place, value, placed, on_place}
+use Rattle.machine.specs.Outcomes.{Outcome, ok, fail, stuck, and_then, need, fail_where, Operand, place, value, placed, on_place, text}
 use Rattle.machine.specs.Entries.{process_type, type_at}
 use Rattle.machine.specs.Variables.{fits}
 use Rattle.machine.specs.Operands.{operand}
@@ -75,11 +75,18 @@ module _ {T : Table} {τ : ℕ} where
   selected_cases (at_process {a} e k) f g = f a refl
   selected_cases (at_failure {k}) f g = g k refl
 
+  -- of any type σ, since the case at τ itself would be an equation of τ with τ
+  place_fits : {a σ : ℕ} → Selected T τ (ok (place a σ)) → fits T a τ ≡ true
+  place_fits (at_process e k) = e
+
+  place_kind : {a σ : ℕ} → Selected T τ (ok (place a σ)) → type_kind T τ ≡ 3
+  place_kind (at_process e k) = k
+
   pub selected_fits : {a : ℕ} → Selected T τ (ok (place a τ)) → fits T a τ ≡ true
-  selected_fits (at_process e k) = e
+  selected_fits h = place_fits h
 
   pub selected_kind : {a : ℕ} → Selected T τ (ok (place a τ)) → type_kind T τ ≡ 3
-  selected_kind (at_process e k) = k
+  selected_kind h = place_kind h
 
 module _ (T : Table) (τ : ℕ) {A : Type 0} (f : ℕ → ℕ → Outcome A) where
   pub process_at : (a : ℕ) → type_kind T τ ≡ 3 → on_process T (ok (place a τ)) f ≡ f a (type_p T τ)
@@ -103,6 +110,7 @@ module _ (T : Table) (τ : ℕ) {A : Type 0} (f : ℕ → ℕ → Outcome A) whe
   process_selected (ok (value σ ws)) (a_value e) g = absurd (g refl)
   process_selected (fail k) a_failure g = at_failure
   process_selected stuck a_stuck g = absurd (g refl)
+  process_selected (ok (text _)) f g = elim f [ ]
 
 -- ---- the laws of `reference`
 

@@ -5,7 +5,7 @@ pub mod devices;
 pub mod references;
 
 // The number of a process, or the failure of the step.
-#[derive(Drop)]
+#[derive(Clone, Copy)]
 pub enum Reference {
     To(usize),
     Fail(words::values::Failure),

@@ -64,7 +64,7 @@ fn chain_end(c: &code::Slots, sizes: &[u16], jumps: &[u16], x: usize, y: usize, 
 }
 
 // A part of type y begins at word k of a variable of type x.
-#[cycle(part_begins_part_of_element_part_of_field_part_of_fields)]
+#[cycle(part)]
 fn part_begins(c: &code::Slots, sizes: &[u16], jumps: &[u16], x: usize, y: usize, k: usize) -> bool
     requires { PartSearch (decoded c.now) sizes.now jumps.now }
     ensures { result ≡ part (decoded c.now) y x k }
@@ -83,7 +83,7 @@ fn part_begins(c: &code::Slots, sizes: &[u16], jumps: &[u16], x: usize, y: usize
     false
 }
 
-#[cycle(part_begins_part_of_element_part_of_field_part_of_fields)]
+#[cycle(part)]
 fn part_of_fields(
     c: &code::Slots,
     sizes: &[u16],
@@ -111,7 +111,7 @@ fn part_of_fields(
 }
 
 // The part begins in the field of type f that begins at word `at`.
-#[cycle(part_begins_part_of_element_part_of_field_part_of_fields)]
+#[cycle(part)]
 fn part_of_field(
     c: &code::Slots,
     sizes: &[u16],
@@ -138,7 +138,7 @@ fn part_of_field(
     false
 }
 
-#[cycle(part_begins_part_of_element_part_of_field_part_of_fields)]
+#[cycle(part)]
 fn part_of_element(
     c: &code::Slots,
     sizes: &[u16],

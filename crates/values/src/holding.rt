@@ -95,7 +95,7 @@ fn words_hold(c: &code::Slots, state: &[u8], h: usize, a: usize, n: usize) -> bo
 }
 
 // A value of type x stands at location a.
-#[cycle(elements_hold_fields_hold_value_holds)]
+#[cycle(hold)]
 pub fn value_holds(
     c: &code::Slots,
     sizes: &[u16],
@@ -122,7 +122,7 @@ pub fn value_holds(
     words_hold(c, state, h, a, words_of(c, sizes, x))
 }
 
-#[cycle(elements_hold_fields_hold_value_holds)]
+#[cycle(hold)]
 fn fields_hold(
     c: &code::Slots,
     sizes: &[u16],
@@ -154,7 +154,7 @@ fn fields_hold(
     true
 }
 
-#[cycle(elements_hold_fields_hold_value_holds)]
+#[cycle(hold)]
 fn elements_hold(
     c: &code::Slots,
     sizes: &[u16],

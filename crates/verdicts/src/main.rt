@@ -1,10 +1,13 @@
 // Compares verdicts with those of another checker. It reads verdicts.bin, records of a word L, L bytes of table and one byte, the
 // verdict, and prints for each verdict how many tables have it there, and how many of these get it here.
+#![tactic(auto)]
+
 ghost use Rattle.std.specs.Prelude.{◌≡◌, ◌+◌, ◌*◌, ◌<◌};
 ghost use Rattle.verdicts.specs.Tally.{one_more, counted, counted_if};
 ghost use Rattle.verdict.specs.Verdict.{verdict};
 
-use libc::STDOUT_FILENO;
+use std::io::{ErrorKind, Read};
+use std::{fs, io};
 
 fn one_more(n: u64) -> u64
     ensures { result ≡ one_more n }
@@ -40,68 +43,87 @@ fn compare(table: &[u8], v: u8, seen: &mut [u64; 10], agreed: &mut [u64; 10])
     }
 }
 
-// Reads the rest of a record, a table that fills the room and its verdict, and counts it; false where the file has no more.
-fn compare_rest(fd: i32, room: &mut [u8], seen: &mut [u64; 10], agreed: &mut [u64; 10]) -> bool {
-    let n = io::read_full(fd, room);
-    let mut last = [0u8; 1];
-    if io::read_full(fd, &mut last) < 1 {
-        return false;
+// Fills the room; false where the file ends before.
+fn fill(file: &mut impl Read, room: &mut [u8]) -> io::Result<bool> {
+    match file.read_exact(room) {
+        Ok(()) => Ok(true),
+        Err(e) if e.kind() == ErrorKind::UnexpectedEof => Ok(false),
+        Err(e) => Err(e),
     }
-    compare(&room[..n], last[0], seen, agreed);
-    true
+}
+
+// Reads the rest of a record, a table that fills the room and its verdict, and counts it; false where the file has no more.
+fn compare_rest(
+    file: &mut impl Read,
+    room: &mut [u8],
+    seen: &mut [u64; 10],
+    agreed: &mut [u64; 10],
+) -> io::Result<bool> {
+    if !fill(file, room)? {
+        return Ok(false);
+    }
+    let mut last = [0u8; 1];
+    if !fill(file, &mut last)? {
+        return Ok(false);
+    }
+    compare(room, last[0], seen, agreed);
+    Ok(true)
 }
 
 // Reads and counts one record; false where the file has no more.
-fn compare_next(fd: i32, seen: &mut [u64; 10], agreed: &mut [u64; 10]) -> bool {
+fn compare_next(
+    file: &mut impl Read,
+    seen: &mut [u64; 10],
+    agreed: &mut [u64; 10],
+) -> io::Result<bool> {
     let mut head = [0u8; 2];
-    if io::read_full(fd, &mut head) < 2 {
-        return false;
+    if !fill(file, &mut head)? {
+        return Ok(false);
     }
     let length = join(head[0], head[1]);
-    let mut room = io::large_buffer();
-    compare_rest(fd, &mut room[..length], seen, agreed)
+    let mut room = [0u8; 65536];
+    compare_rest(file, &mut room[..length], seen, agreed)
 }
 
-// A proved loop has to end, and nothing says that a file does: it counts down from a number that no run uses up.
-fn compare_all(fd: i32, seen: &mut [u64; 10], agreed: &mut [u64; 10]) {
-    let mut turns = u64::MAX;
-    while turns > 0 && compare_next(fd, seen, agreed) {
-        turns -= 1;
+// A proved loop has to end, and nothing says that a file does: it counts up to a number that no run reaches.
+fn compare_all(
+    file: &mut impl Read,
+    seen: &mut [u64; 10],
+    agreed: &mut [u64; 10],
+) -> io::Result<()> {
+    for _ in 0..u64::MAX {
+        if !compare_next(file, seen, agreed)? {
+            break;
+        }
     }
+    Ok(())
 }
 
-fn print_line(v: u64, seen: u64, agreed: u64) {
-    io::write_all(STDOUT_FILENO, b"verdict ");
-    io::print_decimal(STDOUT_FILENO, v);
-    io::write_all(STDOUT_FILENO, b": ");
-    io::print_decimal(STDOUT_FILENO, seen);
-    io::write_all(STDOUT_FILENO, b" tables, ");
-    io::print_decimal(STDOUT_FILENO, agreed);
-    io::write_all(STDOUT_FILENO, b" agree\n");
+fn print_line(rt: &impl Print, v: u64, seen: u64, agreed: u64) -> io::Result<()> {
+    println!(rt; "verdict {v}: {seen} tables, {agreed} agree")
 }
 
-fn print_all(seen: [u64; 10], agreed: [u64; 10]) {
-    print_line(0, seen[0], agreed[0]);
-    print_line(2, seen[2], agreed[2]);
-    print_line(3, seen[3], agreed[3]);
-    print_line(4, seen[4], agreed[4]);
-    print_line(5, seen[5], agreed[5]);
-    print_line(6, seen[6], agreed[6]);
-    print_line(7, seen[7], agreed[7]);
-    print_line(8, seen[8], agreed[8]);
-    print_line(9, seen[9], agreed[9]);
+fn print_all(rt: &impl Print, seen: [u64; 10], agreed: [u64; 10]) -> io::Result<()> {
+    print_line(rt, 0, seen[0], agreed[0])?;
+    print_line(rt, 2, seen[2], agreed[2])?;
+    print_line(rt, 3, seen[3], agreed[3])?;
+    print_line(rt, 4, seen[4], agreed[4])?;
+    print_line(rt, 5, seen[5], agreed[5])?;
+    print_line(rt, 6, seen[6], agreed[6])?;
+    print_line(rt, 7, seen[7], agreed[7])?;
+    print_line(rt, 8, seen[8], agreed[8])?;
+    print_line(rt, 9, seen[9], agreed[9])
 }
 
-fn main() {
-    let path = b"verdicts.bin";
-    let fd = os::open_read(path);
-    if fd < 0 {
-        os::fail(path);
-        return;
-    }
+// A file that cannot be opened is a line on standard error, and nothing else is printed.
+fn main(rt: HostRuntime) -> io::Result<()> {
+    let path = "verdicts.bin";
+    let mut file = match fs::open(&rt, path) {
+        Ok(file) => file,
+        Err(e) => return eprintln!(rt; "{path}: {e}"),
+    };
     let mut seen = [0u64; 10];
     let mut agreed = [0u64; 10];
-    compare_all(fd, &mut seen, &mut agreed);
-    libc::close(fd);
-    print_all(seen, agreed);
+    compare_all(&mut file, &mut seen, &mut agreed)?;
+    print_all(&rt, seen, agreed)
 }

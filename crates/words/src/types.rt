@@ -6,7 +6,7 @@ ghost use Rattle.words.specs.Types.{in_type, transfer_w};
 use super::numbers::{integer, is_between};
 use super::values::{Failure, Value};
 
-#[derive(Drop)]
+#[derive(Clone, Copy)]
 pub struct Integer {}
 
 impl Integer {
@@ -17,7 +17,7 @@ impl Integer {
     pub const HIGHEST: i32 = 32767;
 }
 
-#[derive(Drop)]
+#[derive(Clone, Copy)]
 pub struct Boolean {}
 
 impl Boolean {
@@ -28,7 +28,7 @@ impl Boolean {
     pub const HIGHEST: i32 = 1;
 }
 
-#[derive(Drop)]
+#[derive(Clone, Copy)]
 pub struct Character {}
 
 impl Character {

@@ -2,7 +2,7 @@
 ghost use Rattle.std.specs.Prelude.{◌≡◌};
 ghost use Rattle.words.specs.Values.{failure_number};
 
-#[derive(Drop)]
+#[derive(Clone, Copy)]
 pub enum Failure {
     ResultRange,
     DivisorZero,
@@ -16,7 +16,7 @@ pub enum Failure {
     Unset,
 }
 
-#[derive(Drop)]
+#[derive(Clone, Copy)]
 pub enum Value {
     Word(u16),
     Fail(Failure),

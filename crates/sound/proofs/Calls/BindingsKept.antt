@@ -33,7 +33,7 @@ use Rattle.machine.proofs.MarkLaws.{SameWords, same_words, same_marks, location_
 use Rattle.machine.proofs.Outcomes.{g_test, g_need, g_pick}
 use Rattle.verdict.specs.Accepted.{Accepted}
 use Rattle.sound.specs.Claims.{PlaceLaws}
-use Rattle.sound.specs.Ruled.{Framed, CallChain, called, Ruled}
+use Rattle.sound.specs.Ruled.{Framed, CallChain, bottom, called, Ruled}
 use Rattle.sound.specs.InUse.{Created, CallAt, innermost, caller}
 use Rattle.sound.specs.Bindings.{FrameWord, link, bound, BindingsKept}
 use Rattle.sound.proofs.Memory.ProcessRecords.{refers_some}
@@ -86,6 +86,7 @@ module _ (T : Table) (ok : Accepted T) (L : PlaceLaws T) (m : Memory) (p : ℕ) 
       let z = chain_over T m p r in
       let a = y.0 in
       (omega arith, y.1)
+  under_in d' f' j (bottom _) u x = elim u [ ]
   under_in d' f' j (called {top = top} h r) (next u) x =
       let y = under_in d' f' j r u x in
       let a = y.1 in
@@ -115,6 +116,7 @@ module _ (T : Table) (ok : Accepted T) (L : PlaceLaws T) (m : Memory) (p : ℕ) 
       either_case (both (leb (f + 4) k) (part_of_block T (called_block m p f) τ (k - (f + 4)))) (owns T m p d (caller_frame m p f) τ k) e
       (λ y. same_frame d f w c top τ k j h (leb-true (f + 4) k (both_l _ _ y)) (both_r _ _ y) x)
       (λ y. let a = (owns_in T ok L m p r τ k y).1 in let b = (word_in d f w c top j h x).0 in inr (omega arith))
+  own_apart d' f' j τ k (bottom _) e u x = elim u [ ]
   own_apart d' f' j τ k (called {d = d} {f = f} h r) e (next u) x =
       either_case (both (leb (f + 4) k) (part_of_block T (called_block m p f) τ (k - (f + 4)))) (owns T m p d (caller_frame m p f) τ k) e
       (λ y. let a = leb-true (f + 4) k (both_l _ _ y) in let b = (under_in d' f' j r u x).1 in inl (omega arith))
@@ -354,8 +356,8 @@ module _ (T : Table) (ok : Accepted T) (L : PlaceLaws T) (m : Memory) (h : Ruled
     performed_keeping : (o : Outcome Effect) → Performed T m page p o → Keeping o
     unfolding return
     performed_keeping _ (Performed.goes c y l) = keeps (k_record m p 2 c k_none)
-    performed_keeping _ (Performed.Holds-on c l) = keeps (k_record _ p 2 c (k_record m _ 6 p k_none))
-    performed_keeping _ (Performed.Gives-up y) = keeps (k_record m _ 6 0 k_none)
+    performed_keeping _ (Performed.holds-on c l) = keeps (k_record _ p 2 c (k_record m _ 6 p k_none))
+    performed_keeping _ (Performed.gives_up y) = keeps (k_record m _ 6 0 k_none)
     performed_keeping _ (Performed.assigns τ a ws y l live v w) = keeps (k_record _ p 2 _ (k_marks _ _ _ _ (k_live m τ a ws live v.long k_none)))
     performed_keeping _ (Performed.calls q ws i e P) = keeps (k_called m q _ ws P k_none)
     performed_keeping _ (Performed.serves r q ws i e s u P) = keeps (k_called _ q r ws P (k_record m r 6 p k_none))

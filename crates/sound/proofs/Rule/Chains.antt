@@ -116,7 +116,7 @@ module _ (T : Table) (m n : Memory) (cs : ProcessesStay m n) (p : ℕ) where
 module _ (T : Table) (L : PlaceLaws T) (m n : Memory) (cs : ProcessesStay m n) (p : ℕ) (some : 1 ≤ p) (made : p ≤ m created_at) where
   -- a value stays where its words stay
   pub value_same : (τ j : ℕ) → ((k : ℕ) → k < words_of T τ → n (location p (j + k)) ≡ m (location p (j + k))) → holds T m τ (location p j) ≡ true → holds T n τ (location p j) ≡ true
-  value_same τ j h e = L.Holds-same m n τ (location p j) (carries_keeps m n cs) (λ k l. rw (location_add p j k) (h k l)) e
+  value_same τ j h e = L.holds_same m n τ (location p j) (carries_keeps m n cs) (λ k l. rw (location_add p j k) (h k l)) e
 
   pub frame_same : {d f w c top q : ℕ} → Framed T m p d f w c top q → CallChain T m p d (caller_frame m p f) (caller_works m p f) (call_statement m p f) f → Same T m n cs p (module_words T (m (module_at p))) top → Framed T n p d f w c top q
   unfolding Same

@@ -271,7 +271,10 @@ module _ (w : ℕ) (t : List ℕ) where
       let second = P.second in
       let whole = P.whole in
       record {
-        results = (first.result-is ∙ sym whole.result-is, rw (first.state-is, first.page_is, whole.result-is, ← second.result-is) C.results);
+        results = (
+          first.result-is ∙ sym whole.result-is,
+          rw (first.state-is, first.page_is) (subst (λ n. AllReturn verdict w n P.s1 (in_turn verdict w t P.s1 P.d1 xs)) (second.result-is ∙ sym whole.result-is) C.results),
+        );
         state = state_cons _ _ _ _ first.state-is ∙ rw (first.state-is, first.page_is) (C.state ∙ second.state-is ∙ sym whole.state-is);
         page = page_cons _ _ _ _ _ _ first.state-is first.page_is ∙ rw (first.state-is, first.page_is) (C.page ∙ second.page_is ∙ sym whole.page_is);
         answers = rw (first.state-is, first.page_is, first.written_is, C.answers, second.written_is) (sym whole.written_is);

@@ -55,4 +55,4 @@ accepted_space T acc = record {
 
 -- THE THEOREM
 pub space_use : (w : ℕ) (t : List ℕ) → Bytes t → verdict w t ≡ 0 → SpaceUse (table_of w t)
-space-use w t b v = accepted_space (table_of w t) (promise w t v)
+space_use w t b v = accepted_space (table_of w t) (promise w t v)

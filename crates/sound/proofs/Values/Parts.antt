@@ -157,7 +157,7 @@ Part-trans T {τ} {j = j} q (in_element ρ i k e g p) =
     rw (add_assoc (i * words_of T (type_q T ρ)) k j) (in_element ρ i (k + j) e g (Part-trans T q p))
 
 -- a part of a variable that holds a value holds one
-pub Part-holds : (T : Table) (m : Memory) (a : ℕ) {τ σ k : ℕ} → Part T τ σ k → holds T m σ a ≡ true → holds T m τ (a + k) ≡ true
+pub Part-holds : (T : Table) (m : Memory) {τ : ℕ} (a : ℕ) {σ k : ℕ} → Part T τ σ k → holds T m σ a ≡ true → holds T m τ (a + k) ≡ true
 Part-holds T m a whole h = rw (add-zero a) h
 Part-holds T m a (in_field σ i k e g p) h =
     rw (← add_assoc a (offset_in T σ i) k) (Part-holds T m (a + offset_in T σ i) p (field_holds T m a σ e h i g).1)

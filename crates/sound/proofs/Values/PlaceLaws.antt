@@ -56,10 +56,10 @@ module _ (T : Table) (ok : Accepted T) (m n : Memory) (keeps : Keeps m n) where
   after : (σ a w p : ℕ) → p + w ≤ a → Else w p m n → holds T m σ a ≡ true → holds T n σ a ≡ true
   after σ a w p l e h = holds_moved T m n keeps σ a a (λ k g. e.above (a + k) (omega arith)) h
 
-  pub Part-stored : (a : ℕ) {τ σ k : ℕ} → σ < 3 + type_count T → Part T τ σ k → Else (words_of T τ) (a + k) m n
+  pub Part-stored : {τ : ℕ} (a : ℕ) {σ k : ℕ} → σ < 3 + type_count T → Part T τ σ k → Else (words_of T τ) (a + k) m n
       → holds T m σ a ≡ true → holds T n τ (a + k) ≡ true → holds T n σ a ≡ true
   Part-stored a l whole e h v = rw (add-zero a) at v
-  Part-stored a {τ} l (in_field σ i k t g p) e h v =
+  Part-stored {τ} a l (in_field σ i k t g p) e h v =
       let x : a + (offset_in T σ i + k) ≡ a + offset_in T σ i + k = omega arith in
       let s = Part-in T ok (let f = lower_field T ok σ l t i g in omega arith) p in
       record_holds T n a σ t (λ j d.
@@ -73,7 +73,7 @@ module _ (T : Table) (ok : Accepted T) (m n : Memory) (keeps : Keeps m n) where
             (λ r. after (field_at T σ j) (a + offset_in T σ j) _ _
             (omega (arith, field_apart T σ i j (lower_field T ok σ l t i g) (let u = ltb-false j i r in omega (arith, eqb-false j i q)))) e f.1)),
       ))
-  Part-stored a {τ} l (in_element σ i k t g p) e h v =
+  Part-stored {τ} a l (in_element σ i k t g p) e h v =
       let w = words_of T (type_q T σ) in
       let x : a + (i * w + k) ≡ a + i * w + k = omega arith in
       let c = lower_element T ok σ l t in

@@ -1,0 +1,11 @@
+use Prim.Native.Nat.{◌≤◌, ◌-◌}
+use Rattle.basics.specs.Loops.{Passed}
+use Rattle.code.specs.Code.{decoded}
+use Rattle.entries.specs.Tested.{node_known}
+use Rattle.entries.proofs.nodes_known.Given as goal
+
+abbrev pub invariant-loop-i : goal.invariant-loop-i
+invariant-loop-i l = (l.i ≤ l.n) × Passed (node_known (decoded l.c)) l.i
+
+abbrev pub decreases-loop-i : goal.decreases-loop-i
+decreases-loop-i l = l.n - l.i

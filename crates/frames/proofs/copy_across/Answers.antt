@@ -1,0 +1,18 @@
+use Prim.Native.Nat.{◌-◌}
+use Rattle.frames.proofs.Storing.{copies}
+use Rattle.frames.proofs.copy_across.Goals as goal
+
+pub loop-k-init : goal.loop-k-init
+loop-k-init c = search copies
+
+pub word_of-w-requires : goal.word_of-w-requires
+word_of-w-requires c = search copies
+
+pub set_word-requires : goal.set_word-requires
+set_word-requires c = search copies
+
+pub loop-k-preserved : goal.loop-k-preserved
+loop-k-preserved c = search copies
+
+pub returns : goal.returns
+returns c = search copies
