@@ -1,5 +1,6 @@
-#![tactic(auto)]
 // The archive that C links: the calls of joyce under their names in include/joyce.h, each with its clauses, since a library exports nothing to C.
+#![tactic(auto)]
+
 ghost use Rattle.std.specs.Prelude.{◌≡◌};
 ghost use Rattle.verdict.specs.Verdict.{verdict};
 ghost use Rattle.machine.specs.Public.{look_call};

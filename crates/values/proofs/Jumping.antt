@@ -16,7 +16,7 @@ use Rattle.types.specs.Match.{elements}
 use Rattle.sizes.specs.Sizes.{words_of}
 use Rattle.sizes.proofs.Counting.{offset_none}
 use Rattle.machine.specs.Values.{some_below, part}
-use Rattle.values.specs.Walks.{WordCount, field_begins, field_iBegins, fields_begin, element_begins}
+use Rattle.values.specs.Walks.{WordCount, field_begins, field_i_begins, fields_begin, element_begins}
 use Rattle.values.specs.Jumps.{Jump, Leads, LeadsAtWord, JumpWord, Jumps}
 use Rattle.values.proofs.Filling.{lookup-none, lookup_part}
 use Rattle.values.proofs.Heading.{first_field, only_words, array_size}
@@ -50,7 +50,7 @@ either_none false = refl
 
 module _ (T : Table) (σ f : ℕ) (e : type_kind T σ ≡ 1) (l : f < σ) (hf : f ≡ field_type T (type_p T σ)) (one : type_q T σ ≡ 1) where
   only_field : (τ k : ℕ) → τ ≤ f → k < words_of T σ → part T τ σ k ≡ part T τ f k
-  unfolding fields_begin field_iBegins field_begins some_below
+  unfolding fields_begin field_i_begins field_begins some_below
   only_field τ k x h =
       let w = only_words T σ f e l hf one in
       let g : k < 0 + words_of T f = omega arith in

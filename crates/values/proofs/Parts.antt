@@ -20,7 +20,7 @@ use Rattle.machine.specs.Entries.{TypeEntry, type_at}
 use Rattle.machine.specs.Variables.{var_words, first_words, offset_of}
 use Rattle.machine.specs.Values.{some_below, nowhere, part_in, part_at, part, part_of_variable, part_of_block}
 use Rattle.machine.proofs.Courses.{below, part_is}
-use Rattle.values.specs.Walks.{WordCount, Sought, field_begins, field_iBegins, fields_begin, element_begins, variable_begins, variable_iBegins}
+use Rattle.values.specs.Walks.{WordCount, Sought, field_begins, field_i_begins, fields_begin, element_begins, variable_begins, variable_i_begins}
 use Rattle.values.proofs.Values.{type_record, type_array, type_process, type_simple, simple_at, below_at}
 
 -- ---- searches
@@ -91,7 +91,7 @@ module _ (T : Table) (τ σ k : ℕ) where
   at_part = ap (λ (f : ℕ → Bool). f k) (part_is T τ σ)
 
   pub in_record : type_kind T σ ≡ 1 → part_in T σ (below nowhere σ (part T τ)) (type_at T σ) k ≡ fields_begin T τ σ k
-  unfolding part_in fields_begin field_iBegins field_begins
+  unfolding part_in fields_begin field_i_begins field_begins
   in_record e =
       ap (λ (x : TypeEntry). part_in T σ (below nowhere σ (part T τ)) x k) (type_record T σ e)
       ∙ some_same (type_q T σ) _ _ (λ i.
@@ -154,26 +154,26 @@ module _ (T : Table) (τ σ k : ℕ) where
       f_within r g e = rw (lt-ltb ρ σ l) (part_within a (words_of T ρ) k _ r h (rw hw at g) e)
 
   -- the fields one after the other
-  pub fields_sought : Sought (offset_in T σ) (field_iBegins T τ σ k) 0 0
-  fields_sought = sought_none (offset_in T σ) (field_iBegins T τ σ k) (offset_none T σ)
+  pub fields_sought : Sought (offset_in T σ) (field_i_begins T τ σ k) 0 0
+  fields_sought = sought_none (offset_in T σ) (field_i_begins T τ σ k) (offset_none T σ)
 
-  module _ (i a first f : ℕ) (h : Sought (offset_in T σ) (field_iBegins T τ σ k) i a) (hp : first ≡ type_p T σ) (hf : f ≡ field_type T (first + i)) where
-    field-i : (r : Bool) → r ≡ field_begins T τ σ k f a → r ≡ field_iBegins T τ σ k i
-    unfolding field_iBegins
+  module _ (i a first f : ℕ) (h : Sought (offset_in T σ) (field_i_begins T τ σ k) i a) (hp : first ≡ type_p T σ) (hf : f ≡ field_type T (first + i)) where
+    field-i : (r : Bool) → r ≡ field_begins T τ σ k f a → r ≡ field_i_begins T τ σ k i
+    unfolding field_i_begins
     field-i r e = rw (← hp, ← hf, ← h.is) e
 
-    pub fields_next : (r : Bool) (w : ℕ) → r ≡ field_begins T τ σ k f a → r ≡ false → WordCount (part_words T σ f) w → Sought (offset_in T σ) (field_iBegins T τ σ k) (i + 1) (a + w)
+    pub fields_next : (r : Bool) (w : ℕ) → r ≡ field_begins T τ σ k f a → r ≡ false → WordCount (part_words T σ f) w → Sought (offset_in T σ) (field_i_begins T τ σ k) (i + 1) (a + w)
     fields_next r w e g x =
-        sought_more (offset_in T σ) (field_iBegins T τ σ k) i a h r (field-i r e) w g x.small
+        sought_more (offset_in T σ) (field_i_begins T τ σ k) i a h r (field-i r e) w g x.small
         (offset_more T σ i ∙ rw (← hp, ← hf, ← x.is))
 
     pub fields_found : (r : Bool) (n : ℕ) → r ≡ field_begins T τ σ k f a → n ≡ type_q T σ → i < n → r ≡ true → true ≡ fields_begin T τ σ k
     unfolding fields_begin
-    fields_found r n e q l g = sought_found (offset_in T σ) (field_iBegins T τ σ k) i a h r (field-i r e) (type_q T σ) (rw q at l) g
+    fields_found r n e q l g = sought_found (offset_in T σ) (field_i_begins T τ σ k) i a h r (field-i r e) (type_q T σ) (rw q at l) g
 
-  pub fields_none_found : (i a n : ℕ) → Sought (offset_in T σ) (field_iBegins T τ σ k) i a → n ≡ type_q T σ → i ≤ n → n ≤ i → false ≡ fields_begin T τ σ k
+  pub fields_none_found : (i a n : ℕ) → Sought (offset_in T σ) (field_i_begins T τ σ k) i a → n ≡ type_q T σ → i ≤ n → n ≤ i → false ≡ fields_begin T τ σ k
   unfolding fields_begin
-  fields_none_found i a n h q l g = sought_all (offset_in T σ) (field_iBegins T τ σ k) i a (type_q T σ) h (rw q at l) (rw q at g)
+  fields_none_found i a n h q l g = sought_all (offset_in T σ) (field_i_begins T τ σ k) i a (type_q T σ) h (rw q at l) (rw q at g)
 
   -- the element
   module _ (q : ℕ) (hq : q ≡ type_q T σ) where
@@ -250,28 +250,28 @@ unfolding offset_of
 offset_first T b i = let e : first_var T b + i - first_var T b ≡ i = omega arith in rw e
 
 module _ (T : Table) (b τ k : ℕ) where
-  block_searches : some_below (vars T b) (variable_iBegins T b τ k) ≡ part_of_block T b τ k
-  unfolding part_of_block part_of_variable variable_iBegins variable_begins
+  block_searches : some_below (vars T b) (variable_i_begins T b τ k) ≡ part_of_block T b τ k
+  unfolding part_of_block part_of_variable variable_i_begins variable_begins
   block_searches = some_same (vars T b) _ _ (λ i. rw (offset_first T b i))
 
-  pub variables_sought : Sought (first_words T b) (variable_iBegins T b τ k) 0 0
-  variables_sought = sought_none (first_words T b) (variable_iBegins T b τ k) (first-none T b)
+  pub variables_sought : Sought (first_words T b) (variable_i_begins T b τ k) 0 0
+  variables_sought = sought_none (first_words T b) (variable_i_begins T b τ k) (first-none T b)
 
-  module _ (i a first : ℕ) (h : Sought (first_words T b) (variable_iBegins T b τ k) i a) (hp : first ≡ first_var T b) (r : Bool) (e : r ≡ variable_begins T τ k (first + i) a) where
-    variable_i : r ≡ variable_iBegins T b τ k i
-    unfolding variable_iBegins
+  module _ (i a first : ℕ) (h : Sought (first_words T b) (variable_i_begins T b τ k) i a) (hp : first ≡ first_var T b) (r : Bool) (e : r ≡ variable_begins T τ k (first + i) a) where
+    variable_i : r ≡ variable_i_begins T b τ k i
+    unfolding variable_i_begins
     variable_i = rw (← hp, ← h.is) e
 
-    pub variables_next : (w : ℕ) → r ≡ false → WordCount (var_words T (first + i)) w → Sought (first_words T b) (variable_iBegins T b τ k) (i + 1) (a + w)
+    pub variables_next : (w : ℕ) → r ≡ false → WordCount (var_words T (first + i)) w → Sought (first_words T b) (variable_i_begins T b τ k) (i + 1) (a + w)
     variables_next w g x =
-        sought_more (first_words T b) (variable_iBegins T b τ k) i a h r variable_i w g x.small
+        sought_more (first_words T b) (variable_i_begins T b τ k) i a h r variable_i w g x.small
         (first_more T b i ∙ rw (← hp, ← x.is))
 
     pub variables_found : (n : ℕ) → n ≡ vars T b → i < n → r ≡ true → true ≡ part_of_block T b τ k
-    variables_found n q l g = rw (← block_searches) (sought_found (first_words T b) (variable_iBegins T b τ k) i a h r variable_i (vars T b) (rw q at l) g)
+    variables_found n q l g = rw (← block_searches) (sought_found (first_words T b) (variable_i_begins T b τ k) i a h r variable_i (vars T b) (rw q at l) g)
 
-  pub variables_none_found : (i a n : ℕ) → Sought (first_words T b) (variable_iBegins T b τ k) i a → n ≡ vars T b → i ≤ n → n ≤ i → false ≡ part_of_block T b τ k
-  variables_none_found i a n h q l g = rw (← block_searches) (sought_all (first_words T b) (variable_iBegins T b τ k) i a (vars T b) h (rw q at l) (rw q at g))
+  pub variables_none_found : (i a n : ℕ) → Sought (first_words T b) (variable_i_begins T b τ k) i a → n ≡ vars T b → i ≤ n → n ≤ i → false ≡ part_of_block T b τ k
+  variables_none_found i a n h q l g = rw (← block_searches) (sought_all (first_words T b) (variable_i_begins T b τ k) i a (vars T b) h (rw q at l) (rw q at g))
 
 pub ruleset variablesearches = (variables_sought, variables_next, variables_found, variables_none_found)
 

@@ -91,11 +91,11 @@ module _ (T : Table) (τ σ k : ℕ) where
   unfoldable pub field_begins : ℕ → ℕ → Bool
   field_begins ρ a = pick (ltb ρ σ) (both (within a (words_of T ρ) k) (part T τ ρ (k - a))) false
 
-  unfoldable pub field_iBegins : ℕ → Bool
-  field_iBegins i = field_begins (field_type T (type_p T σ + i)) (offset_in T σ i)
+  unfoldable pub field_i_begins : ℕ → Bool
+  field_i_begins i = field_begins (field_type T (type_p T σ + i)) (offset_in T σ i)
 
   unfoldable pub fields_begin : Bool
-  fields_begin = some_below (type_q T σ) field_iBegins
+  fields_begin = some_below (type_q T σ) field_i_begins
 
   unfoldable pub element_begins : Bool
   element_begins =
@@ -108,5 +108,5 @@ unfoldable pub variable_begins : Table → ℕ → ℕ → ℕ → ℕ → Bool
 variable_begins T τ k v a =
     both (within a (var_words T v) k) (pick (eqb (var_mode T v) 2) false (part T τ (var_type T v) (k - a)))
 
-unfoldable pub variable_iBegins : Table → ℕ → ℕ → ℕ → ℕ → Bool
-variable_iBegins T b τ k i = variable_begins T τ k (first_var T b + i) (first_words T b i)
+unfoldable pub variable_i_begins : Table → ℕ → ℕ → ℕ → ℕ → Bool
+variable_i_begins T b τ k i = variable_begins T τ k (first_var T b + i) (first_words T b i)

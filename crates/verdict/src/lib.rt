@@ -103,7 +103,7 @@ fn judge(
 
 // A verdict; of a table that is accepted also the types of its nodes and the words of its types. They are found in arrays of the check's own,
 // which no lent slot can overlap, and handed back whole.
-#[derive(Drop)]
+#[derive(Clone, Copy)]
 pub struct Judgement {
     pub verdict: u32,
     pub types: [u16; 256],
