@@ -2,4 +2,5 @@
 pub mod LivePlaces
 pub mod WholeVariables
 pub mod LiveParts
+pub mod PartsApart
 pub mod LivePlacesApart
