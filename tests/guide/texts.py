@@ -62,7 +62,7 @@ for sort, name, body in re.findall(r"^```(text|symbols|splits)(?: (\w+))?\n(.*?)
         split_blocks += 1
         wrong = split_lines(body)
         report(f"splits_{split_blocks}", "; ".join(wrong) or None)
-for kind, name in [("special", "specialSymbols"), ("word", "wordSymbols")]:
+for kind, name in [("special", "special_symbols"), ("word", "word_symbols")]:
     listed, pairs = re.search(rf"^\| \d \| {kind} \| `(.*?)` \|$", page, re.M)[1].split(), vocabulary(name)
     wrong = [pair for pair in pairs if pair[0] != pair[1]] or set(listed) ^ {symbol for symbol, _ in pairs} or len(listed) - len(pairs)
     report(f"each_{kind}", f"the definition's numbers, its comments and the guide differ: {wrong}" if wrong else None)
