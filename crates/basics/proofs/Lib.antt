@@ -6,3 +6,4 @@ pub mod Chains
 pub mod Takes
 pub mod Holding
 pub mod Marking
+pub mod Ranges

@@ -1,5 +1,5 @@
 // What every crate's definitions and laws share, in specs/ and proofs/; and the marks that count occurrences.
-#![tactic(auto)]
+#![tactic(auto, unfolding(crate::specs::Choice::both, crate::specs::Choice::between, crate::specs::Loops::with_mark))]
 
 ghost use Rattle.std.specs.Prelude.{◌≡◌};
 ghost use Rattle.basics.specs.Choice.{between};
@@ -9,20 +9,14 @@ ghost use Rattle.basics.specs.Loops.{with_mark};
 pub fn between(a: usize, b: usize, x: usize) -> bool
     ensures { result ≡ between a b x }
 {
-    if a <= x {
-        return x <= b;
-    }
-    false
+    a <= x && x <= b
 }
 
 // Notes one more occurrence of x, up to two.
 pub fn mark(seen: &mut [u8], x: usize)
     ensures { seen.new ≡ with_mark x seen.old }
 {
-    if x < seen.len() {
-        let m = seen[x];
-        if m < 2 {
-            seen[x] = m + 1;
-        }
+    if x < seen.len() && seen[x] < 2 {
+        seen[x] += 1;
     }
 }

@@ -1,4 +1,5 @@
-// The standard types and the kinds of entries by name (01, The table).
+// The standard types and the kinds of entries by name (01, The table). Numbers and no enum: a table may hold any number as a kind, and the
+// contracts are equations over every table.
 
 // The standard types: their numbers, which come before those of the declared ones, and how many they are.
 pub const INTEGER: usize = 0;

@@ -1,4 +1,4 @@
-// The operators by name (01, The table).
+// The operators by name (01, The table). Numbers, as the kinds are.
 
 // Of one operand.
 pub const MINUS: usize = 1;

@@ -15,58 +15,44 @@ module _ (T : Table) (h : known T ≡ true) where
   rows = sym (known_tested T) ∙ h
 
   declarations : declarations_known T ≡ true
-  unfolding tested
   declarations = both_l _ _ rows
 
   types : (i : ℕ) → i < type_count T → type_known T i ≡ true
-  unfolding declarations_known
   types i l = all-at _ (type_known T) (both_l _ _ declarations) i l
 
   vars : (i : ℕ) → i < var_count T → var_known T i ≡ true
-  unfolding declarations_known
   vars i l = all-at _ (var_known T) (both_l _ _ (both_r _ _ declarations)) i l
 
   blocks : (i : ℕ) → i < block_count T → block_known T i ≡ true
-  unfolding declarations_known
   blocks i l = all-at _ (block_known T) (both_r _ _ (both_r _ _ declarations)) i l
 
   nodes : (i : ℕ) → i < node_count T → node_known T i ≡ true
-  unfolding tested
   nodes i l = all-at _ (node_known T) (both_l _ _ (both_r _ _ rows)) i l
 
   stmts : (i : ℕ) → i < stmt_count T → stmt_known T i ≡ true
-  unfolding tested
   stmts i l = all-at _ (stmt_known T) (both_r _ _ (both_r _ _ rows)) i l
 
   -- THE PROMISE
   pub type-kind : (i : ℕ) → i < type_count T → (1 ≤ type_kind T (3 + i)) × (type_kind T (3 + i) ≤ 3)
-  unfolding type_known
   type-kind i l = between_true 1 3 (type_kind T (3 + i)) (both_l _ _ (types i l))
 
   pub var-mode : (i : ℕ) → i < var_count T → var_mode T i ≤ 2
-  unfolding var_known
   var-mode i l = leb-true (var_mode T i) 2 (vars i l)
 
   pub block-kind : (i : ℕ) → i < block_count T → block_kind T i ≤ 2
-  unfolding block_known
   block-kind i l = leb-true (block_kind T i) 2 (blocks i l)
 
   pub node-kind : (i : ℕ) → i < node_count T → node_kind T i ≤ 8
-  unfolding node_known
   node-kind i l = leb-true (node_kind T i) 8 (both_l _ _ (nodes i l))
 
   operators : (i : ℕ) → i < node_count T → operator_known T i ≡ true
-  unfolding node_known
   operators i l = both_r _ _ (both_r _ _ (both_r _ _ (nodes i l)))
 
   pub unary_operator : (i : ℕ) → i < node_count T → node_kind T i ≡ 5 → (1 ≤ node_q T i) × (node_q T i ≤ 3)
-  unfolding operator_known
   unary_operator i l e = between_true 1 3 (node_q T i) (rw e at (operators i l))
 
   pub binary_operator : (i : ℕ) → i < node_count T → node_kind T i ≡ 6 → (1 ≤ node_v T i) × (node_v T i ≤ 13)
-  unfolding operator_known
   binary_operator i l e = between_true 1 13 (node_v T i) (rw e at (operators i l))
 
   pub stmt-kind : (i : ℕ) → i < stmt_count T → stmt_kind T i ≤ 13
-  unfolding stmt_known
   stmt-kind i l = leb-true (stmt_kind T i) 13 (both_l _ _ (stmts i l))

@@ -13,7 +13,7 @@ use Rattle.table.specs.Kinds.{rows, row_of, held, each_field}
 use Rattle.table.proofs.EachKind.{type_kinds, node_kinds, stmt_kinds}
 use Rattle.table.proofs.EachField.{alone, all_four, all_five, all_six, all_first, all_seven, all_same, declared_is}
 use Rattle.entries.specs.Known.{field_known, entry_known, section_known, known}
-use Rattle.entries.specs.Tested.{spare, type_known, var_known, block_known, uses_q, uses_v, operator_known, node_known, uses_a, uses_b, uses_args, uses_link, operands_known, args_known, stmt_known, declarations_known, tested}
+use Rattle.entries.specs.Tested.{type_known, var_known, block_known, node_known, stmt_known, tested}
 
 -- conjunctions in another order
 turned : (a b : Bool) → both a (both b true) ≡ both b a
@@ -42,7 +42,7 @@ module _ (T : Table) (i : ℕ) where
   type_fields = all_five (test 0)
 
   type_row : (k : ℕ) → T.cell 0 i 0 ≡ k → entry_known T 0 i ≡ type_known T i
-  unfolding entry_known test held row_of rows field_known both type_known spare between
+  unfolding entry_known test held row_of rows field_known both between
   type_row =
       type_kinds (λ k. T.cell 0 i 0 ≡ k → entry_known T 0 i ≡ type_known T i)
       (λ e. rw (declared_is T i 0, e))
@@ -53,11 +53,11 @@ module _ (T : Table) (i : ℕ) where
 
   -- variables and blocks
   var_row : entry_known T 2 i ≡ var_known T i
-  unfolding entry_known each_field all_below held row_of rows field_known both between var_known
+  unfolding entry_known each_field all_below held row_of rows field_known both between
   var_row = rw (le-leb 0 (var_mode T i) (omega arith)) (alone (leb (var_mode T i) 2))
 
   block_row : entry_known T 3 i ≡ block_known T i
-  unfolding entry_known each_field all_below held row_of rows field_known both between block_known
+  unfolding entry_known each_field all_below held row_of rows field_known both between
   block_row = rw (le-leb 0 (block_kind T i) (omega arith)) (alone (leb (block_kind T i) 2))
 
   -- nodes
@@ -66,7 +66,7 @@ module _ (T : Table) (i : ℕ) where
   node_fields = all_four (test 5)
 
   node_row : (k : ℕ) → node_kind T i ≡ k → entry_known T 5 i ≡ node_known T i
-  unfolding entry_known test held row_of rows field_known both node_known spare uses_q uses_v operator_known between
+  unfolding entry_known test held row_of rows field_known both between
   node_row =
       node_kinds (λ k. node_kind T i ≡ k → entry_known T 5 i ≡ node_known T i)
       (λ e. rw (node_fields, e)) (λ e. rw (node_fields, e)) (λ e. rw (node_fields, e)) (λ e. rw (node_fields, e)) (λ e. rw (node_fields, e))
@@ -82,7 +82,7 @@ module _ (T : Table) (i : ℕ) where
   stmt_fields = all_six (test 6) ∙ ap (both (test 6 0)) (grouped (test 6 1) (test 6 2) (test 6 3) (test 6 4) (test 6 5))
 
   stmt_row : (k : ℕ) → stmt_kind T i ≡ k → entry_known T 6 i ≡ stmt_known T i
-  unfolding entry_known test held row_of rows field_known both stmt_known operands_known args_known spare uses_a uses_b uses_args uses_link between
+  unfolding entry_known test held row_of rows field_known both between
   stmt_row =
       stmt_kinds (λ k. stmt_kind T i ≡ k → entry_known T 6 i ≡ stmt_known T i)
       (λ e. rw (stmt_fields, e)) (λ e. rw (stmt_fields, e)) (λ e. rw (stmt_fields, e)) (λ e. rw (stmt_fields, e)) (λ e. rw (stmt_fields, e))
@@ -118,7 +118,7 @@ module _ (T : Table) where
   free_character i = refl
 
   pub known_tested : known T ≡ tested T
-  unfolding known tested declarations_known section_known
+  unfolding known section_known
   known_tested =
       all_first 7 (section_known T)
       ∙ ap (both (section_known T 0)) (all_seven (λ k. section_known T (suc k)))

@@ -1,5 +1,4 @@
 pub mod Rows
-pub mod Fields
 pub mod Taking
 pub mod Marks
 pub mod Parts

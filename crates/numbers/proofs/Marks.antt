@@ -4,7 +4,7 @@ use mathlib.Core.Path.{◌≡◌, ap, ◌∙◌}
 use mathlib.Core.List.{List}
 use lib.ListN.{length, get_or, replicate, length-replicate, get_or-replicate}
 use lib.Dec.{eqb, leb}
-use borrow.Author.Tests.{ne_eqb, leb-true, leb-false, le-leb, lt-leb}
+use borrow.Author.Tests.{leb-true, leb-false, le-leb, lt-leb}
 use native.Mathlib.Omega.{arith}
 use Rattle.basics.specs.Cases.{cases}
 use Rattle.basics.specs.Marks.{occurs, gather}
@@ -14,15 +14,6 @@ use Rattle.table.specs.Table.{Table}
 use Rattle.table.specs.Entries.{type_kind, type_p, type_count, block_count}
 use Rattle.numbers.specs.Declarations.{module_of, named_modules, named_once}
 use Rattle.numbers.specs.Marking.{Clear, ModuleMarks, module_marked}
-
-module _ (T : Table) (i k : ℕ) (hk : k ≡ type_kind T (3 + i)) (l : List ℕ) where
-  pub mark_it : (p : ℕ) (r : List ℕ) → k ≡ 3 → p ≡ type_p T (3 + i) → r ≡ with_mark p l → r ≡ module_marked T i l
-  unfolding module_marked
-  mark_it p r e g h = rw (← hk, e, ← g) h
-
-  pub mark_not : (k ≡ 3 → ⊥) → l ≡ module_marked T i l
-  unfolding module_marked
-  mark_not e = rw (← hk, ne_eqb k 3 e)
 
 -- an array of zeros that is long enough
 pub clear_zeros : (T : Table) (n : ℕ) → block_count T ≤ n → Clear T (replicate n 0)
@@ -74,4 +65,4 @@ module _ (T : Table) (l : List ℕ) (h : ModuleMarks T (type_count T) l) (b : �
       (λ q. rw q (le-leb (get_or l b 0) 1 (omega (arith, e, leb-true (occurs b (gather (module_of T) (type_count T))) 1 q))))
       (λ q. rw q (lt-leb (get_or l b 0) 1 (omega (arith, e, leb-false (occurs b (gather (module_of T) (type_count T))) 1 q))))
 
-pub ruleset marking = (mark_it, mark_not, named_none, named_more, named_all, long_more, mark_room, mark_once)
+pub ruleset marking = (named_none, named_more, named_all, long_more, mark_room)

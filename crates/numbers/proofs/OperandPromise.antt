@@ -15,20 +15,20 @@ use Rattle.types.specs.Types.{type_of}
 use Rattle.table.specs.Kinds.{variable_kind, expression_kind, names, rows, row_of, held, is_call}
 use Rattle.numbers.specs.Nodes.{Variable, Expression}
 use Rattle.numbers.specs.Operands.{place_ranged, call_first, call_count, arguments_taken, is_string_node, string_first, string_count, characters_taken}
-use Rattle.numbers.specs.Tested.{variable_below, expression_below, p_ranged, q_ranged, node_tested, a_variable, a_expression, a_block, a_ranged, b_expression, b_ranged, link_ranged, stmt_tested}
+use Rattle.numbers.specs.Tested.{variable_below, expression_below, p_ranged, q_ranged, a_variable, a_expression, a_block, a_ranged, b_expression, b_ranged, link_ranged}
 use Rattle.numbers.specs.Ranges.{in_range}
 use Rattle.numbers.proofs.Parts.{arguments-taken, characters-taken, arg_row, node_row, stmt_row}
 use Rattle.numbers.proofs.TypePromise.{block_there}
 
 module _ (T : Table) (m n : ℕ) where
   pub variable_node : variable_below T m n ≡ true → Variable T m n
-  unfolding variable_below variable_kind
+  unfolding variable_kind
   variable_node e =
       let k = between_true 1 3 (node_kind T n) (both_r _ _ e) in
       record { below = ltb-true n m (both_l _ _ e); low = k.0; high = k.1 }
 
   pub expression_node : expression_below T m n ≡ true → Expression T m n
-  unfolding expression_below expression_kind
+  unfolding expression_kind
   expression_node e =
       let g = both_r _ _ e in
       cases (eqb (node_kind T n) 0)
@@ -46,63 +46,49 @@ module _ (T : Table) (h : in_range T ≡ true) where
   -- nodes
   module _ (n : ℕ) (l : n < node_count T) where
     p_row : p_ranged T n ≡ true
-    unfolding node_tested
     p_row = both_l _ _ (node_row T h n l)
 
     q_row : q_ranged T n ≡ true
-    unfolding node_tested
     q_row = both_r _ _ (node_row T h n l)
 
     pub constant_type : node_kind T n ≡ 0 → node_p T n ≤ 2
-    unfolding p_ranged
     constant_type e = leb-true (node_p T n) 2 (rw e at p_row)
 
     pub whole_variable : node_kind T n ≡ 1 → node_p T n < var_count T
-    unfolding p_ranged
     whole_variable e = ltb-true (node_p T n) (var_count T) (rw e at p_row)
 
     pub field_variable : node_kind T n ≡ 2 → Variable T n (node_p T n)
-    unfolding p_ranged
     field_variable e = variable_node T n (node_p T n) (rw e at p_row)
 
     pub element_variable : node_kind T n ≡ 3 → Variable T n (node_p T n)
-    unfolding p_ranged
     element_variable e = variable_node T n (node_p T n) (rw e at p_row)
 
     pub value_variable : node_kind T n ≡ 4 → Variable T n (node_p T n)
-    unfolding p_ranged
     value_variable e = variable_node T n (node_p T n) (rw e at p_row)
 
     pub unary_operand : node_kind T n ≡ 5 → Expression T n (node_p T n)
-    unfolding p_ranged
     unary_operand e = expression_node T n (node_p T n) (rw e at p_row)
 
     pub binary_left : node_kind T n ≡ 6 → Expression T n (node_p T n)
-    unfolding p_ranged
     binary_left e = expression_node T n (node_p T n) (rw e at p_row)
 
     pub transfer_operand : node_kind T n ≡ 7 → Expression T n (node_p T n)
-    unfolding p_ranged
     transfer_operand e = expression_node T n (node_p T n) (rw e at p_row)
 
     pub field-place : node_kind T n ≡ 2 → type_kind T (type_of T (node_p T n)) ≡ 1 → node_q T n < type_q T (type_of T (node_p T n))
-    unfolding q_ranged place_ranged
+    unfolding place_ranged
     field-place e r = ltb-true (node_q T n) (type_q T (type_of T (node_p T n))) (rw r at (rw e at q_row))
 
     pub element-index : node_kind T n ≡ 3 → Expression T n (node_q T n)
-    unfolding q_ranged
     element-index e = expression_node T n (node_q T n) (rw e at q_row)
 
     pub binary_right : node_kind T n ≡ 6 → Expression T n (node_q T n)
-    unfolding q_ranged
     binary_right e = expression_node T n (node_q T n) (rw e at q_row)
 
     pub transfer_type : node_kind T n ≡ 7 → node_q T n ≤ 2
-    unfolding q_ranged
     transfer_type e = leb-true (node_q T n) 2 (rw e at q_row)
 
     pub string_length : node_kind T n ≡ 8 → (1 ≤ node_q T n) × (node_q T n ≤ 255)
-    unfolding q_ranged
     string_length e = between_true 1 255 (node_q T n) (rw e at q_row)
 
     -- the characters of a string
@@ -113,83 +99,72 @@ module _ (T : Table) (h : in_range T ≡ true) where
   -- statements
   module _ (i : ℕ) (l : i < stmt_count T) where
     a_row : a_ranged T i ≡ true
-    unfolding stmt_tested
     a_row = both_l _ _ (stmt_row T h i l)
 
     b_row : b_ranged T i ≡ true
-    unfolding stmt_tested
     b_row = both_l _ _ (both_r _ _ (stmt_row T h i l))
 
     link_row : link_ranged T i ≡ true
-    unfolding stmt_tested
     link_row = both_r _ _ (both_r _ _ (stmt_row T h i l))
 
     a-variable : (k : ℕ) → stmt_kind T i ≡ k → a_variable k ≡ true → Variable T (node_count T) (stmt_a T i)
-    unfolding a_ranged
     a-variable k e v = variable_node T (node_count T) (stmt_a T i) (rw (e, v) at a_row)
 
     a-expression : (k : ℕ) → stmt_kind T i ≡ k → a_variable k ≡ false → a_expression k ≡ true → Expression T (node_count T) (stmt_a T i)
-    unfolding a_ranged
     a-expression k e v w = expression_node T (node_count T) (stmt_a T i) (rw (e, v, w) at a_row)
 
     a-block : (k : ℕ) → stmt_kind T i ≡ k → a_variable k ≡ false → a_expression k ≡ false → a_block T i ≡ true
-    unfolding a_ranged
-    a-block k e v w = rw (e, v, w) at a_row
+    a-block k e v w = rw e (rw (e, v, w) at a_row)
 
     b-expression : (k : ℕ) → stmt_kind T i ≡ k → b_expression k ≡ true → Expression T (node_count T) (stmt_b T i)
-    unfolding b_ranged
     b-expression k e v = expression_node T (node_count T) (stmt_b T i) (rw (e, v) at b_row)
 
     pub assign_variable : stmt_kind T i ≡ 1 → Variable T (node_count T) (stmt_a T i)
-    unfolding a_variable
     assign_variable e = a-variable 1 e refl
 
     pub assign_value : stmt_kind T i ≡ 1 → Expression T (node_count T) (stmt_b T i)
-    unfolding b_expression
     assign_value e = b-expression 1 e refl
 
     pub local_procedure : stmt_kind T i ≡ 2 → (stmt_a T i < block_count T) × (block_kind T (stmt_a T i) ≡ 2)
-    unfolding a_variable a_expression a_block between both
+    unfolding between both
     local_procedure e = block_there T 2 (stmt_a T i) (rw e at (a-block 2 e refl refl))
 
     pub call_variable : stmt_kind T i ≡ 3 → Variable T (node_count T) (stmt_a T i)
-    unfolding a_variable between both
+    unfolding between both
     call_variable e = a-variable 3 e refl
 
     pub call_procedure : stmt_kind T i ≡ 3 → (stmt_b T i < block_count T) × (block_kind T (stmt_b T i) ≡ 2)
-    unfolding b_ranged b_expression
     call_procedure e = block_there T 2 (stmt_b T i) (rw e at b_row)
 
     pub create_variable : stmt_kind T i ≡ 4 → Variable T (node_count T) (stmt_a T i)
-    unfolding a_variable between both
+    unfolding between both
     create_variable e = a-variable 4 e refl
 
     pub start_variable : stmt_kind T i ≡ 5 → Variable T (node_count T) (stmt_a T i)
-    unfolding a_variable between both
+    unfolding between both
     start_variable e = a-variable 5 e refl
 
     pub arm_guard : stmt_kind T i ≡ 10 → Expression T (node_count T) (stmt_a T i)
-    unfolding a_variable a_expression between both
+    unfolding between both
     arm_guard e = a-expression 10 e refl refl
 
     pub arm_link : stmt_kind T i ≡ 10 → stmt_link T i < stmt_count T
-    unfolding link_ranged between both
+    unfolding between both
     arm_link e = ltb-true (stmt_link T i) (stmt_count T) (rw e at link_row)
 
     pub end_link : stmt_kind T i ≡ 11 → stmt_link T i < stmt_count T
-    unfolding link_ranged between both
+    unfolding between both
     end_link e = ltb-true (stmt_link T i) (stmt_count T) (rw e at link_row)
 
     pub write_address : stmt_kind T i ≡ 12 → Expression T (node_count T) (stmt_a T i)
-    unfolding a_variable a_expression between both
+    unfolding between both
     write_address e = a-expression 12 e refl refl
 
     pub write_value : stmt_kind T i ≡ 12 → Expression T (node_count T) (stmt_b T i)
-    unfolding b_expression
     write_value e = b-expression 12 e refl
 
     pub block_end : stmt_kind T i ≡ 13 → stmt_a T i < block_count T
-    unfolding a_variable a_expression a_block between both
+    unfolding between both
     block_end e = ltb-true (stmt_a T i) (block_count T) (rw e at (a-block 13 e refl refl))
 
     -- the arguments of a call (kinds 2, 3, 5)

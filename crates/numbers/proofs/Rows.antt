@@ -16,7 +16,7 @@ use Rattle.types.specs.Types.{type_of}
 use Rattle.numbers.specs.Sorts.{nameable, limit, field_ranged, entry_ranged}
 use Rattle.numbers.specs.Declarations.{is_record, type_ranged}
 use Rattle.numbers.specs.Operands.{place_ranged, node_ranged}
-use Rattle.numbers.specs.Tested.{variable_below, expression_below, is_block, array_ranged, type_tested, p_ranged, q_ranged, node_tested, a_variable, a_expression, a_block, a_ranged, b_expression, b_ranged, link_ranged, stmt_tested}
+use Rattle.numbers.specs.Tested.{variable_below, expression_below, type_tested, node_tested, stmt_tested}
 
 -- a test with two tests after it that ask nothing
 lone : (a : Bool) → both (both a true) true ≡ a
@@ -41,7 +41,7 @@ module _ (T : Table) (i : ℕ) where
   type_fields = all_five (test 0)
 
   type_at : (k : ℕ) → T.cell 0 i 0 ≡ k → type_ranged T i ≡ type_tested T i
-  unfolding type_ranged is_record type_tested array_ranged is_block test held row_of rows field_ranged limit nameable both always
+  unfolding type_ranged is_record test held row_of rows field_ranged limit nameable both always
   type_at =
       type_kinds (λ k. T.cell 0 i 0 ≡ k → type_ranged T i ≡ type_tested T i)
       (λ e. rw (type_fields, declared_is T i 0, e))
@@ -62,7 +62,7 @@ module _ (T : Table) (i : ℕ) where
   two a b = alone (both a (both b true)) ∙ ap (both a) (alone b)
 
   node_at : (k : ℕ) → node_kind T i ≡ k → node_ranged T i ≡ node_tested T i
-  unfolding node_ranged node_tested p_ranged q_ranged variable_below expression_below test held row_of rows field_ranged limit nameable both always
+  unfolding node_ranged test held row_of rows field_ranged limit nameable both always
   node_at =
       node_kinds (λ k. node_kind T i ≡ k → node_ranged T i ≡ node_tested T i)
       (λ e. rw (node_fields, e) (alone (both (leb (node_p T i) 2) true)))
@@ -85,7 +85,7 @@ module _ (T : Table) (i : ℕ) where
   stmt_fields = all_six (test 6)
 
   stmt_at : (k : ℕ) → stmt_kind T i ≡ k → entry_ranged T 6 i ≡ stmt_tested T i
-  unfolding stmt_tested a_ranged a_variable a_expression a_block b_ranged b_expression link_ranged between variable_below expression_below is_block test held row_of rows field_ranged limit nameable both always
+  unfolding between test held row_of rows field_ranged limit nameable both always
   stmt_at =
       stmt_kinds (λ k. stmt_kind T i ≡ k → entry_ranged T 6 i ≡ stmt_tested T i)
       (λ e. rw (stmt_fields, e)) (λ e. rw (stmt_fields, e)) (λ e. rw (stmt_fields, e)) (λ e. rw (stmt_fields, e)) (λ e. rw (stmt_fields, e)) (λ e. rw (stmt_fields, e)) (λ e. rw (stmt_fields, e)) (λ e. rw (stmt_fields, e)) (λ e. rw (stmt_fields, e)) (λ e. rw (stmt_fields, e))
@@ -107,3 +107,5 @@ module _ (T : Table) (i : ℕ) where
 
   pub call_tested : is_call T i ≡ pick (between 2 3 (stmt_kind T i)) true (eqb (stmt_kind T i) 5)
   call_tested = call_at (stmt_kind T i) refl
+
+pub ruleset rows_tested = (type-tested, node-tested, stmt-tested)

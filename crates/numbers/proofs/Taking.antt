@@ -1,19 +1,37 @@
--- The loop over rows that take numbers, where locals hold how many rows there are and how many numbers. Assumes nothing.
-use Prim.Native.Nat.{ℕ, ◌≤◌, ◌<◌}
-use mathlib.Core.Path.{◌≡◌}
-use mathlib.Core.Bool.{Bool, false}
-use native.Mathlib.Omega.{arith}
-use lib.Dec.{eqb}
-use Rattle.basics.specs.Chain.{chained}
-use Rattle.basics.specs.Loops.{Chain}
-use Rattle.basics.proofs.Chains.{chain_none, chain_more, chain_fail, chain_all}
-use Rattle.basics.proofs.Takes.{all_ok, all_bad, all_step, take_test, take_step}
+-- The loop over rows that take numbers: what it reads of a row is the row's test and step. Assumes nothing.
+use Prim.Native.Nat.{ℕ, ◌+◌}
+use mathlib.Core.Path.{◌≡◌, sym, ◌∙◌}
+use mathlib.Core.Bool.{Bool, true, false}
+use borrow.Author.Tests.{eq-eqb, ne_eqb}
+use Rattle.std.proofs.Common.{Option, Some, None}
+use Rattle.basics.specs.Chain.{step_take, test_take}
+use Rattle.numbers.specs.Takes.{Takes}
 
-module _ (step : ℕ → ℕ → ℕ) (test : ℕ → ℕ → Bool) (i j : ℕ) (c : Chain step test i j) (n m total : ℕ) (l : n ≡ m) where
-  pub rows_fail : i < n → test i j ≡ false → false ≡ chained step test m total
-  rows_fail h e = chain_fail step test i j c m total (omega arith) e
+module _ (takes : ℕ → Bool) (first count : ℕ → ℕ) (i j : ℕ) (r : Option (ℕ × ℕ)) (h : Takes takes first count i r) where
+  module _ (p q : ℕ) (e : r ≡ Some (p, q)) where
+    told : (takes i ≡ true) × (p ≡ first i) × (q ≡ count i)
+    told = rw e at h
 
-  pub rows_all : (x : ℕ) → x ≡ total → i ≤ n → n ≤ i → eqb j x ≡ chained step test m total
-  rows_all x e h g = rw e (chain_all step test i j c m total (omega arith) (omega arith))
+    pub row_ok : p ≡ j → test_take takes first i j ≡ true
+    unfolding test_take
+    row_ok d = rw told.0 (eq-eqb (first i) j (sym told.1 ∙ d))
 
-pub ruleset orders = (all_ok, all_bad, all_step, take_test, take_step, chain_none, chain_more, rows_fail, rows_all)
+    pub row_bad : (p ≡ j → ⊥) → test_take takes first i j ≡ false
+    unfolding test_take
+    row_bad d = rw told.0 (ne_eqb (first i) j (λ g. d (told.1 ∙ g)))
+
+    pub row_step : p + q ≡ step_take takes first count i j
+    unfolding step_take
+    row_step = rw (told.0, told.1, told.2)
+
+  module _ (e : r ≡ None) where
+    untold : takes i ≡ false
+    untold = rw e at h
+
+    pub pass_ok : test_take takes first i j ≡ true
+    unfolding test_take
+    pass_ok = rw untold
+
+    pub pass_step : j ≡ step_take takes first count i j
+    unfolding step_take
+    pass_step = rw untold

@@ -15,7 +15,6 @@ use Rattle.numbers.specs.Ranges.{in_range}
 use Rattle.numbers.proofs.Parts.{fields-taken, type_row, var_row}
 
 pub block_there : (T : Table) (k b : ℕ) → is_block T k b ≡ true → (b < block_count T) × (block_kind T b ≡ k)
-unfolding is_block
 block_there T k b e = (ltb-true b (block_count T) (both_l _ _ e), eqb-true (block_kind T b) k (both_r _ _ e))
 
 module _ (T : Table) (h : in_range T ≡ true) where
@@ -33,7 +32,6 @@ module _ (T : Table) (h : in_range T ≡ true) where
     -- records
     module _ (e : type_kind T τ ≡ 1) where
       a_record : record_ranged T τ ≡ true
-      unfolding type_tested
       a_record = let r : 3 + (τ - 3) ≡ τ = number 1 e (omega arith) in rw (r, e) at (row_of 1 e (omega arith))
 
       pub record_some : 1 ≤ type_q T τ
@@ -59,20 +57,16 @@ module _ (T : Table) (h : in_range T ≡ true) where
     -- arrays
     module _ (e : type_kind T τ ≡ 2) where
       an_array : array_ranged T τ ≡ true
-      unfolding type_tested
       an_array = let r : 3 + (τ - 3) ≡ τ = number 2 e (omega arith) in rw (r, e) at (row_of 2 e (omega arith))
 
       pub array_index : type_p T τ ≤ 2
-      unfolding array_ranged
       array_index = leb-true (type_p T τ) 2 (both_l _ _ an_array)
 
       pub element_lower : type_q T τ < τ
-      unfolding array_ranged
       element_lower = ltb-true (type_q T τ) τ (both_r _ _ an_array)
 
     -- process types
     pub process_module : type_kind T τ ≡ 3 → (type_p T τ < block_count T) × (block_kind T (type_p T τ) ≡ 1)
-    unfolding type_tested
     process_module e =
         let r : 3 + (τ - 3) ≡ τ = number 3 e (omega arith) in
         block_there T 1 (type_p T τ) (rw (r, e) at (row_of 3 e (omega arith)))

@@ -4,5 +4,6 @@ pub mod Declarations
 pub mod Marking
 pub mod Blocks
 pub mod Operands
+pub mod Takes
 pub mod Tested
 pub mod Ranges

@@ -1,162 +1,75 @@
 // Rows that take the numbers of another section in order: records fields, blocks variables, calls arguments, strings characters.
-ghost use Rattle.std.specs.Prelude.{◌≡◌, true, ◌+◌, ◌<◌, eqb};
-ghost use Rattle.basics.specs.Choice.{pick};
+ghost use Rattle.std.specs.Prelude.{◌≡◌, Bool, ℕ, ◌<◌};
+ghost use Rattle.basics.specs.Chain.{taken};
 ghost use Rattle.code.specs.Code.{decoded};
-ghost use Rattle.table.specs.Reading.{Field};
-ghost use Rattle.numbers.specs.Declarations.{is_record, record_first, record_count, fields_taken};
-ghost use Rattle.numbers.specs.Blocks.{variables_taken};
 ghost use Rattle.table.specs.Kinds.{is_call};
-ghost use Rattle.numbers.specs.Operands.{call_first, call_count, arguments_taken, characters_taken, string_first, string_count};
+ghost use Rattle.numbers.specs.Declarations.{fields_taken};
+ghost use Rattle.numbers.specs.Blocks.{variables_taken};
+ghost use Rattle.numbers.specs.Operands.{arguments_taken, characters_taken};
+ghost use Rattle.numbers.specs.Takes.{Takes, Fields};
 
 use code::kinds;
 
-// A row that takes some begins at the free number j.
-fn begins(takes: bool, first: usize, j: usize) -> bool
-    ensures { result ≡ pick takes (eqb first j) true }
+// Whether n rows take all of `total` numbers in order, with none left. Of a row that takes some, `row` gives the first and how many.
+fn taken<F: Fn(usize) -> Option<(usize, usize)>>(n: usize, total: usize, row: F) -> bool
+    requires callable { (i : ℕ) → i < n → F.pre row i }
+    requires small { (i : ℕ) (r : _) → F.post row i r → Fields r }
+    ensures { (takes : ℕ → Bool) (first count : ℕ → ℕ) → ((i : ℕ) (r : _) → F.post row i r → Takes takes first count i r) → result ≡ taken takes first count n total }
 {
-    if takes {
-        return first == j;
+    let mut free = 0;
+    for i in 0..n {
+        if let Some((first, count)) = row(i) {
+            let gap = first != free;
+            if gap {
+                return false;
+            }
+            free = first + count;
+        }
     }
-    true
-}
-
-// The number that is free after it.
-fn after(takes: bool, first: usize, count: usize, j: usize) -> usize
-    requires { (first < 65536) × (count < 65536) }
-    ensures { result ≡ pick takes (first + count) j }
-{
-    if takes {
-        return first + count;
-    }
-    j
-}
-
-fn is_record(c: &code::Slots, i: usize) -> bool
-    requires { i < 65536 }
-    ensures { result ≡ is_record (decoded c.now) i }
-{
-    code::type_kind(c, kinds::STANDARD + i) == kinds::RECORD
-}
-
-fn record_first(c: &code::Slots, i: usize) -> usize
-    requires { i < 65536 }
-    ensures { Field (record_first (decoded c.now) i) result }
-{
-    code::type_p(c, kinds::STANDARD + i)
-}
-
-fn record_count(c: &code::Slots, i: usize) -> usize
-    requires { i < 65536 }
-    ensures { Field (record_count (decoded c.now) i) result }
-{
-    code::type_q(c, kinds::STANDARD + i)
-}
-
-fn is_call(c: &code::Slots, i: usize) -> bool
-    ensures { result ≡ is_call (decoded c.now) i }
-{
-    let k = code::stmt_kind(c, i);
-    if basics::between(kinds::LOCAL_CALL, kinds::PROCESS_CALL, k) {
-        return true;
-    }
-    k == kinds::START
-}
-
-fn call_first(c: &code::Slots, i: usize) -> usize
-    ensures { Field (call_first (decoded c.now) i) result }
-{
-    code::stmt_c(c, i)
-}
-
-fn call_count(c: &code::Slots, i: usize) -> usize
-    ensures { Field (call_count (decoded c.now) i) result }
-{
-    code::stmt_d(c, i)
-}
-
-fn string_first(c: &code::Slots, n: usize) -> usize
-    ensures { Field (string_first (decoded c.now) n) result }
-{
-    code::node_p(c, n)
-}
-
-fn string_count(c: &code::Slots, n: usize) -> usize
-    ensures { Field (string_count (decoded c.now) n) result }
-{
-    code::node_q(c, n)
+    free == total
 }
 
 pub fn fields_taken(c: &code::Slots) -> bool
     ensures { result ≡ fields_taken (decoded c.now) }
 {
-    let n = code::types(c);
-    let mut j = 0;
-    let mut i = 0;
-    while i < n {
-        let takes = is_record(c, i);
-        let first = record_first(c, i);
-        if begins(takes, first, j) {
-            j = after(takes, first, record_count(c, i), j);
-            i += 1;
-        } else {
-            return false;
-        }
-    }
-    j == code::fields(c)
+    taken(code::types(c), code::fields(c), |i| {
+        let x = kinds::STANDARD + i;
+        (code::type_kind(c, x) == kinds::RECORD).then(|| (code::type_p(c, x), code::type_q(c, x)))
+    })
 }
 
 pub fn variables_taken(c: &code::Slots) -> bool
     ensures { result ≡ variables_taken (decoded c.now) }
 {
-    let n = code::blocks(c);
-    let mut j = 0;
-    let mut i = 0;
-    while i < n {
-        let first = code::first_var(c, i);
-        if first == j {
-            j = first + code::block_vars(c, i);
-            i += 1;
-        } else {
-            return false;
-        }
-    }
-    j == code::variables(c)
+    taken(
+        code::blocks(c),
+        code::variables(c),
+        |b| Some((code::first_var(c, b), code::block_vars(c, b))),
+    )
+}
+
+#[tactic(auto, using(crate::proofs::Rows::call_tested), unfolding(basics::specs::Choice::both, basics::specs::Choice::between))]
+fn is_call(c: &code::Slots, i: usize) -> bool
+    ensures { result ≡ is_call (decoded c.now) i }
+{
+    matches!(
+        code::stmt_kind(c, i),
+        kinds::LOCAL_CALL | kinds::PROCESS_CALL | kinds::START
+    )
 }
 
 pub fn arguments_taken(c: &code::Slots) -> bool
     ensures { result ≡ arguments_taken (decoded c.now) }
 {
-    let n = code::statements(c);
-    let mut j = 0;
-    let mut i = 0;
-    while i < n {
-        let takes = is_call(c, i);
-        let first = call_first(c, i);
-        if begins(takes, first, j) {
-            j = after(takes, first, call_count(c, i), j);
-            i += 1;
-        } else {
-            return false;
-        }
-    }
-    j == code::arguments(c)
+    taken(code::statements(c), code::arguments(c), |i| {
+        is_call(c, i).then(|| (code::stmt_c(c, i), code::stmt_d(c, i)))
+    })
 }
 
 pub fn characters_taken(c: &code::Slots) -> bool
     ensures { result ≡ characters_taken (decoded c.now) }
 {
-    let n = code::nodes(c);
-    let mut j = 0;
-    let mut i = 0;
-    while i < n {
-        let takes = code::is_string(c, i);
-        let first = string_first(c, i);
-        if begins(takes, first, j) {
-            j = after(takes, first, string_count(c, i), j);
-            i += 1;
-        } else {
-            return false;
-        }
-    }
-    j == code::characters(c)
+    taken(code::nodes(c), code::characters(c), |n| {
+        code::is_string(c, n).then(|| (code::node_p(c, n), code::node_q(c, n)))
+    })
 }

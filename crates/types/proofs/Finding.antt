@@ -1,5 +1,5 @@
 -- Finding the types of all nodes: the laws of each return. Assumes nothing.
-use Prim.Native.Nat.{ℕ, ◌+◌, ◌-◌, ◌%◌, ◌≤◌, ◌<◌}
+use Prim.Native.Nat.{ℕ, ◌+◌, ◌%◌, ◌≤◌, ◌<◌}
 use mathlib.Core.Path.{◌≡◌, refl, ◌∙◌}
 use mathlib.Core.List.{List}
 use lib.ListN.{length, get_or, set}
@@ -12,31 +12,11 @@ use Rattle.basics.specs.Holds.{Holds}
 use Rattle.basics.proofs.Courses.{upto_below, upto_above}
 use Rattle.basics.proofs.Holding.{holds_none, holds_more, holds_in}
 use Rattle.table.specs.Table.{Table}
-use Rattle.table.specs.Entries.{node_count, type_p, type_low, type_high, field_type, var_type, node_kind, node_p, node_q, node_v}
+use Rattle.table.specs.Entries.{node_count, var_type, node_kind, node_p, node_q}
 use Rattle.table.specs.Reading.{Field}
-use Rattle.types.specs.Types.{no_type, field_of, unary_type, binary_type, operand_type, node_type, type_of}
+use Rattle.types.specs.Types.{no_type, operand_type, node_type, type_of}
 use Rattle.types.specs.Kept.{Types}
-use Rattle.types.specs.Match.{offset, span, elements}
-
--- leaves called with locals
-module _ (T : Table) (n r : ℕ) where
-  pub of_place : (d τ i : ℕ) → d ≡ type_p T τ → r ≡ field_type T (d + i) → r ≡ field_type T (type_p T τ + i)
-  of_place d τ i h e = rw (← h) e
-
-  pub of_field : (q τ : ℕ) → q ≡ node_q T n → r ≡ field_of T τ q → r ≡ field_of T τ (node_q T n)
-  of_field q τ h e = rw (← h) e
-
-  pub of_unary : (q τ : ℕ) → q ≡ node_q T n → r ≡ unary_type q τ → r ≡ unary_type (node_q T n) τ
-  of_unary q τ h e = rw (← h) e
-
-  pub of_binary : (v τ : ℕ) → v ≡ node_v T n → r ≡ binary_type v τ → r ≡ binary_type (node_v T n) τ
-  of_binary v τ h e = rw (← h) e
-
-  pub of_elements : (a e τ : ℕ) → a ≡ type_low T τ → e ≡ type_high T τ → r ≡ span a e → r ≡ elements T τ
-  unfolding elements
-  of_elements a e τ h g x = rw (← h, ← g) x
-
-pub ruleset leaves = (of_place, of_field, of_unary, of_binary)
+use Rattle.types.specs.Match.{offset}
 
 -- the type of an operand
 module _ (T : Table) (l : List ℕ) (n p : ℕ) (h : Holds (type_of T) n l) where
@@ -102,11 +82,4 @@ offset_is v h =
 pub offset_small : (v : ℕ) → v < 65536 → offset v < 65536
 offset_small v h = let e = offset_is v h in omega arith
 
-module _ (low high a b : ℕ) (ha : Field (offset low) a) (hb : Field (offset high) b) where
-  pub span_some : a ≤ b + 1 → (b + 1 - a ≡ span low high) × (b + 1 - a ≤ 65536)
-  unfolding span
-  span_some h = let x = ha.is in let y = hb.is in let z = hb.small in (rw (← x, ← y), omega arith)
-
-  pub span_none : b + 1 < a → (0 ≡ span low high) × (0 ≤ 65536)
-  unfolding span
-  span_none h = let x = ha.is in let y = hb.is in (omega arith, omega arith)
+pub ruleset finding = (nodes, operand_before, operand_none, types_none, types_more, types_all, types_in, types_at, offset_is, offset_small)

@@ -1,5 +1,5 @@
 // The types of nodes, found once for all nodes into a lent array; types that match.
-#![tactic(auto)]
+#![tactic(auto, using(crate::proofs::Finding::finding, crate::proofs::Matching::matchings), unfolding(crate::specs::Types::field_of, crate::specs::Types::element_of, crate::specs::Types::unary_type, crate::specs::Types::binary_type, crate::specs::Types::operand_type, crate::specs::Match::span, crate::specs::Match::elements, crate::specs::Match::is_string))]
 
 ghost use Rattle.std.specs.Prelude.{◌≡◌, ◌+◌, ◌-◌, ◌≤◌, ◌<◌};
 ghost use Rattle.basics.specs.Course.{upto};
@@ -12,30 +12,18 @@ ghost use Rattle.types.specs.Match.{offset, span, elements, is_string, is_text, 
 
 use code::{kinds, operators};
 
-fn wide(x: u16) -> usize
-    ensures { Field x result }
-{
-    x as usize
-}
-
-fn narrow(x: usize) -> u16
-    requires { x < 65536 }
-    ensures { result ≡ x }
-{
-    x as u16
-}
+// No type has this number. (No Option: `type_of` of specs/Types, by which public contracts go, gives a number for every node.)
+const NO_TYPE: usize = 65535;
 
 // The type of field i of the type x.
 fn field_of(c: &code::Slots, x: usize, i: usize) -> usize
     ensures { Field (field_of (decoded c.now) x i) result }
 {
-    if code::type_kind(c, x) == kinds::RECORD {
-        if i < code::type_q(c, x) {
-            return code::field_type(c, code::type_p(c, x) + i);
-        }
-        return 65535;
+    if code::type_kind(c, x) == kinds::RECORD && i < code::type_q(c, x) {
+        code::field_type(c, code::type_p(c, x) + i)
+    } else {
+        NO_TYPE
     }
-    65535
 }
 
 // The type of the elements of the type x.
@@ -43,9 +31,10 @@ fn element_of(c: &code::Slots, x: usize) -> usize
     ensures { Field (element_of (decoded c.now) x) result }
 {
     if code::type_kind(c, x) == kinds::ARRAY {
-        return code::type_q(c, x);
+        code::type_q(c, x)
+    } else {
+        NO_TYPE
     }
-    65535
 }
 
 fn unary_type(o: usize, x: usize) -> usize
@@ -53,22 +42,21 @@ fn unary_type(o: usize, x: usize) -> usize
     ensures { Field (unary_type o x) result }
 {
     if o == operators::NOT {
-        return x;
+        x
+    } else {
+        kinds::INTEGER
     }
-    kinds::INTEGER
 }
 
 fn binary_type(o: usize, x: usize) -> usize
     requires { x < 65536 }
     ensures { Field (binary_type o x) result }
 {
-    if o <= operators::NOT_LESS {
-        return kinds::BOOLEAN;
+    match o {
+        ..=operators::NOT_LESS => kinds::BOOLEAN,
+        ..=operators::MODULUS => kinds::INTEGER,
+        _ => x,
     }
-    if o <= operators::MODULUS {
-        return kinds::INTEGER;
-    }
-    x
 }
 
 // The type of a node of kinds 2 to 6 whose first operand has type x.
@@ -76,23 +64,14 @@ fn operand_type(c: &code::Slots, n: usize, x: usize) -> usize
     requires { x < 65536 }
     ensures { Field (operand_type (decoded c.now) n x) result }
 {
-    let k = code::node_kind(c, n);
-    if k == kinds::FIELD {
-        return field_of(c, x, code::node_q(c, n));
+    match code::node_kind(c, n) {
+        kinds::FIELD => field_of(c, x, code::node_q(c, n)),
+        kinds::ELEMENT => element_of(c, x),
+        kinds::VALUE => x,
+        kinds::UNARY => unary_type(code::node_q(c, n), x),
+        kinds::BINARY => binary_type(code::node_v(c, n), x),
+        _ => NO_TYPE,
     }
-    if k == kinds::ELEMENT {
-        return element_of(c, x);
-    }
-    if k == kinds::VALUE {
-        return x;
-    }
-    if k == kinds::UNARY {
-        return unary_type(code::node_q(c, n), x);
-    }
-    if k == kinds::BINARY {
-        return binary_type(code::node_v(c, n), x);
-    }
-    65535
 }
 
 // The type of node p where it stands before node n.
@@ -101,9 +80,10 @@ fn before(c: &code::Slots, types: &[u16], n: usize, p: usize) -> usize
     ensures { Field (upto no_type (node_type (decoded c.now)) n p) result }
 {
     if p < n {
-        return wide(types[p]);
+        usize::from(types[p])
+    } else {
+        NO_TYPE
     }
-    65535
 }
 
 // The type of node n, below the count, where those of the nodes before it are known.
@@ -112,20 +92,15 @@ fn node_type(c: &code::Slots, types: &[u16], n: usize) -> usize
     ensures { Field (type_of (decoded c.now) n) result }
 {
     if code::nodes(c) <= n {
-        return 65535;
+        return NO_TYPE;
     }
-    let k = code::node_kind(c, n);
     let p = code::node_p(c, n);
-    if k == kinds::CONSTANT {
-        return p;
+    match code::node_kind(c, n) {
+        kinds::CONSTANT => p,
+        kinds::WHOLE => code::var_type(c, p),
+        kinds::TRANSFER => code::node_q(c, n),
+        _ => operand_type(c, n, before(c, types, n, p)),
     }
-    if k == kinds::WHOLE {
-        return code::var_type(c, p);
-    }
-    if k == kinds::TRANSFER {
-        return code::node_q(c, n);
-    }
-    operand_type(c, n, before(c, types, n, p))
 }
 
 // Finds the types of all nodes.
@@ -133,11 +108,8 @@ pub fn find_types(c: &code::Slots, types: &mut [u16])
     requires { Room (decoded c.now) types.old }
     ensures { Types (decoded c.now) types.new }
 {
-    let count = code::nodes(c);
-    let mut n = 0;
-    while n < count {
-        types[n] = narrow(node_type(c, types, n));
-        n += 1;
+    for n in 0..code::nodes(c) {
+        types[n] = node_type(c, types, n) as u16;
     }
 }
 
@@ -147,9 +119,10 @@ pub fn type_of(c: &code::Slots, types: &[u16], n: usize) -> usize
     ensures { Field (type_of (decoded c.now) n) result }
 {
     if n < code::nodes(c) {
-        return wide(types[n]);
+        usize::from(types[n])
+    } else {
+        NO_TYPE
     }
-    65535
 }
 
 // 32,768 more than the integer that a word stands for.
@@ -165,12 +138,7 @@ fn span_of(low: usize, high: usize) -> usize
     requires { (low < 65536) × (high < 65536) }
     ensures { (result ≡ span low high) × (result ≤ 65536) }
 {
-    let a = offset_of(low);
-    let e = offset_of(high) + 1;
-    if a <= e {
-        return e - a;
-    }
-    0
+    (offset_of(high) + 1).saturating_sub(offset_of(low))
 }
 
 // How many elements an array type has.
@@ -183,10 +151,7 @@ pub fn elements_of(c: &code::Slots, x: usize) -> usize
 pub fn is_string(c: &code::Slots, x: usize) -> bool
     ensures { result ≡ is_string (decoded c.now) x }
 {
-    if code::type_kind(c, x) == kinds::ARRAY {
-        return code::type_q(c, x) == kinds::CHARACTER;
-    }
-    false
+    code::type_kind(c, x) == kinds::ARRAY && code::type_q(c, x) == kinds::CHARACTER
 }
 
 // An odd string gains character 0.
@@ -202,10 +167,7 @@ fn is_text(c: &code::Slots, types: &[u16], n: usize) -> bool
     requires { Types (decoded c.now) types.now }
     ensures { result ≡ is_text (decoded c.now) (type_of_node (decoded c.now) n) }
 {
-    if code::is_string(c, n) {
-        return true;
-    }
-    is_string(c, type_of(c, types, n))
+    code::is_string(c, n) || is_string(c, type_of(c, types, n))
 }
 
 // Its characters.
@@ -214,9 +176,10 @@ fn characters_of(c: &code::Slots, types: &[u16], n: usize) -> usize
     ensures { result ≡ characters (decoded c.now) (type_of_node (decoded c.now) n) }
 {
     if code::is_string(c, n) {
-        return evened_of(code::node_q(c, n));
+        evened_of(code::node_q(c, n))
+    } else {
+        elements_of(c, type_of(c, types, n))
     }
-    elements_of(c, type_of(c, types, n))
 }
 
 // The type of node n is the one of number y.
@@ -224,10 +187,7 @@ fn is_numbered(c: &code::Slots, types: &[u16], n: usize, y: usize) -> bool
     requires { Types (decoded c.now) types.now }
     ensures { result ≡ same_number (type_of_node (decoded c.now) n) (numbered y) }
 {
-    if code::is_string(c, n) {
-        return false;
-    }
-    type_of(c, types, n) == y
+    !code::is_string(c, n) && type_of(c, types, n) == y
 }
 
 // The types of nodes p and q are one of one number.
@@ -235,10 +195,7 @@ fn same_number(c: &code::Slots, types: &[u16], p: usize, q: usize) -> bool
     requires { Types (decoded c.now) types.now }
     ensures { result ≡ same_number (type_of_node (decoded c.now) p) (type_of_node (decoded c.now) q) }
 {
-    if code::is_string(c, q) {
-        return false;
-    }
-    is_numbered(c, types, p, type_of(c, types, q))
+    !code::is_string(c, q) && is_numbered(c, types, p, type_of(c, types, q))
 }
 
 // The types of nodes p and q are equal.
@@ -246,16 +203,10 @@ pub fn are_equal(c: &code::Slots, types: &[u16], p: usize, q: usize) -> bool
     requires { Types (decoded c.now) types.now }
     ensures { result ≡ is_equal (matching (decoded c.now) (type_of_node (decoded c.now) p) (type_of_node (decoded c.now) q)) }
 {
-    if same_number(c, types, p, q) {
-        return true;
-    }
-    if is_text(c, types, p) {
-        if is_text(c, types, q) {
-            return characters_of(c, types, p) == characters_of(c, types, q);
-        }
-        return false;
-    }
-    false
+    same_number(c, types, p, q)
+        || (is_text(c, types, p)
+            && is_text(c, types, q)
+            && characters_of(c, types, p) == characters_of(c, types, q))
 }
 
 // The type of node n is equal to, or fitted to, the one of number y.
@@ -263,11 +214,5 @@ pub fn is_fit(c: &code::Slots, types: &[u16], n: usize, y: usize) -> bool
     requires { Types (decoded c.now) types.now }
     ensures { result ≡ is_fit (matching (decoded c.now) (type_of_node (decoded c.now) n) (numbered y)) }
 {
-    if is_numbered(c, types, n, y) {
-        return true;
-    }
-    if is_text(c, types, n) {
-        return is_string(c, y);
-    }
-    false
+    is_numbered(c, types, n, y) || (is_text(c, types, n) && is_string(c, y))
 }

@@ -1,21 +1,9 @@
-use native.Mathlib.Omega.{arith}
-use Rattle.basics.proofs.Passes.{passes}
+use Rattle.basics.proofs.Ranges.{all_of}
+use Rattle.std.proofs.Common.{rules}
+use borrow.Author.Tests.{tests}
+use Rattle.code.specs.Code.{decoded}
+use Rattle.numbers.specs.Blocks.{mode_placed}
 use Rattle.numbers.proofs.blocks.modes_placed.Goals as goal
 
-pub loop-j-init : goal.loop-j-init
-loop-j-init c = (omega arith, search passes)
-
-pub overflow_add-j : goal.overflow_add-j
-overflow_add-j c = omega arith
-
-pub loop-j-smaller : goal.loop-j-smaller
-loop-j-smaller c = omega arith
-
-pub loop-j-preserved : goal.loop-j-preserved
-loop-j-preserved c = (omega arith, search passes)
-
-pub returns-else-mode_placed : goal.returns-else-mode_placed
-returns-else-mode_placed c = search passes
-
 pub returns : goal.returns
-returns c = search passes
+returns c = all_of _ _ _ _ (mode_placed (decoded c.args.c.now) c.args.b) c.all.ensures.ran (cc) (λ x q k. search (rules, tests)) (λ x q k. search (rules, tests))

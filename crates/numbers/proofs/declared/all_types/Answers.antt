@@ -1,21 +1,9 @@
-use native.Mathlib.Omega.{arith}
-use Rattle.basics.proofs.Passes.{counts}
+use Rattle.basics.proofs.Ranges.{all_of}
+use Rattle.std.proofs.Common.{rules}
+use borrow.Author.Tests.{tests}
+use Rattle.code.specs.Code.{decoded}
+use Rattle.numbers.specs.Declarations.{type_ranged}
 use Rattle.numbers.proofs.declared.all_types.Goals as goal
 
-pub loop-i-init : goal.loop-i-init
-loop-i-init c = (omega arith, search counts)
-
-pub overflow_add-i : goal.overflow_add-i
-overflow_add-i c = omega arith
-
-pub loop-i-smaller : goal.loop-i-smaller
-loop-i-smaller c = omega arith
-
-pub loop-i-preserved : goal.loop-i-preserved
-loop-i-preserved c = (omega arith, search counts)
-
-pub returns-else-type_ranged : goal.returns-else-type_ranged
-returns-else-type_ranged c = search counts
-
 pub returns : goal.returns
-returns c = search counts
+returns c = all_of _ _ _ _ (type_ranged (decoded c.args.c.now)) c.all.ensures.ran (cc) (λ x q k. search (rules, tests)) (λ x q k. search (rules, tests))

@@ -1,4 +1,3 @@
-use Prim.Native.Nat.{◌≤◌, ◌-◌}
 use mathlib.Core.Path.{◌≡◌}
 use lib.ListN.{length}
 use Rattle.code.specs.Code.{decoded}
@@ -6,7 +5,4 @@ use Rattle.numbers.specs.Marking.{ModuleMarks}
 use Rattle.numbers.proofs.declared.mark_modules.Given as goal
 
 abbrev pub invariant-loop-i : goal.invariant-loop-i
-invariant-loop-i l = (l.i ≤ l.n) × ((length l.marks ≡ length l.initial.marks) × ModuleMarks (decoded l.c) l.i l.marks)
-
-abbrev pub decreases-loop-i : goal.decreases-loop-i
-decreases-loop-i l = l.n - l.i
+invariant-loop-i l = (length l.marks ≡ length l.initial.marks) × ModuleMarks (decoded l.c) l.i l.marks

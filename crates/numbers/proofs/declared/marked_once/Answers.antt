@@ -1,37 +1,16 @@
-use native.Mathlib.Omega.{arith}
-use Rattle.numbers.specs.Declarations.{modules_once}
-use Rattle.basics.proofs.Passes.{counts}
-use borrow.Author.Rules.{rules}
+use mathlib.Core.Path.{◌∙◌}
+use lib.ListN.{get_or}
+use lib.Dec.{leb}
+use Rattle.basics.proofs.Ranges.{all_of, all_alike}
+use Rattle.std.proofs.Common.{rules}
+use borrow.Author.Tests.{tests}
+use Rattle.code.specs.Code.{decoded}
+use Rattle.numbers.specs.Declarations.{named_once, modules_once}
+use Rattle.numbers.proofs.Marks.{mark_once}
 use Rattle.numbers.proofs.declared.marked_once.Goals as goal
-
-pub blocks-n-requires : goal.blocks-n-requires
-unfolding modules_once
-blocks-n-requires c = search rules
-
-pub loop-i-init : goal.loop-i-init
-unfolding modules_once
-loop-i-init c = (omega arith, search counts)
-
-pub named_once-requires : goal.named_once-requires
-unfolding modules_once
-named_once-requires c = search rules
-
-pub overflow_add-i : goal.overflow_add-i
-unfolding modules_once
-overflow_add-i c = omega arith
-
-pub loop-i-smaller : goal.loop-i-smaller
-unfolding modules_once
-loop-i-smaller c = omega arith
-
-pub loop-i-preserved : goal.loop-i-preserved
-unfolding modules_once
-loop-i-preserved c = (omega arith, search counts)
-
-pub returns-else-named_once : goal.returns-else-named_once
-unfolding modules_once
-returns-else-named_once c = search counts
 
 pub returns : goal.returns
 unfolding modules_once
-returns c = search counts
+returns c =
+    all_of _ _ _ _ (λ b. leb (get_or c.args.marks.now b 0) 1) c.all.ensures.ran (cc) (λ x q k. search (rules, tests)) (λ x q k. search (rules, tests))
+    ∙ all_alike _ _ (named_once (decoded c.args.c.now)) (λ b k. mark_once (decoded c.args.c.now) c.args.marks.now c.requires b k)
