@@ -270,12 +270,4 @@ module _ (T : Table) where
   pub down_room : (n : ℕ) (l : List ℕ) → Downward T n l → 0 < n → n ≤ node_count T → n - 1 < length l
   down_room n l d up top = omega (arith, d.long)
 
-pub ruleset downs = (down_first, down_all, down_fail, down_next, down_room, long_more)
-
--- ---- the rule
-
-pub stays_true : (T : Table) (r : Bool) (l : List ℕ) → Stays T r l → r ≡ true → Stays T true l
-stays_true T r l s e = rw e at s
-
-pub stays_false : (T : Table) (r : Bool) (l : List ℕ) → Stays T r l → r ≡ false → false ≡ scoped T
-stays_false T r l s e = sym (s.out e)
+pub ruleset downs = (down_first, down_all, down_fail, down_room, long_more)

@@ -139,8 +139,8 @@ module _ (T : Table) (i : ℕ) where
       (λ e. rw e) (λ e. rw e) (λ e. rw e) (λ e. rw e) (λ e. rw e) (λ e. rw e) (λ e. rw e) (λ e. rw e) (λ e. rw e) (λ e. rw e) (λ e. rw e) (λ e. rw e) (λ e. rw e) (λ e. rw e) (λ k e. rw (e, ne_eqb (suc (suc (suc (suc (suc (suc (suc (suc (suc (suc (suc (suc (suc (suc k)))))))))))))) 2 (λ q. omega arith), ne_eqb (suc (suc (suc (suc (suc (suc (suc (suc (suc (suc (suc (suc (suc (suc k)))))))))))))) 3 (λ q. omega arith), ne_eqb (suc (suc (suc (suc (suc (suc (suc (suc (suc (suc (suc (suc (suc (suc k)))))))))))))) 5 (λ q. omega arith)))
 
   -- and those that have arguments
-  pub is-call : is_call T i ≡ pick (eqb (stmt_kind T i) 2) true (pick (eqb (stmt_kind T i) 3) true (eqb (stmt_kind T i) 5))
-  is-call = call_at (stmt_kind T i) refl
+  pub has_arguments : is_call T i ≡ pick (eqb (stmt_kind T i) 2) true (pick (eqb (stmt_kind T i) 3) true (eqb (stmt_kind T i) 5))
+  has_arguments = call_at (stmt_kind T i) refl
 
   module _ (b : ℕ) where
     stmt_test : ℕ → Bool

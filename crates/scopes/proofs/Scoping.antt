@@ -6,59 +6,24 @@ use mathlib.Core.List.{List, [], ◌∷◌, ◌++◌}
 use native.Mathlib.Omega.{arith}
 use native.Mathlib.Numerals.{add-one}
 use lib.ListN.{length, get_or, set, length-set}
-use lib.Seq.{get_or-set_same, get_or-set_other, set_out}
-use lib.Dec.{eqb, leb, ltb}
-use borrow.Author.Tests.{ne_eqb, le-leb, lt-leb, eqb-true, eqb-false}
-use Rattle.basics.specs.Choice.{pick}
+use lib.Seq.{get_or-set_same, get_or-set_other}
+use lib.Dec.{eqb}
+use borrow.Author.Tests.{eqb-true, eqb-false}
 use Rattle.basics.specs.Cases.{cases}
 use Rattle.basics.specs.Marks.{occurs, gather}
-use Rattle.basics.proofs.Tests.{tests}
 use Rattle.table.specs.Table.{Table}
 use Rattle.code.specs.Code.{decoded, Decodes}
-use Rattle.table.specs.Entries.{owner, first_var, vars, node_kind, node_p, node_q, stmt_kind, stmt_a, stmt_b, stmt_c, stmt_d}
+use Rattle.table.specs.Entries.{node_kind, node_p, node_q, stmt_a, stmt_b, stmt_c, stmt_d}
 use Rattle.table.specs.Reading.{Field}
 use Rattle.table.specs.Kinds.{names, held, is_call}
 use Rattle.table.specs.Parts.{argument_part, argument_in}
 use Rattle.table.specs.declared.Sections.{Sections}
 use Rattle.table.proofs.Parts.{argument_is}
 use Rattle.uses.specs.Uses.{entry_uses}
-use Rattle.scopes.specs.Scopes.{of_block, in_scope, stays_in}
-use Rattle.scopes.specs.Handed.{with_block, part_node, called_node, arg_nodes, roots, node_visible}
+use Rattle.scopes.specs.Handed.{with_block, part_node, called_node, arg_nodes, roots}
 use Rattle.scopes.proofs.Rows.{has_first, operands_are, fields_are}
 
--- tests with locals
-pub of_among : (T : Table) (b x f v : ℕ) → f ≡ first_var T b → v ≡ vars T b → ltb x (f + v) ≡ ltb x (first_var T b + vars T b)
-of_among T b x f v h g = rw (h, g)
-
-pub of_owner : (T : Table) (b o x : ℕ) (r : Bool) → o ≡ owner T b → r ≡ of_block T o x → r ≡ of_block T (owner T b) x
-of_owner T b o x r h e = rw (← h) e
-
-pub ruleset rows = (tests, of_among, of_owner)
-
--- an operand: between two numbers
-module _ (k n : ℕ) (h : k ≡ n) where
-  pub first_low : 2 ≤ k → leb k 7 ≡ pick (leb 2 n) (leb n 7) false
-  first_low l = rw (← h, le-leb 2 k l)
-
-  pub first-none : k < 2 → false ≡ pick (leb 2 n) (leb n 7) false
-  first-none l = rw (← h, lt-leb 2 k l)
-
-pub ruleset firsts = (first_low, first-none)
-
--- a local call
-module _ (T : Table) (i b k : ℕ) (hk : k ≡ stmt_kind T i) where
-  pub stays_other : (k ≡ 2 → ⊥) → true ≡ stays_in T i b
-  unfolding stays_in
-  stays_other n = rw (← hk, ne_eqb k 2 n)
-
-  pub stays_local : (a p o : ℕ) → k ≡ 2 → a ≡ stmt_a T i → p ≡ owner T a → o ≡ owner T b → eqb p o ≡ stays_in T i b
-  unfolding stays_in
-  stays_local a p o e ha hp ho = rw (← hk, e, ← ha, ← hp, ← ho)
-
--- one node: beyond the array nothing is written
-pub hand_out : (l : List ℕ) (n b : ℕ) → length l ≤ n → l ≡ set l n b
-hand_out l n b h = sym (set_out l n b h)
-
+-- as many nodes as before
 pub length_given : (b : ℕ) (xs l : List ℕ) → length (with_block b xs l) ≡ length l
 unfolding with_block
 length_given b [] l = refl
@@ -77,10 +42,7 @@ module _ (b w : ℕ) (part l₀ : List ℕ) where
   unfolding with_block gather part_node
   part-more k n l m h e g = rw (add-one k, ← h.is, ← e) g
 
-  pub part_all : (k count : ℕ) (l : List ℕ) → l ≡ with_block b (gather (part_node part w) k) l₀ → k ≤ count → count ≤ k → l ≡ with_block b (gather (part_node part w) count) l₀
-  part_all k count l e h g = let q : k ≡ count = omega arith in rw (← q) e
-
-pub ruleset parts = (given_long, part_none, part-more, part_all)
+pub ruleset parts = (given_long, part_none, part-more)
 
 gather_same : (f g : ℕ → List ℕ) (n : ℕ) → ((k : ℕ) → k < n → f k ≡ g k) → gather f n ≡ gather g n
 unfolding gather
@@ -97,10 +59,6 @@ module _ (t : List ℕ) (s : Sections) (c : List ℕ) (o : Decodes t s c) (first
       → part ≡ argument_part s.w t first count → m ≡ with_block b (gather (part_node part s.w) count) l → m ≡ with_block b (arg_nodes (decoded c) i) l
   unfolding arg_nodes
   arguments_given b i part l m r hr e hc hd h g = g ∙ rw (h, part_nodes, ← hr, e, hc, hd)
-
-pub arguments_none : (T : Table) (b i : ℕ) (l : List ℕ) (r : Bool) → r ≡ is_call T i → r ≡ false → l ≡ with_block b (arg_nodes T i) l
-unfolding arg_nodes with_block
-arguments_none T b i l r h e = rw (← h, e)
 
 -- the nodes of fields
 module _ (T : Table) (b i : ℕ) (l : List ℕ) (r : Bool) (h : r ≡ names 5 (held T 6 i 1)) where
@@ -146,21 +104,10 @@ pub stmt_given : (T : Table) (b i : ℕ) (l m n : List ℕ) → m ≡ with_block
 unfolding roots
 stmt_given T b i l m n h g = rw (given_append, ← h) g
 
--- a whole variable, and a node of another kind
-module _ (T : Table) (n b k : ℕ) (hk : k ≡ node_kind T n) where
-  pub fits_whole : (x v : ℕ) (r : Bool) → k ≡ 1 → x ≡ node_p T n → v ≡ b → r ≡ in_scope T v x → r ≡ node_visible T n b
-  unfolding node_visible
-  fits_whole x v r e hx hv h = rw (← hk, e, ← hx, ← hv) h
-
-  pub whole_none : (l : List ℕ) → k ≡ 1 → l ≡ with_block b (entry_uses T 5 n) l
-  unfolding with_block
-  whole_none l e = rw (operands_are, has_first, ← hk, e)
-
-  pub fits_other : (k ≡ 1 → ⊥) → true ≡ node_visible T n b
-  unfolding node_visible
-  fits_other h = rw (← hk, ne_eqb k 1 h)
-
-pub ruleset wholes = (fits_whole, whole_none, fits_other)
+-- a whole variable has no operand
+pub whole_none : (T : Table) (n b k : ℕ) → k ≡ node_kind T n → (l : List ℕ) → k ≡ 1 → l ≡ with_block b (entry_uses T 5 n) l
+unfolding with_block
+whole_none T n b k hk l e = rw (operands_are, has_first, ← hk, e)
 
 -- what a list holds when b was handed to the nodes xs
 module _ (b : ℕ) where

@@ -15,103 +15,66 @@ ghost use Rattle.scopes.specs.Handed.{with_block, part_node, arg_nodes, roots, n
 
 use code::kinds;
 
+#[tactic(auto, unfolding(crate::specs::Scopes::of_block))]
 fn is_among(c: &code::Slots, b: usize, x: usize) -> bool
     ensures { result ≡ of_block (decoded c.now) b x }
 {
     let first = code::first_var(c, b);
-    if first <= x {
-        return x < first + code::block_vars(c, b);
-    }
-    false
+    first <= x && x < first + code::block_vars(c, b)
 }
 
+#[tactic(auto, unfolding(crate::specs::Scopes::in_scope))]
 fn is_visible(c: &code::Slots, b: usize, x: usize) -> bool
     ensures { result ≡ in_scope (decoded c.now) b x }
 {
-    if is_among(c, b, x) {
-        return true;
-    }
-    let o = code::block_owner(c, b);
-    is_among(c, o, x)
+    is_among(c, b, x) || is_among(c, code::block_owner(c, b), x)
 }
 
+#[tactic(auto, using(crate::proofs::Rows::has_first))]
 fn has_first(c: &code::Slots, n: usize) -> bool
     ensures { result ≡ names 5 (held (decoded c.now) 5 n 1) }
 {
-    let k = code::node_kind(c, n);
-    if kinds::FIELD <= k {
-        // A string holds characters, and no node.
-        return k <= kinds::TRANSFER;
-    }
-    false
+    // A string holds characters, and no node.
+    matches!(code::node_kind(c, n), kinds::FIELD..=kinds::TRANSFER)
 }
 
+#[tactic(auto, using(crate::proofs::Rows::has_second))]
 fn has_second(c: &code::Slots, n: usize) -> bool
     ensures { result ≡ names 5 (held (decoded c.now) 5 n 2) }
 {
-    let k = code::node_kind(c, n);
-    if k == kinds::ELEMENT {
-        return true;
-    }
-    k == kinds::BINARY
+    matches!(code::node_kind(c, n), kinds::ELEMENT | kinds::BINARY)
 }
 
+#[tactic(auto, using(crate::proofs::Rows::names_a))]
 fn names_a(c: &code::Slots, i: usize) -> bool
     ensures { result ≡ names 5 (held (decoded c.now) 6 i 1) }
 {
-    let k = code::stmt_kind(c, i);
-    if k == kinds::ASSIGN {
-        return true;
-    }
-    if k == kinds::PROCESS_CALL {
-        return true;
-    }
-    if k == kinds::CREATE {
-        return true;
-    }
-    if k == kinds::START {
-        return true;
-    }
-    if k == kinds::ARM {
-        return true;
-    }
-    k == kinds::WRITE
+    matches!(
+        code::stmt_kind(c, i),
+        kinds::ASSIGN
+            | kinds::PROCESS_CALL
+            | kinds::CREATE
+            | kinds::START
+            | kinds::ARM
+            | kinds::WRITE
+    )
 }
 
+#[tactic(auto, using(crate::proofs::Rows::names_b))]
 fn names_b(c: &code::Slots, i: usize) -> bool
     ensures { result ≡ names 5 (held (decoded c.now) 6 i 2) }
 {
-    let k = code::stmt_kind(c, i);
-    if k == kinds::ASSIGN {
-        return true;
-    }
-    k == kinds::WRITE
+    matches!(code::stmt_kind(c, i), kinds::ASSIGN | kinds::WRITE)
 }
 
+#[tactic(auto, using(crate::proofs::Rows::has_arguments))]
 fn has_arguments(c: &code::Slots, i: usize) -> bool
     ensures { result ≡ is_call (decoded c.now) i }
 {
-    let k = code::stmt_kind(c, i);
-    if k == kinds::LOCAL_CALL {
-        return true;
-    }
-    if k == kinds::PROCESS_CALL {
-        return true;
-    }
-    k == kinds::START
-}
-
-fn narrow(b: usize) -> u16
-    requires { b < 65536 }
-    ensures { result ≡ b }
-{
-    b as u16
-}
-
-fn wide(b: u16) -> usize
-    ensures { result ≡ b }
-{
-    b as usize
+    matches!(
+        code::stmt_kind(c, i),
+        kinds::LOCAL_CALL | kinds::PROCESS_CALL | kinds::START
+    )
 }
 
 // Node n is used in block b.
@@ -124,17 +87,17 @@ fn hand(blocks: &mut [u16], n: usize, b: u16)
 }
 
 // The first `count` arguments that a part of a table with numbers of w bytes holds.
+#[tactic(auto, using(crate::proofs::Scoping::parts))]
 fn hand_part(blocks: &mut [u16], b: u16, part: &[u8], w: usize, count: usize)
     requires { (1 ≤ w) × (w ≤ 2) × (count < 65536) }
     ensures { blocks.new ≡ with_block b (gather (part_node part.now w) count) blocks.old }
 {
-    let mut k = 0;
-    while k < count {
+    for k in 0..count {
         hand(blocks, table::argument(part, w, k), b);
-        k += 1;
     }
 }
 
+#[tactic(auto, unfolding(crate::specs::Handed::arg_nodes, crate::specs::Handed::with_block))]
 fn hand_arguments(
     t: &[u8],
     s: table::Sections,
@@ -154,6 +117,7 @@ fn hand_arguments(
 }
 
 // The nodes that the fields of statement i name.
+#[tactic(auto, using(crate::proofs::Scoping::fields))]
 fn hand_fields(c: &code::Slots, blocks: &mut [u16], b: u16, i: usize)
     ensures { blocks.new ≡ with_block b (entry_uses (decoded c.now) 6 i) blocks.old }
 {
@@ -165,6 +129,7 @@ fn hand_fields(c: &code::Slots, blocks: &mut [u16], b: u16, i: usize)
     }
 }
 
+#[tactic(auto, using(crate::proofs::Scoping::stmt_given))]
 fn hand_stmt(t: &[u8], s: table::Sections, c: &code::Slots, blocks: &mut [u16], b: u16, i: usize)
     requires { Decodes t.now s c.now }
     ensures { blocks.new ≡ with_block b (roots (decoded c.now) i) blocks.old }
@@ -174,18 +139,16 @@ fn hand_stmt(t: &[u8], s: table::Sections, c: &code::Slots, blocks: &mut [u16], 
 }
 
 // A local call from block b stays in its module.
+#[tactic(auto, unfolding(crate::specs::Scopes::stays_in))]
 fn stays_in(c: &code::Slots, i: usize, b: usize) -> bool
     ensures { result ≡ stays_in (decoded c.now) i b }
 {
-    if code::stmt_kind(c, i) == kinds::LOCAL_CALL {
-        let to = code::block_owner(c, code::stmt_a(c, i));
-        let from = code::block_owner(c, b);
-        return to == from;
-    }
-    true
+    code::stmt_kind(c, i) != kinds::LOCAL_CALL
+        || code::block_owner(c, code::stmt_a(c, i)) == code::block_owner(c, b)
 }
 
 // The block of the statement after i, where b is that of i.
+#[tactic(auto, unfolding(nesting::specs::Nest::block_step))]
 fn block_step(c: &code::Slots, i: usize, b: usize) -> usize
     requires { b < 65536 }
     ensures { (result ≡ block_step (decoded c.now) i b) × (result ≤ b + 1) }
@@ -197,26 +160,25 @@ fn block_step(c: &code::Slots, i: usize, b: usize) -> usize
 }
 
 // Hands the block of each statement to the nodes that it uses. Whether local calls stay in their modules.
+#[tactic(auto, using(crate::proofs::Handing::handings))]
 fn hand_stmts(t: &[u8], s: table::Sections, c: &code::Slots, blocks: &mut [u16]) -> bool
     requires decodes { Decodes t.now s c.now }
     requires c_in_bounds { node_count (decoded c.now) ≤ length blocks.old }
     ensures { Stays (decoded c.now) result blocks.new }
 {
-    let count = code::statements(c);
     let mut b = 0;
-    let mut i = 0;
-    while i < count {
-        if stays_in(c, i, b) {
-            hand_stmt(t, s, c, blocks, narrow(b), i);
-            b = block_step(c, i, b);
-            i += 1;
-        } else {
+    for i in 0..code::statements(c) {
+        if !stays_in(c, i, b) {
             return false;
         }
+        hand_stmt(t, s, c, blocks, b as u16, i);
+        b = block_step(c, i, b);
     }
     true
 }
 
+// As `hand_fields` for statements. (One function for both would take four readers as arguments.)
+#[tactic(auto, using(crate::proofs::Scoping::operands))]
 fn hand_operands(c: &code::Slots, blocks: &mut [u16], b: u16, n: usize)
     ensures { blocks.new ≡ with_block b (entry_uses (decoded c.now) 5 n) blocks.old }
 {
@@ -229,6 +191,7 @@ fn hand_operands(c: &code::Slots, blocks: &mut [u16], b: u16, n: usize)
 }
 
 // Node n, in the block that it was handed, which it hands on.
+#[tactic(auto, using(crate::proofs::Scoping::whole_none), unfolding(crate::specs::Handed::node_visible))]
 fn node_scoped(c: &code::Slots, blocks: &mut [u16], n: usize) -> bool
     requires { n < length blocks.old }
     ensures fits { result ≡ node_visible (decoded c.now) n (get_or blocks.old n 0) }
@@ -236,24 +199,22 @@ fn node_scoped(c: &code::Slots, blocks: &mut [u16], n: usize) -> bool
 {
     let b = blocks[n];
     if code::node_kind(c, n) == kinds::WHOLE {
-        return is_visible(c, wide(b), code::node_p(c, n));
+        return is_visible(c, usize::from(b), code::node_p(c, n));
     }
     hand_operands(c, blocks, b, n);
     true
 }
 
 // From the last node to the first: the user of a node is a statement or stands after it.
+#[tactic(auto, using(crate::proofs::Handing::downs))]
 fn nodes_scoped(c: &code::Slots, blocks: &mut [u16]) -> bool
     requires c_value { in_range (decoded c.now) ≡ true }
     requires c_value_2 { used_once (decoded c.now) ≡ true }
     requires stays { Stays (decoded c.now) true blocks.old }
     ensures { result ≡ scoped (decoded c.now) }
 {
-    let mut n = code::nodes(c);
-    while n > 0 {
-        if node_scoped(c, blocks, n - 1) {
-            n -= 1;
-        } else {
+    for n in (0..code::nodes(c)).rev() {
+        if !node_scoped(c, blocks, n) {
             return false;
         }
     }
@@ -268,8 +229,5 @@ pub fn all_scoped(t: &[u8], s: table::Sections, c: &code::Slots, blocks: &mut [u
     requires c_in_bounds { node_count (decoded c.now) ≤ length blocks.old }
     ensures { result ≡ scoped (decoded c.now) }
 {
-    if hand_stmts(t, s, c, blocks) {
-        return nodes_scoped(c, blocks);
-    }
-    false
+    hand_stmts(t, s, c, blocks) && nodes_scoped(c, blocks)
 }

@@ -10,12 +10,12 @@ use borrow.Author.Tests.{ne_eqb, lt-ltb, le-ltb}
 use Rattle.basics.specs.Course.{course}
 use Rattle.basics.specs.Holds.{Holds}
 use Rattle.basics.proofs.Courses.{upto_below, upto_above}
-use Rattle.basics.proofs.Holding.{holds_none, holds_more, holds_part}
+use Rattle.basics.proofs.Holding.{holds_more}
 use Rattle.table.specs.Table.{Table, table_at, cell_at, count_at}
 use Rattle.table.specs.Entries.{declared, type_count, type_kind, type_p, type_q, type_low, type_high, field_type}
 use Rattle.types.specs.Match.{offset, span, elements}
 use Rattle.sizes.specs.Sizes.{sum_below, fields_words, type_words, words_of, part_words, offset_in}
-use Rattle.sizes.specs.Kept.{kept, Known, SizeRoom, Sizes}
+use Rattle.sizes.specs.Kept.{kept, Known, Sizes}
 use Rattle.sizes.proofs.Sums.{sum_more, sum_up, cap_add, cap_mul}
 
 -- the words of a type, by its kind
@@ -114,9 +114,6 @@ module _ (T : Table) (n : ℕ) where
     o_skip l =
         let x : offset_in T n (i + 1) ≡ offset_in T n i + 0 = offset_more T n i ∙ rw (← hp, ← hf, part_none T n f l) in omega arith
 
-  pub o_all : (k i sum : ℕ) → sum ≡ min (offset_in T n i) 201 → i ≤ k → k ≤ i → sum ≡ min (offset_in T n k) 201
-  o_all k i sum h a b = let e : i ≡ k = omega arith in rw (← e) h
-
 -- a part as long as it was asked for
 pub part_long : (n : ℕ) (l : List ℕ) → n ≤ length l → n ≡ length (take n l)
 part_long n l h = sym (length-take-le n l h)
@@ -136,30 +133,10 @@ words_standard T τ h =
 
 -- all types
 module _ (T : Table) (l : List ℕ) where
-  pub sizes-none : Holds (kept T) 0 l
-  sizes-none = holds_none (kept T) l
-
-  pub sizes_known : (n : ℕ) → Holds (kept T) n l → Known T (take n l)
-  sizes_known n h = record { holds = rw (length-take-le n l h.long) (holds_part (kept T) l n h) }
-
   pub sizes_more : (n w v : ℕ) → Holds (kept T) n l → n < length l → v ≡ w → w ≡ min (words_of T n) 201 → Holds (kept T) (n + 1) (set l n v)
   unfolding kept
   sizes_more n w v h k e f = holds_more (kept T) l n v h k (e ∙ f)
 
-  module _ (c : ℕ) (e : c ≡ type_count T) where
-    pub sizes_all : (l₀ : List ℕ) (n : ℕ) → SizeRoom T l₀ → Holds (kept T) n l → n ≤ 3 + c → 3 + c ≤ n → Sizes T l
-    sizes_all l₀ n g h a b = let q : n ≡ 3 + type_count T = omega arith in record { holds = rw q at h; beyond = g.beyond }
-
-    module _ (h : Sizes T l) where
-      pub sizes_long : 3 + c ≤ length l
-      sizes_long = rw e h.holds.long
-
-      pub sizes_part : Known T (take (3 + c) l)
-      sizes_part = rw e (sizes_known (3 + type_count T) h.holds)
-
-      pub size_at : (n r : ℕ) → n < 3 + c → r ≡ get_or l n 0 → r ≡ min (words_of T n) 201
-      unfolding kept
-      size_at n r k f = f ∙ h.holds.is n (rw e at k)
-
-      pub size_none : (n : ℕ) → 3 + c ≤ n → 1 ≡ min (words_of T n) 201
-      size_none n k = let q = words_far T l h n (rw e at k) in omega arith
+-- a number that no type has
+pub size_none : (T : Table) (l : List ℕ) (c : ℕ) → c ≡ type_count T → Sizes T l → (n : ℕ) → 3 + c ≤ n → 1 ≡ min (words_of T n) 201
+size_none T l c e h n k = let q = words_far T l h n (rw e at k) in omega arith

@@ -1,38 +1,19 @@
 -- Judging types and blocks: the laws of each return. Assumes nothing.
-use Prim.Native.Nat.{ℕ, ◌+◌, ◌-◌, ◌%◌, ◌≤◌, ◌<◌, min}
+use Prim.Native.Nat.{ℕ, ◌+◌, ◌-◌, ◌≤◌, ◌<◌, min}
 use mathlib.Core.Path.{◌≡◌, refl}
-use mathlib.Core.Bool.{Bool, true, false}
+use mathlib.Core.Bool.{Bool, true}
 use mathlib.Core.List.{List}
-use lib.Dec.{eqb, leb, ltb}
+use lib.Dec.{ltb}
 use native.Mathlib.Omega.{arith}
-use borrow.Author.Tests.{le-leb, lt-leb, leb-true, ltb-true, ltb-false}
+use borrow.Author.Tests.{leb-true, ltb-true, ltb-false}
 use Rattle.basics.specs.Cases.{cases}
 use Rattle.basics.proofs.Bools.{all-at, no_true}
 use Rattle.table.specs.Table.{Table}
-use Rattle.table.specs.Entries.{type_count, type_low, type_high, var_type, first_var, vars}
-use Rattle.types.specs.Match.{offset, span, elements, in_standard}
+use Rattle.table.specs.Entries.{type_count, var_type, first_var, vars}
 use Rattle.sizes.specs.Sizes.{sum_below, words_of, bounds_ok, even_string, type_ok, type_sized, types_sized, var_offset, module_words}
 use Rattle.sizes.specs.Kept.{Sizes}
-use Rattle.sizes.proofs.Sums.{sum_more, sum_up, cap_add, module_small}
+use Rattle.sizes.proofs.Sums.{sum_more, sum_up, cap_add}
 use Rattle.sizes.proofs.Counting.{words_far, words_standard}
-
--- an array has elements where its low is not above its high
-module _ (T : Table) (τ e : ℕ) (h : e ≡ elements T τ) where
-  pub bounds_some : 1 ≤ e → leb (offset (type_low T τ)) (offset (type_high T τ)) ≡ true
-  unfolding elements span
-  bounds_some l = le-leb (offset (type_low T τ)) (offset (type_high T τ)) (omega arith)
-
-  pub bounds_none : e < 1 → leb (offset (type_low T τ)) (offset (type_high T τ)) ≡ false
-  unfolding elements span
-  bounds_none l = lt-leb (offset (type_low T τ)) (offset (type_high T τ)) (omega arith)
-
-  pub even_local : eqb (e % 2) 0 ≡ eqb (elements T τ % 2) 0
-  even_local = rw h
-
-pub index_local : (i v ι w : ℕ) (r : Bool) → i ≡ ι → v ≡ w → r ≡ in_standard i v → r ≡ in_standard ι w
-index_local i v ι w r h g e = rw (← h, ← g) e
-
-pub ruleset bounds = (bounds_some, bounds_none, index_local)
 
 pub type_row : (T : Table) (i : ℕ) (r : Bool) → r ≡ type_ok T (3 + i) → r ≡ type_sized T i
 unfolding type_sized
@@ -101,9 +82,4 @@ module _ (T : Table) (b : ℕ) where
   pub v_none : 0 ≡ min (var_offset T b 0) 257
   v_none = rw (var_none T b)
 
-  pub v_all : (k i sum : ℕ) → sum ≡ min (var_offset T b i) 257 → i ≤ k → k ≤ i → sum ≡ min (var_offset T b k) 257
-  v_all k i sum h g l = let e : i ≡ k = omega arith in rw (← e) h
-
-  pub module_local : (q r : ℕ) → q ≡ vars T b → r ≡ min (var_offset T b q) 257 → leb r 256 ≡ leb (module_words T b) 256
-  unfolding module_words
-  module_local q r h e = module_small (var_offset T b (vars T b)) r (rw (← h) e)
+pub ruleset variables = (v_none, v_more)

@@ -2,12 +2,10 @@
 use Prim.Native.Nat.{ℕ, zero, suc, ◌+◌, ◌*◌, ◌≤◌, ◌<◌, min}
 use mathlib.Core.Path.{◌≡◌, refl}
 use native.Mathlib.Numerals.{add-one}
-use native.Mathlib.Nat.{not-suc-le-zero, mul-le-mul, mul-le-mul_right}
+use native.Mathlib.Nat.{not-suc-le-zero, mul-le-mul_right}
 use native.Mathlib.Omega.{arith}
 use lib.Dec.{eqb, leb}
-use borrow.Author.Tests.{eqb-true, eqb-false, leb-true, leb-false, lt-leb}
-use mir.Val.{Fits}
-use mir.Syntax.{w64}
+use borrow.Author.Tests.{eqb-true, eqb-false, leb-true, leb-false}
 use Rattle.basics.specs.Cases.{cases}
 use Rattle.sizes.specs.Sizes.{sum_below}
 
@@ -63,20 +61,3 @@ module _ (m a x : ℕ) (hx : x ≡ min a m) where
           let x : 1 * m ≤ suc c * m = mul-le-mul_right m (omega arith) in
           let y : 1 * a ≤ suc c * a = mul-le-mul_right a (omega arith) in
           omega arith
-
--- a kept number is within its bound if the number is
-cap_le : (m a x : ℕ) → x ≡ min a (m + 1) → leb x m ≡ leb a m
-cap_le m a x h =
-    cases (leb a m)
-    (λ g. let l = leb-true a m g in let q : x ≡ a = omega arith in rw q)
-    (λ g. let l = leb-false a m g in rw g (lt-leb x m (omega arith)))
-
-pub type_small : (a x : ℕ) → x ≡ min a 201 → leb x 200 ≡ leb a 200
-type_small a x h = cap_le 200 a x h
-
-pub module_small : (a x : ℕ) → x ≡ min a 257 → leb x 256 ≡ leb a 256
-module_small a x h = cap_le 256 a x h
-
-pub product_fits : (c x a : ℕ) → c ≤ 65536 → x ≡ min a 201 → Fits w64 (c * x)
-product_fits c x a h e =
-    let l : x ≤ 201 = omega arith in let m : c * x ≤ 65536 * 201 = mul-le-mul h l in record { fits = omega arith }

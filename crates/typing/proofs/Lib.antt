@@ -1,4 +1,3 @@
-pub mod Rows
 pub mod Passing
 pub mod Promise
 pub mod Examples

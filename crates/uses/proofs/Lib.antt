@@ -3,3 +3,4 @@ pub mod Noting
 pub mod Blanks
 pub mod Promise
 pub mod Examples
+pub mod Slices

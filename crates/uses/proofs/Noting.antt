@@ -2,46 +2,21 @@
 use Prim.Native.Nat.{ℕ, zero, suc, ◌+◌, ◌≤◌, ◌<◌}
 use mathlib.Core.Path.{◌≡◌, refl, ap, ◌∙◌}
 use mathlib.Core.Bool.{Bool}
-use mathlib.Core.Logic.{◌⊎◌, inl, inr}
 use mathlib.Core.List.{List, [], ◌∷◌, ◌++◌, append-nil}
 use native.Mathlib.Omega.{arith}
 use lib.ListN.{length, get_or}
-use lib.Dec.{eqb, ltb}
-use borrow.Author.Tests.{eq-eqb, ne_eqb, eqb-true, eqb-false, le-ltb}
+use lib.Dec.{eqb}
+use borrow.Author.Tests.{eq-eqb, ne_eqb, eqb-true, eqb-false}
 use Rattle.basics.specs.Cases.{cases}
-use Rattle.basics.specs.Choice.{all_below, pick}
+use Rattle.basics.specs.Choice.{all_below}
 use Rattle.basics.specs.Marks.{occurs, gather}
 use Rattle.basics.specs.Loops.{with_mark, MarksOf}
 use Rattle.basics.proofs.Marking.{length_marked, seen_zeros, seen_more, gather_more}
 use Rattle.table.specs.Table.{Table}
 use Rattle.table.specs.Entries.{arg_count, arg_node, node_count, node_kind, node_p, node_q, stmt_count, stmt_kind, stmt_a, stmt_b}
-use Rattle.table.proofs.EachKind.{node_kinds, stmt_kinds}
 use Rattle.uses.specs.Uses.{entry_uses, section_uses, uses, once, used_once}
 use Rattle.uses.specs.Marked.{operands, stmt_nodes, first_of, marked_all, NoMarks, one_mark}
 use Rattle.uses.proofs.Rows.{node_uses, stmt_uses, arg_uses, uses_are}
-
--- what each arm of the code gives: the numbers that stand alone, then the ranges between them
-module _ (f : ℕ → ℕ) (k x y n : ℕ) (a : n ≡ f x) (b : n ≡ f y) where
-  pub either : (k ≡ x) ⊎ (k ≡ y) → n ≡ f k
-  either (inl e) = rw e a
-  either (inr e) = rw e b
-
-after : (k x y : ℕ) → x ≤ k → y ≤ k → ◌≡◌ {A = ℕ} (pick (ltb k x) 0 (pick (ltb k y) 1 0)) 0
-after k x y h g = rw (le-ltb k x h, le-ltb k y g)
-
-pub operands_else : (k : ℕ) → ((k ≡ 3) ⊎ (k ≡ 6) → ⊥) → ((k ≡ 2) ⊎ (k ≡ 7) → ⊥) → pick (ltb k 2) 0 (pick (ltb k 6) 1 0) ≡ operands k
-unfolding operands
-operands_else =
-    node_kinds (λ k. ((k ≡ 3) ⊎ (k ≡ 6) → ⊥) → ((k ≡ 2) ⊎ (k ≡ 7) → ⊥) → pick (ltb k 2) 0 (pick (ltb k 6) 1 0) ≡ operands k)
-    (λ a b. refl) (λ a b. refl) (λ a b. absurd (b (inl refl))) (λ a b. absurd (a (inl refl))) (λ a b. refl) (λ a b. refl) (λ a b. absurd (a (inr refl)))
-    (λ a b. absurd (b (inr refl))) (λ a b. refl) (λ k a b. after (suc (suc (suc (suc (suc (suc (suc (suc (suc k))))))))) 2 6 (omega arith) (omega arith))
-
-pub nodes_else : (k : ℕ) → ((k ≡ 1) ⊎ (k ≡ 12) → ⊥) → (k ≡ 10 → ⊥) → pick (ltb k 3) 0 (pick (ltb k 6) 1 0) ≡ stmt_nodes k
-unfolding stmt_nodes
-nodes_else =
-    stmt_kinds (λ k. ((k ≡ 1) ⊎ (k ≡ 12) → ⊥) → (k ≡ 10 → ⊥) → pick (ltb k 3) 0 (pick (ltb k 6) 1 0) ≡ stmt_nodes k)
-    (λ a b. refl) (λ a b. absurd (a (inl refl))) (λ a b. refl) (λ a b. refl) (λ a b. refl) (λ a b. refl) (λ a b. refl) (λ a b. refl) (λ a b. refl)
-    (λ a b. refl) (λ a b. absurd (b refl)) (λ a b. refl) (λ a b. absurd (a (inr refl))) (λ a b. refl) (λ k a b. after (suc (suc (suc (suc (suc (suc (suc (suc (suc (suc (suc (suc (suc (suc k)))))))))))))) 3 6 (omega arith) (omega arith))
 
 -- none, one or two numbers are marked
 module _ (k x y : ℕ) (seen : List ℕ) where

@@ -1,51 +1,23 @@
-use Rattle.std.proofs.Common.{rules}
-use Rattle.nesting.proofs.Flat.{parses, calls, bodies, armlists}
+use Rattle.nesting.proofs.Flat.{stmt_none, arm_not, body_stops, body_more, body_less, arms_more, arms_less}
 use Rattle.nesting.proofs.+nest.Goals as goal
 
-pub arm_end-returns-then-stmt_class-ne-ARM : goal.arm_end-returns-then-stmt_class-ne-ARM
-arm_end-returns-then-stmt_class-ne-ARM t c = search parses
+pub arm_end-returns-in_default : goal.arm_end-returns-in_default
+arm_end-returns-in_default t c = arm_not _ _ _ c.stmt_class.ensures c.in_default.not-Arm
 
-pub arm_end-body_end-j-requires : goal.arm_end-body_end-j-requires
-arm_end-body_end-j-requires t c = (search calls, search rules)
+pub arms_end-loop-k-smaller : goal.arms_end-loop-k-smaller
+arms_end-loop-k-smaller t c = arms_less _ _ _ c.in_ok-k.ensures
 
-pub arm_end-returns-then-stmt_link-j : goal.arm_end-returns-then-stmt_link-j
-arm_end-returns-then-stmt_link-j t c = search parses
+pub arms_end-loop-k-preserved : goal.arms_end-loop-k-preserved
+arms_end-loop-k-preserved t c = arms_more _ _ _ _ c.loop-k.invariant _ c.in_ok-k.ensures _ c.stmt_class.ensures c.in_default.not-End
 
-pub arm_end-returns : goal.arm_end-returns
-arm_end-returns t c = search parses
+pub body_end-loop-k-smaller : goal.body_end-loop-k-smaller
+body_end-loop-k-smaller t c = body_less _ _ _ c.in_ok-k.ensures
 
-pub arms_end-returns-then-k-eq0 : goal.arms_end-returns-then-k-eq0
-arms_end-returns-then-k-eq0 t c = search armlists
+pub body_end-loop-k-preserved : goal.body_end-loop-k-preserved
+body_end-loop-k-preserved t c = body_more _ _ _ c.loop-k.invariant _ c.in_ok-k.ensures _ c.stmt_class.ensures c.in-Simple.is
 
-pub arms_end-returns-then-stmt_class-eq-END : goal.arms_end-returns-then-stmt_class-eq-END
-arms_end-returns-then-stmt_class-eq-END t c = search armlists
+pub body_end-returns-in-Arm : goal.body_end-returns-in-Arm
+body_end-returns-in-Arm t c = body_stops _ _ _ c.loop-k.invariant _ c.in_ok-k.ensures _ c.stmt_class.ensures c.in-Arm.is
 
-pub arms_end-loop-o-smaller : goal.arms_end-loop-o-smaller
-arms_end-loop-o-smaller t c = search armlists
-
-pub arms_end-loop-o-preserved : goal.arms_end-loop-o-preserved
-arms_end-loop-o-preserved t c = search armlists
-
-pub body_end-returns-then-k-eq0 : goal.body_end-returns-then-k-eq0
-body_end-returns-then-k-eq0 t c = search bodies
-
-pub body_end-returns-then-stmt_class-ge-ARM : goal.body_end-returns-then-stmt_class-ge-ARM
-body_end-returns-then-stmt_class-ge-ARM t c = search bodies
-
-pub body_end-loop-i-smaller : goal.body_end-loop-i-smaller
-body_end-loop-i-smaller t c = search bodies
-
-pub body_end-loop-i-preserved : goal.body_end-loop-i-preserved
-body_end-loop-i-preserved t c = search bodies
-
-pub stmt_end-returns-then-class-eq-SIMPLE : goal.stmt_end-returns-then-class-eq-SIMPLE
-stmt_end-returns-then-class-eq-SIMPLE t c = search parses
-
-pub stmt_end-arms_end-requires : goal.stmt_end-arms_end-requires
-stmt_end-arms_end-requires t c = (search calls, search rules)
-
-pub stmt_end-returns-then-class-eq-OPENER : goal.stmt_end-returns-then-class-eq-OPENER
-stmt_end-returns-then-class-eq-OPENER t c = search parses
-
-pub stmt_end-returns : goal.stmt_end-returns
-stmt_end-returns t c = search parses
+pub stmt_end-returns-in_default : goal.stmt_end-returns-in_default
+stmt_end-returns-in_default t c = stmt_none _ _ _ c.stmt_class.ensures c.in_default.not-Simple c.in_default.not-Opener

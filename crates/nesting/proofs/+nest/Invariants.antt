@@ -16,14 +16,14 @@ decreases-body_end l = 2 * (stmt_count (decoded l.c.now) - l.i) + 1
 abbrev pub decreases-stmt_end : goal.decreases-stmt_end
 decreases-stmt_end l = 2 * (stmt_count (decoded l.c.now) - l.i)
 
-abbrev pub invariant-arms_end-loop-o : goal.invariant-arms_end-loop-o
-invariant-arms_end-loop-o l = ArmsRest (decoded l.c) l.o l.i l.j
+abbrev pub invariant-arms_end-loop-k : goal.invariant-arms_end-loop-k
+invariant-arms_end-loop-k l = ArmsRest (decoded l.c) l.o l.i l.j
 
-abbrev pub decreases-arms_end-loop-o : goal.decreases-arms_end-loop-o
-decreases-arms_end-loop-o l = stmt_count (decoded l.c) - l.j
+abbrev pub decreases-arms_end-loop-k : goal.decreases-arms_end-loop-k
+decreases-arms_end-loop-k l = stmt_count (decoded l.c) - l.j
 
-abbrev pub invariant-body_end-loop-i : goal.invariant-body_end-loop-i
-invariant-body_end-loop-i l = BodyRest (decoded l.c) l.i l.j
+abbrev pub invariant-body_end-loop-k : goal.invariant-body_end-loop-k
+invariant-body_end-loop-k l = BodyRest (decoded l.c) l.i l.j
 
-abbrev pub decreases-body_end-loop-i : goal.decreases-body_end-loop-i
-decreases-body_end-loop-i l = stmt_count (decoded l.c) - l.j
+abbrev pub decreases-body_end-loop-k : goal.decreases-body_end-loop-k
+decreases-body_end-loop-k l = stmt_count (decoded l.c) - l.j

@@ -1,11 +1,7 @@
-use Prim.Native.Nat.{◌≤◌, ◌-◌}
 use mathlib.Core.Path.{◌≡◌}
 use Rattle.basics.specs.Marks.{gather}
 use Rattle.scopes.specs.Handed.{with_block, part_node}
 use Rattle.scopes.proofs.hand_part.Given as goal
 
 abbrev pub invariant-loop-k : goal.invariant-loop-k
-invariant-loop-k l = (l.k ≤ l.count) × (l.blocks ≡ with_block l.b (gather (part_node l.part l.w) l.k) l.initial.blocks)
-
-abbrev pub decreases-loop-k : goal.decreases-loop-k
-decreases-loop-k l = l.count - l.k
+invariant-loop-k l = l.blocks ≡ with_block l.b (gather (part_node l.part l.w) l.k) l.initial.blocks

@@ -1,4 +1,4 @@
-use Prim.Native.Nat.{◌≤◌, ◌-◌}
+use Prim.Native.Nat.{◌≤◌}
 use mathlib.Core.Path.{◌≡◌}
 use lib.ListN.{length}
 use Rattle.basics.specs.Loops.{Chain}
@@ -9,7 +9,4 @@ use Rattle.scopes.specs.Handed.{RootsHanded}
 use Rattle.scopes.proofs.hand_stmts.Given as goal
 
 abbrev pub invariant-loop-i : goal.invariant-loop-i
-invariant-loop-i l = (l.i ≤ l.count) × (l.b ≤ l.i) × (length l.blocks ≡ length l.initial.blocks) × Chain (block_step (decoded l.c)) (stays_in (decoded l.c)) l.i l.b × RootsHanded (decoded l.c) l.i l.blocks
-
-abbrev pub decreases-loop-i : goal.decreases-loop-i
-decreases-loop-i l = l.count - l.i
+invariant-loop-i l = (l.b ≤ l.i) × (length l.blocks ≡ length l.initial.blocks) × Chain (block_step (decoded l.c)) (stays_in (decoded l.c)) l.i l.b × RootsHanded (decoded l.c) l.i l.blocks

@@ -1,13 +1,8 @@
-use Prim.Native.Nat.{◌≤◌}
 use mathlib.Core.Path.{◌≡◌}
 use lib.ListN.{length}
 use Rattle.code.specs.Code.{decoded}
-use Rattle.table.specs.Entries.{node_count}
 use Rattle.scopes.proofs.Handing.{Downward}
 use Rattle.scopes.proofs.nodes_scoped.Given as goal
 
 abbrev pub invariant-loop-n : goal.invariant-loop-n
-invariant-loop-n l = (l.n ≤ node_count (decoded l.c)) × (length l.blocks ≡ length l.initial.blocks) × Downward (decoded l.c) l.n l.blocks
-
-abbrev pub decreases-loop-n : goal.decreases-loop-n
-decreases-loop-n l = l.n
+invariant-loop-n l = (length l.blocks ≡ length l.initial.blocks) × Downward (decoded l.c) l.n l.blocks

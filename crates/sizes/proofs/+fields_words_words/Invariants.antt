@@ -1,4 +1,4 @@
-use Rattle.std.proofs.Common.{◌≡◌, ◌+◌, ◌-◌, ◌*◌, ◌≤◌, min}
+use Rattle.std.proofs.Common.{◌≡◌, ◌+◌, ◌*◌, min}
 use Rattle.code.specs.Code.{decoded}
 use Rattle.sizes.specs.Sizes.{offset_in}
 use Rattle.sizes.proofs.+fields_words_words.Given as goal
@@ -11,7 +11,4 @@ abbrev pub decreases-words : goal.decreases-words
 decreases-words l = 2 * l.n + 1
 
 abbrev pub invariant-fields_words-loop-i : goal.invariant-fields_words-loop-i
-invariant-fields_words-loop-i l = (l.i ≤ l.k) × (l.sum ≡ min (offset_in (decoded l.c) l.n l.i) 201)
-
-abbrev pub decreases-fields_words-loop-i : goal.decreases-fields_words-loop-i
-decreases-fields_words-loop-i l = l.k - l.i
+invariant-fields_words-loop-i l = l.sum ≡ min (offset_in (decoded l.c) l.n l.i) 201

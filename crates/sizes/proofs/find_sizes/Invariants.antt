@@ -1,4 +1,3 @@
-use Prim.Native.Nat.{◌≤◌, ◌-◌}
 use mathlib.Core.Path.{◌≡◌}
 use lib.ListN.{length}
 use Rattle.basics.specs.Holds.{Holds}
@@ -7,7 +6,4 @@ use Rattle.sizes.specs.Kept.{kept}
 use Rattle.sizes.proofs.find_sizes.Given as goal
 
 abbrev pub invariant-loop-n : goal.invariant-loop-n
-invariant-loop-n l = (l.n ≤ l.count) × (length l.sizes ≡ length l.initial.sizes) × Holds (kept (decoded l.c)) l.n l.sizes
-
-abbrev pub decreases-loop-n : goal.decreases-loop-n
-decreases-loop-n l = l.count - l.n
+invariant-loop-n l = (length l.sizes ≡ length l.initial.sizes) × Holds (kept (decoded l.c)) l.n l.sizes

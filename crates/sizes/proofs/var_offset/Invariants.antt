@@ -1,11 +1,8 @@
-use Prim.Native.Nat.{◌≤◌, ◌-◌, min}
+use Prim.Native.Nat.{min}
 use mathlib.Core.Path.{◌≡◌}
 use Rattle.code.specs.Code.{decoded}
 use Rattle.sizes.specs.Sizes.{var_offset}
 use Rattle.sizes.proofs.var_offset.Given as goal
 
 abbrev pub invariant-loop-i : goal.invariant-loop-i
-invariant-loop-i l = (l.i ≤ l.k) × (l.sum ≡ min (var_offset (decoded l.c) l.b l.i) 257)
-
-abbrev pub decreases-loop-i : goal.decreases-loop-i
-decreases-loop-i l = l.k - l.i
+invariant-loop-i l = l.sum ≡ min (var_offset (decoded l.c) l.b l.i) 257

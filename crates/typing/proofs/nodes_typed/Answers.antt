@@ -1,21 +1,9 @@
-use native.Mathlib.Omega.{arith}
-use Rattle.typing.proofs.Passing.{counts}
+use Rattle.std.proofs.Common.{rules}
+use borrow.Author.Tests.{tests}
+use Rattle.code.specs.Code.{decoded}
+use Rattle.basics.proofs.Ranges.{all_of}
+use Rattle.typing.specs.Typing.{node_typed}
 use Rattle.typing.proofs.nodes_typed.Goals as goal
 
-pub loop-n-init : goal.loop-n-init
-loop-n-init c = (omega arith, search counts)
-
-pub overflow_add-n : goal.overflow_add-n
-overflow_add-n c = omega arith
-
-pub loop-n-smaller : goal.loop-n-smaller
-loop-n-smaller c = omega arith
-
-pub loop-n-preserved : goal.loop-n-preserved
-loop-n-preserved c = (omega arith, search counts)
-
-pub returns-else-node_typed : goal.returns-else-node_typed
-returns-else-node_typed c = search counts
-
 pub returns : goal.returns
-returns c = search counts
+returns c = all_of _ _ _ _ (node_typed (decoded c.args.c.now)) c.all.ensures.ran (cc) (λ x q k. search (rules, tests)) (λ x q k. search (rules, tests))

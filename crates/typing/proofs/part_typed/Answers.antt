@@ -1,24 +1,10 @@
-use native.Mathlib.Omega.{arith}
-use Rattle.typing.proofs.Passing.{parameters}
+use Rattle.std.proofs.Common.{rules}
+use borrow.Author.Tests.{tests}
+use Rattle.code.specs.Code.{decoded}
+use Rattle.basics.proofs.Ranges.{all_of}
+use Rattle.typing.specs.Parts.{parameter_in}
 use Rattle.typing.proofs.part_typed.Goals as goal
 
-pub loop-k-init : goal.loop-k-init
-loop-k-init c = (omega arith, search parameters)
-
-pub overflow_add-x : goal.overflow_add-x
-overflow_add-x c = omega arith
-
-pub overflow_add-k : goal.overflow_add-k
-overflow_add-k c = omega arith
-
-pub loop-k-smaller : goal.loop-k-smaller
-loop-k-smaller c = omega arith
-
-pub loop-k-preserved : goal.loop-k-preserved
-loop-k-preserved c = (omega arith, search parameters)
-
-pub returns-else-argument_typed : goal.returns-else-argument_typed
-returns-else-argument_typed c = search parameters
-
 pub returns : goal.returns
-returns c = search parameters
+unfolding parameter_in
+returns c = all_of _ _ _ _ (parameter_in (decoded c.args.c.now) c.args.w c.args.part.now c.args.x) c.all.ensures.ran (cc) (λ x q k. search (rules, tests)) (λ x q k. search (rules, tests))

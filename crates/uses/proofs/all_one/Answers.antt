@@ -1,21 +1,10 @@
-use native.Mathlib.Omega.{arith}
-use Rattle.basics.proofs.Passes.{passes}
+use lib.Dec.{eqb}
+use borrow.Author.Tests.{tests}
+use Rattle.std.proofs.Common.{rules}
+use Rattle.uses.specs.Marked.{one_mark}
+use Rattle.uses.proofs.Slices.{all_of_items}
 use Rattle.uses.proofs.all_one.Goals as goal
 
-pub loop-x-init : goal.loop-x-init
-loop-x-init c = (omega arith, search passes)
-
-pub overflow_add-x : goal.overflow_add-x
-overflow_add-x c = omega arith
-
-pub loop-x-smaller : goal.loop-x-smaller
-loop-x-smaller c = omega arith
-
-pub loop-x-preserved : goal.loop-x-preserved
-loop-x-preserved c = (omega arith, search passes)
-
-pub returns-else-has_one : goal.returns-else-has_one
-returns-else-has_one c = search passes
-
 pub returns : goal.returns
-returns c = search passes
+unfolding one_mark
+returns c = all_of_items _ _ _ _ c.args.seen.now (λ m. eqb m 1) c.all.ensures.ran c.iter.ensures.rest c.requires (λ x q k. search (rules, tests)) (λ x q k. search (rules, tests))

@@ -1,4 +1,3 @@
-use Prim.Native.Nat.{◌≤◌, ◌-◌}
 use mathlib.Core.Path.{◌≡◌}
 use Rattle.basics.specs.Marks.{gather}
 use Rattle.code.specs.Code.{decoded}
@@ -7,7 +6,4 @@ use Rattle.uses.specs.Marked.{marked_all}
 use Rattle.uses.proofs.mark_args.Given as goal
 
 abbrev pub invariant-loop-i : goal.invariant-loop-i
-invariant-loop-i l = (l.i ≤ l.n) × (l.seen ≡ marked_all (gather (entry_uses (decoded l.c) 4) l.i) l.initial.seen)
-
-abbrev pub decreases-loop-i : goal.decreases-loop-i
-decreases-loop-i l = l.n - l.i
+invariant-loop-i l = l.seen ≡ marked_all (gather (entry_uses (decoded l.c) 4) l.i) l.initial.seen
