@@ -7,6 +7,7 @@ use native.Mathlib.Omega.{arith}
 use borrow.Author.Tests.{eqb-true, ltb-true, ltb-false}
 use lib.ListN.{length, take}
 use lib.Dec.{ltb}
+use Rattle.std.specs.Prelude.{Result, Ok, Err}
 use Rattle.basics.specs.Cases.{cases}
 use Rattle.basics.proofs.Bools.{both_l, both_r}
 use Rattle.table.specs.Table.{Table}
@@ -34,8 +35,6 @@ use Rattle.frames.proofs.Asking.{call_room, call_over, call_fits, call_done}
 use Rattle.effects.specs.Effects.{statement_step, Stepped, Standing}
 use Rattle.effects.proofs.Carrying.{performs_local}
 use Rattle.transfers.proofs.Steps.{stands_lent, stands_there, stands_fail, stands_done}
-use Rattle.calls.specs.declared.Gathered.{Gathered}
-use Rattle.calls.specs.declared.Gathered.TheVariants as gathered
 use Rattle.calls.specs.Gathering.{Added, Adds, Calling}
 use Rattle.calls.specs.Framing.{Framing, FrameCount}
 use Rattle.calls.specs.Entering.{limit_of, invoked, Invoking, Entering}
@@ -243,14 +242,14 @@ module _ (t m p : List ℕ) (x : Context) (q c d k : ℕ) (st : Memory) (r : ℕ
         performs = h.performs ∙ invoked_ok _ _ _ _ _ _ _ _ _ _ a;
       }
 
-  module _ (l₀ l : List ℕ) (g : Gathered) (a : Adds g l₀ 0 l (arguments (decoded t) (memory_of m) (memory_of p) (context_in x) q c d)) where
-    pub invoking_fails : (f : Failure) (w : ℕ) (s1 : List ℕ) → g ≡ gathered.Fail f → w ≡ failure_number f
+  module _ (l₀ l : List ℕ) (g : Result ℕ Failure) (a : Adds g l₀ 0 l (arguments (decoded t) (memory_of m) (memory_of p) (context_in x) q c d)) where
+    pub invoking_fails : (f : Failure) (w : ℕ) (s1 : List ℕ) → g ≡ Err f → w ≡ failure_number f
         → Becomes s1 (update (memory_of m) failure_at (failure_number f))
         → Stepped w s1 p (statement_step (decoded t) (memory_of m) (memory_of p) (context_in x))
     invoking_fails f w s1 e v i =
         stands_fail t m p x h.standing (failure_number f) w s1 (h.performs ∙ invoked_fail _ _ _ _ _ _ _ _ _ _ (rw e at a)) v i
 
-    pub invoking_enters : (n : ℕ) → g ≡ gathered.Count n → Entering t m p x q k st r l n
+    pub invoking_enters : (n : ℕ) → g ≡ Ok n → Entering t m p x q k st r l n
     invoking_enters n e =
         let u : Added l₀ 0 l n (arguments (decoded t) (memory_of m) (memory_of p) (context_in x) q c d) = rw e at a in
         let w = u.put.long in

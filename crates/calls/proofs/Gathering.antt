@@ -5,6 +5,7 @@ use mathlib.Core.List.{List, [], ◌++◌, append_assoc, append-nil}
 use lib.ListN.{length}
 use lib.Dec.{eqb}
 use native.Mathlib.Omega.{arith}
+use Rattle.std.specs.Prelude.{Result, Ok, Err}
 use Rattle.table.specs.Table.{Table}
 use Rattle.table.specs.Entries.{arg_node, first_var, params}
 use Rattle.words.specs.Values.{failure_number}
@@ -16,8 +17,6 @@ use Rattle.machine.specs.Calls.{argument, argument_words, arguments}
 use Rattle.engine.specs.Making.{HasRow}
 use Rattle.evaluation.specs.Acting.{ArgumentRows}
 use Rattle.calls.specs.Gathering.{Buffer, Added, Adds, Passing, Calling, joined, Gathering}
-use Rattle.calls.specs.declared.Gathered.{Gathered}
-use Rattle.calls.specs.declared.Gathered.TheVariants.{Count, Fail}
 use Rattle.calls.proofs.Putting.{appended_none, appended_more, appended_buffer}
 use Rattle.calls.proofs.Passing.{need_is, kept}
 
@@ -98,13 +97,13 @@ module _ (T : Table) (m page : Memory) (x : Context) where
           pub gather_row : (u : List ℕ) → ArgumentRows T u c d → HasRow T u (arg_node T (c + i))
           gather_row u r = r i k
 
-          pub gather_fails : (r : Gathered) (f : Failure) (q : List ℕ) → Adds r l n q (argument T m page x (v + i) (c + i)) → r ≡ Fail f
-              → Adds r l₀ 0 q (arguments T m page x b c d)
+          pub gather_fails : (r : Result ℕ Failure) (f : Failure) (q : List ℕ) → Adds r l n q (argument T m page x (v + i) (c + i)) → r ≡ Err f
+              → arguments T m page x b c d ≡ fail (failure_number f)
           gather_fails r f q a e =
               let u : argument T m page x (v + i) (c + i) ≡ fail (failure_number f) = rw e at a in
-              rw e (arguments_are ∙ rw (← hv) (sym rest-is ∙ joined_fail g.words _ _ _ u))
+              arguments_are ∙ rw (← hv) (sym rest-is ∙ joined_fail g.words _ _ _ u)
 
-          pub gather_more : (r : Gathered) (j : ℕ) (q : List ℕ) → Adds r l n q (argument T m page x (v + i) (c + i)) → r ≡ Count j
+          pub gather_more : (r : Result ℕ Failure) (j : ℕ) (q : List ℕ) → Adds r l n q (argument T m page x (v + i) (c + i)) → r ≡ Ok j
               → Gathering T m page x v c d l₀ q (i + 1) j
           gather_more r j q a e =
               let u : Added l n q j (argument T m page x (v + i) (c + i)) = rw e at a in

@@ -7,6 +7,7 @@ use lib.ListN.{length}
 use lib.Dec.{eqb, ltb}
 use native.Mathlib.Omega.{arith}
 use borrow.Author.Tests.{eqb-true, ltb-true}
+use Rattle.std.specs.Prelude.{Result, Ok, Err}
 use Rattle.basics.specs.Choice.{pick, both}
 use Rattle.basics.specs.Cases.{cases}
 use Rattle.basics.proofs.Bools.{both_l, both_r}
@@ -21,8 +22,6 @@ use Rattle.numbers.proofs.OperandPromise.{arg-node}
 use Rattle.words.specs.Outcomes as words
 use Rattle.words.specs.Values.{failure_number, outcome_of}
 use Rattle.words.specs.declared.values.Failure.{Failure}
-use Rattle.words.specs.declared.values.Value.{Value}
-use Rattle.words.specs.declared.values.Value.TheVariants as value
 use Rattle.machine.specs.Memory.{Memory, memory_of, words_at}
 use Rattle.machine.specs.Texts.{fit, text_at}
 use Rattle.machine.specs.Outcomes.{Outcome, ok, fail, stuck, and_then, need, Operand, place, value, text, placed, typed_words, on_place, on_typed, word_of}
@@ -33,8 +32,6 @@ use Rattle.machine.specs.Layout.{locations}
 use Rattle.machine.proofs.TextLaws.{fit_same}
 use Rattle.code.specs.Code.{decoded}
 use Rattle.operands.specs.declared.Context.{Context}
-use Rattle.operands.specs.declared.Place.{Place}
-use Rattle.operands.specs.declared.Place.TheVariants as place
 use Rattle.operands.specs.Answers.{selected, first_word, single, Unstuck, goes, fails, OneWord, Retrieval, Retrieved}
 use Rattle.operands.specs.Ready.{context_in, Ready, Sized, Valued, Counted}
 use Rattle.operands.proofs.Lending.{expression_valued, expression_counted}
@@ -49,7 +46,6 @@ use Rattle.engine.specs.Making.{HasRow}
 use Rattle.evaluation.specs.Acting.{Rowed}
 use Rattle.evaluation.proofs.Roots.{arg_rowed}
 use Rattle.calls.specs.Gathering.{Appended, Added, Adds, value_of, place_of, Valuable, Passable, Bindable, Passing}
-use Rattle.calls.specs.declared.Gathered.{Gathered}
 use Rattle.calls.proofs.Fitting.{text_passed, value_passed, fit-one}
 
 -- ---- outcomes that are not stuck
@@ -182,11 +178,11 @@ module _ (t m p : List ℕ) (x : Context) (h : Ready t m p x) where
     word_evaluable = record { expression = c.expression; unstuck = value_goes k (out t m p x n) c.unstuck }
 
   module _ (n : ℕ) (c : Valuable (decoded t) (memory_of m) (memory_of p) (context_in x) n 1) (o : OneWord (decoded t) n) where
-    module _ (v : Value) (hv : outcome_of v ≡ first_word (out t m p x n)) where
-      pub word_fails : (e : Failure) → v ≡ value.Fail e → value_of 1 (out t m p x n) ≡ fail (failure_number e)
+    module _ (v : Result ℕ Failure) (hv : outcome_of v ≡ first_word (out t m p x n)) where
+      pub word_fails : (e : Failure) → v ≡ Err e → value_of 1 (out t m p x n) ≡ fail (failure_number e)
       word_fails e g = value_failed 1 (out t m p x n) (failure_number e) (failed _ _ (rw g at hv))
 
-      pub word_returns : (l : List ℕ) (count : ℕ) (k : List ℕ) (w r : ℕ) → v ≡ value.Word w → Appended l count (w ∷ []) k r
+      pub word_returns : (l : List ℕ) (count : ℕ) (k : List ℕ) (w r : ℕ) → v ≡ Ok w → Appended l count (w ∷ []) k r
           → Added l count k r (value_of 1 (out t m p x n))
       word_returns l count k w r g a =
           record {
@@ -205,11 +201,11 @@ module _ (t m p : List ℕ) (x : Context) (h : Ready t m p x) where
     pub copy_retrieval : Retrieval (decoded t) (memory_of m) (memory_of p) (context_in x) n
     copy_retrieval = record { evaluable = word_evaluable n k c; kind = k4 }
 
-    module _ (b : Place) (hb : Retrieved (decoded t) (memory_of m) (memory_of p) (context_in x) n b) where
-      pub copy_fails : (e : Failure) → b ≡ place.Fail e → value_of k (out t m p x n) ≡ fail (failure_number e)
+    module _ (b : Result ℕ Failure) (hb : Retrieved (decoded t) (memory_of m) (memory_of p) (context_in x) n b) where
+      pub copy_fails : (e : Failure) → b ≡ Err e → value_of k (out t m p x n) ≡ fail (failure_number e)
       copy_fails e g = value_failed k (out t m p x n) (failure_number e) (got_failed t m p x h n copy_retrieval b hb e g)
 
-      module _ (i w : ℕ) (hi : b ≡ place.At i) (hw : w ≡ words_of (decoded t) (type_of (decoded t) n)) where
+      module _ (i w : ℕ) (hi : b ≡ Ok i) (hw : w ≡ words_of (decoded t) (type_of (decoded t) n)) where
         pub copy_room : i + w ≤ locations
         copy_room = rw hw (fits_high (decoded t) i (type_of (decoded t) n) (got_fits t m p x h n copy_retrieval b hb i hi))
 
@@ -227,11 +223,11 @@ module _ (t m p : List ℕ) (x : Context) (h : Ready t m p x) where
     pub bind_selectable : Sel t m p x n
     bind_selectable = record { variable = c.variable; unstuck = place_goes (out t m p x n) c.unstuck }
 
-    module _ (b : Place) (hb : selected b (type_of (decoded t) n) ≡ out t m p x n) where
-      pub bind_fails : (e : Failure) → b ≡ place.Fail e → place_of (out t m p x n) ≡ fail (failure_number e)
+    module _ (b : Result ℕ Failure) (hb : selected b (type_of (decoded t) n) ≡ out t m p x n) where
+      pub bind_fails : (e : Failure) → b ≡ Err e → place_of (out t m p x n) ≡ fail (failure_number e)
       bind_fails e g = place_failed (out t m p x n) (failure_number e) (sym hb ∙ rw g)
 
-      module _ (i : ℕ) (hi : b ≡ place.At i) where
+      module _ (i : ℕ) (hi : b ≡ Ok i) where
         bind_place : out t m p x n ≡ ok (place i (type_of (decoded t) n))
         bind_place = sym hb ∙ rw hi
 
@@ -268,7 +264,7 @@ module _ (t m p : List ℕ) (x : Context) (h : Ready t m p x) where
         fitted_valuable : Valuable (decoded t) (memory_of m) (memory_of p) (context_in x) n w
         fitted_valuable = record { expression = c.expression; unstuck = kept _ _ fitted_here c.unstuck }
 
-    pub constant_returns : (k w : ℕ) → k ≡ node_kind (decoded t) n → k ≡ 8 → w ≡ words_of (decoded t) y → (l : List ℕ) (count : ℕ) (r : Gathered) (q : List ℕ)
+    pub constant_returns : (k w : ℕ) → k ≡ node_kind (decoded t) n → k ≡ 8 → w ≡ words_of (decoded t) y → (l : List ℕ) (count : ℕ) (r : Result ℕ Failure) (q : List ℕ)
         → Adds r l count q (ok (fit w (text_at (decoded t) (node_p (decoded t) n) (node_q (decoded t) n))))
         → Adds r l count q (value_argument (decoded t) (memory_of m) (memory_of p) (context_in x) y (out t m p x n))
     constant_returns k w hk e hw l count r q a =
@@ -290,7 +286,7 @@ module _ (t m p : List ℕ) (x : Context) (h : Ready t m p x) where
         pub value_one : Valuable (decoded t) (memory_of m) (memory_of p) (context_in x) n 1
         value_one = fitted_valuable value_single.numbered 1 one_only
 
-        pub one_returns : (l : List ℕ) (count : ℕ) (r : Gathered) (q : List ℕ) → Adds r l count q (value_of 1 (out t m p x n))
+        pub one_returns : (l : List ℕ) (count : ℕ) (r : Result ℕ Failure) (q : List ℕ) → Adds r l count q (value_of 1 (out t m p x n))
             → Adds r l count q (value_argument (decoded t) (memory_of m) (memory_of p) (context_in x) y (out t m p x n))
         one_returns l count r q a = rw (fitted_here value_single.numbered 1 one_only) a
 
@@ -306,7 +302,7 @@ module _ (t m p : List ℕ) (x : Context) (h : Ready t m p x) where
           pub value_copied : Valuable (decoded t) (memory_of m) (memory_of p) (context_in x) n w
           value_copied = fitted_valuable (λ g. n8 (hk ∙ g)) w hw
 
-          pub copied_returns : (l : List ℕ) (count : ℕ) (r : Gathered) (q : List ℕ) → Adds r l count q (value_of w (out t m p x n))
+          pub copied_returns : (l : List ℕ) (count : ℕ) (r : Result ℕ Failure) (q : List ℕ) → Adds r l count q (value_of w (out t m p x n))
               → Adds r l count q (value_argument (decoded t) (memory_of m) (memory_of p) (context_in x) y (out t m p x n))
           copied_returns l count r q a = rw (fitted_here (λ g. n8 (hk ∙ g)) w hw) a
 
@@ -330,7 +326,7 @@ module _ (t m p : List ℕ) (x : Context) (h : Ready t m p x) where
           let q = c.suits.variable (sym hd ∙ e) in
           record { variable = record { below = below; low = rw hn q.0; high = rw hn q.1 }; unstuck = kept _ _ var_here c.unstuck }
 
-      pub bound_returns : (l : List ℕ) (count : ℕ) (r : Gathered) (k : List ℕ) → Adds r l count k (place_of (out t m p x n))
+      pub bound_returns : (l : List ℕ) (count : ℕ) (r : Result ℕ Failure) (k : List ℕ) → Adds r l count k (place_of (out t m p x n))
           → Adds r l count k (argument (decoded t) (memory_of m) (memory_of p) (context_in x) v i)
       bound_returns l count r k a = rw var_here a
 
@@ -348,7 +344,7 @@ module _ (t m p : List ℕ) (x : Context) (h : Ready t m p x) where
             unstuck = kept _ _ value_here c.unstuck;
           }
 
-      pub passed_returns : (l : List ℕ) (count : ℕ) (r : Gathered) (k : List ℕ) → Adds r l count k (value_argument (decoded t) (memory_of m) (memory_of p) (context_in x) y (out t m p x n))
+      pub passed_returns : (l : List ℕ) (count : ℕ) (r : Result ℕ Failure) (k : List ℕ) → Adds r l count k (value_argument (decoded t) (memory_of m) (memory_of p) (context_in x) y (out t m p x n))
           → Adds r l count k (argument (decoded t) (memory_of m) (memory_of p) (context_in x) v i)
       passed_returns l count r k a = rw value_here a
 

@@ -7,6 +7,7 @@ use native.Mathlib.Omega.{arith}
 use borrow.Author.Tests.{ne_eqb}
 use lib.ListN.{take}
 use lib.Dec.{eqb, ltb}
+use Rattle.std.specs.Prelude.{Result, Ok, Err}
 use Rattle.basics.specs.Choice.{both}
 use Rattle.table.specs.Table.{Table}
 use Rattle.table.specs.Entries.{node_count, owner, stmt_kind, stmt_a, stmt_b, stmt_c, stmt_d}
@@ -31,8 +32,6 @@ use Rattle.operands.specs.declared.Context.{Context}
 use Rattle.operands.specs.Ready.{context_in}
 use Rattle.effects.specs.Effects.{statement_step, Stepped, Standing}
 use Rattle.effects.proofs.Carrying.{performs_process}
-use Rattle.transfers.specs.declared.Reference.{Reference}
-use Rattle.transfers.specs.declared.Reference.TheVariants as reference
 use Rattle.transfers.specs.References.{reference_of, referred, Referring}
 use Rattle.transfers.proofs.Referring.{follows, call_follows, follows_referring, follows_fails, follows_to, follows_refers}
 use Rattle.transfers.proofs.Steps.{stands_lent, stands_there, stands_fail, stands_done}
@@ -157,8 +156,8 @@ module _ (t m p : List ℕ) (x : Context) (h : Standing t m p x)
       follows_referring (decoded t) (memory_of m) (memory_of p) (context_in x) h.ready.ranged a process_variable the_tests the_serves
       (kept _ _ process_is h.unstuck)
 
-  module _ (l : Reference) (hl : referred l ≡ reference_of (decoded t) (memory_of m) (operand (decoded t) (memory_of m) (memory_of p) (context_in x) a)) where
-    pub process_fails : (e : Failure) (w : ℕ) (s1 : List ℕ) → l ≡ reference.Fail e → w ≡ failure_number e
+  module _ (l : Result ℕ Failure) (hl : referred l ≡ reference_of (decoded t) (memory_of m) (operand (decoded t) (memory_of m) (memory_of p) (context_in x) a)) where
+    pub process_fails : (e : Failure) (w : ℕ) (s1 : List ℕ) → l ≡ Err e → w ≡ failure_number e
         → Becomes s1 (update (memory_of m) failure_at (failure_number e))
         → Stepped w s1 p (statement_step (decoded t) (memory_of m) (memory_of p) (context_in x))
     process_fails e w s1 g v c =
@@ -168,7 +167,7 @@ module _ (t m p : List ℕ) (x : Context) (h : Standing t m p x)
         (kept _ _ process_is h.unstuck) l hl e g)
         v c
 
-    pub process_serving : (r : ℕ) → l ≡ reference.To r → Serving t m p x r
+    pub process_serving : (r : ℕ) → l ≡ Ok r → Serving t m p x r
     process_serving r g =
         let i = follows_refers (decoded t) (memory_of m) (memory_of p) (context_in x) h.ready.ranged a process_variable the_tests the_serves
         (kept _ _ process_is h.unstuck) l hl r g in

@@ -7,6 +7,7 @@ use native.Mathlib.Omega.{arith}
 use borrow.Author.Tests.{ne_eqb, ltb-true, ltb-false, leb-true}
 use lib.ListN.{length, take}
 use lib.Dec.{leb, ltb}
+use Rattle.std.specs.Prelude.{Result, Ok, Err}
 use Rattle.basics.specs.Cases.{cases}
 use Rattle.table.specs.Table.{Table}
 use Rattle.table.specs.Entries.{type_count, node_count, block_count, type_kind, type_p, var_type, block_kind, first_var, params, vars, stmt_count, stmt_kind, stmt_a, stmt_c, stmt_d}
@@ -41,13 +42,9 @@ use Rattle.operands.specs.Ready.{context_in}
 use Rattle.operands.proofs.Lending.{lends_type, variable_valued}
 use Rattle.effects.specs.Effects.{statement_step, Stepped, Standing}
 use Rattle.effects.proofs.Carrying.{performs_start}
-use Rattle.transfers.specs.declared.Reference.{Reference}
-use Rattle.transfers.specs.declared.Reference.TheVariants as reference
 use Rattle.transfers.specs.References.{reference_of, referred, Referring}
 use Rattle.transfers.proofs.Referring.{follows, start_follows, follows_referring, follows_fails, follows_to, follows_refers}
 use Rattle.transfers.proofs.Steps.{goes_on, stands_below, stands_lent, stands_there, stands_fail, stands_done}
-use Rattle.calls.specs.declared.Gathered.{Gathered}
-use Rattle.calls.specs.declared.Gathered.TheVariants as gathered
 use Rattle.calls.specs.Gathering.{Added, Adds, Calling}
 use Rattle.calls.specs.Framing.{Framing, FrameCount}
 use Rattle.calls.specs.Serving.{start_effect, start_of, Starting, Beginning}
@@ -162,14 +159,14 @@ module _ (t m p : List ℕ) (x : Context) (r : ℕ) (h : Starting t m p x r) whe
           unstuck = λ q. h.standing.unstuck (begin_is ∙ begun_stuck _ _ _ _ _ _ _ q);
         }
 
-    module _ (l₀ l : List ℕ) (g : Gathered) (i : Adds g l₀ 0 l (arguments (decoded t) (memory_of m) (memory_of p) (context_in x) b c d)) where
-      pub start_fails : (k : Failure) (w : ℕ) (s1 : List ℕ) → g ≡ gathered.Fail k → w ≡ failure_number k
+    module _ (l₀ l : List ℕ) (g : Result ℕ Failure) (i : Adds g l₀ 0 l (arguments (decoded t) (memory_of m) (memory_of p) (context_in x) b c d)) where
+      pub start_fails : (k : Failure) (w : ℕ) (s1 : List ℕ) → g ≡ Err k → w ≡ failure_number k
           → Becomes s1 (update (memory_of m) failure_at (failure_number k))
           → Stepped w s1 p (statement_step (decoded t) (memory_of m) (memory_of p) (context_in x))
       start_fails k w s1 q v j =
           stands_fail t m p x h.standing (failure_number k) w s1 (begin_is ∙ begun_fail _ _ _ _ _ _ _ _ (rw q at i)) v j
 
-      pub start_begins : (n : ℕ) → g ≡ gathered.Count n → Beginning t m p x r b l n
+      pub start_begins : (n : ℕ) → g ≡ Ok n → Beginning t m p x r b l n
       start_begins n q =
           let u : Added l₀ 0 l n (arguments (decoded t) (memory_of m) (memory_of p) (context_in x) b c d) = rw q at i in
           let j = begin_is ∙ begun_ok _ _ _ _ _ _ _ _ u.is in
@@ -225,8 +222,8 @@ module _ (t m p : List ℕ) (x : Context) (h : Standing t m p x)
       follows_referring (decoded t) (memory_of m) (memory_of p) (context_in x) h.ready.ranged a start_node (λ v. true) the_starts
       (kept _ _ start_is h.unstuck)
 
-  module _ (l : Reference) (hl : referred l ≡ reference_of (decoded t) (memory_of m) (operand (decoded t) (memory_of m) (memory_of p) (context_in x) a)) where
-    pub start_refuses : (e : Failure) (w : ℕ) (s1 : List ℕ) → l ≡ reference.Fail e → w ≡ failure_number e
+  module _ (l : Result ℕ Failure) (hl : referred l ≡ reference_of (decoded t) (memory_of m) (operand (decoded t) (memory_of m) (memory_of p) (context_in x) a)) where
+    pub start_refuses : (e : Failure) (w : ℕ) (s1 : List ℕ) → l ≡ Err e → w ≡ failure_number e
         → Becomes s1 (update (memory_of m) failure_at (failure_number e))
         → Stepped w s1 p (statement_step (decoded t) (memory_of m) (memory_of p) (context_in x))
     start_refuses e w s1 g v c =
@@ -236,7 +233,7 @@ module _ (t m p : List ℕ) (x : Context) (h : Standing t m p x)
         (kept _ _ start_is h.unstuck) l hl e g)
         v c
 
-    pub start_starting : (r : ℕ) → l ≡ reference.To r → Starting t m p x r
+    pub start_starting : (r : ℕ) → l ≡ Ok r → Starting t m p x r
     start_starting r g =
         let i = follows_refers (decoded t) (memory_of m) (memory_of p) (context_in x) h.ready.ranged a start_node (λ v. true) the_starts
         (kept _ _ start_is h.unstuck) l hl r g in

@@ -1,6 +1,6 @@
 -- Inner: for code and proofs only; no public promise is said with these definitions.
 -- The words of arguments, gathered in a buffer of 256 words (11.3, 12). Assumes nothing.
-use Rattle.std.specs.Prelude.{ℕ, ◌+◌, ◌-◌, ◌≤◌, ◌<◌, min, ◌≡◌, true, List, [], ◌∷◌, ◌++◌, length, take}
+use Rattle.std.specs.Prelude.{ℕ, ◌+◌, ◌-◌, ◌≤◌, ◌<◌, min, ◌≡◌, true, List, [], ◌∷◌, ◌++◌, length, take, Result, Ok, Err}
 use Rattle.table.specs.Table.{Table}
 use Rattle.table.specs.Entries.{arg_node, node_count, type_count}
 use Rattle.types.specs.Types.{type_of_node, numbered}
@@ -8,14 +8,13 @@ use Rattle.types.specs.Match.{matching, is_fit}
 use Rattle.numbers.specs.Nodes.{Variable, Expression}
 use Rattle.typing.proofs.Promise.{Suits, Arguments}
 use Rattle.words.specs.Values.{failure_number}
+use Rattle.words.specs.declared.values.Failure.{Failure}
 use Rattle.machine.specs.Memory.{Memory}
 use Rattle.machine.specs.Texts.{fit}
 use Rattle.machine.specs.Outcomes.{Outcome, ok, fail, stuck, and_then, Operand, on_place, on_typed}
 use Rattle.machine.specs.Context.{Context}
 use Rattle.machine.specs.Operands.{operand}
 use Rattle.machine.specs.Calls.{value_argument, argument, argument_words, arguments}
-use Rattle.calls.specs.declared.Gathered.{Gathered}
-use Rattle.calls.specs.declared.Gathered.TheVariants.{Count, Fail}
 
 -- a buffer that holds n words, where 257 is 'more than there are'
 pub record Buffer (l : List ℕ) (n : ℕ) : Type 0 where
@@ -35,9 +34,9 @@ pub record Added (l : List ℕ) (n : ℕ) (k : List ℕ) (r : ℕ) (o : Outcome 
   pub is : o ≡ ok words
   pub put : Appended l n words k r
 
-abbrev pub Adds : Gathered → List ℕ → ℕ → List ℕ → Outcome (List ℕ) → Type 0
-Adds (Count r) l n k o = Added l n k r o
-Adds (Fail f) l n k o = o ≡ fail (failure_number f)
+abbrev pub Adds : Result ℕ Failure → List ℕ → ℕ → List ℕ → Outcome (List ℕ) → Type 0
+Adds (Ok r) l n k o = Added l n k r o
+Adds (Err f) l n k o = o ≡ fail (failure_number f)
 
 -- the words of a value argument for a parameter of n words, which are its own where it has n (02, b); the location of a variable
 -- argument (12.1)

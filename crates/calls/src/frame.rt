@@ -10,6 +10,7 @@ ghost use Rattle.calls.specs.Framing.{Framing, FrameCount};
 use code::kinds;
 
 // A variable takes the words of its type, a var parameter one.
+#[tactic(auto, using(crate::proofs::Framing::counts))]
 fn var_words(c: &code::Slots, v: usize) -> usize
     requires { Sized c.now (var_type (decoded c.now) v) }
     ensures { (result ≡ var_words (decoded c.now) v) × (result ≤ 200) }
@@ -30,6 +31,7 @@ pub fn procedure_words(c: &code::Slots, q: usize) -> usize
 }
 
 // The words of block b's variables: where its last one begins, and the words of that one.
+#[tactic(auto, using(crate::proofs::Framing::counts))]
 pub fn frame_words(c: &code::Slots, b: usize) -> usize
     requires { Framing c.now b }
     ensures { FrameCount (decoded c.now) b result }

@@ -10,7 +10,6 @@ ghost use Rattle.effects.specs.Effects.{StatementLeaves, Standing};
 ghost use Rattle.evaluation.specs.Acting.{ArgumentRows, Acting};
 ghost use Rattle.calls.specs.Entering.{limit_of, Invoking, Entering};
 
-use super::Gathered;
 use super::arguments::arguments;
 use super::frame::procedure_words;
 use code::kinds;
@@ -19,15 +18,17 @@ use operands::Context;
 use words::values::Failure;
 
 // The word of its area up to which a process may call: while it works on its own variables its module tells it (13; 02, i).
+#[tactic(auto, using(crate::proofs::Limits::limit_own, crate::proofs::Limits::limit_other))]
 fn limit_of(c: &code::Slots, x: Context) -> usize
     requires prepared { Prepared c.now }
     requires block_bound { (owner (decoded c.now) x.block < block_count (decoded c.now)) × (block_kind (decoded c.now) (owner (decoded c.now) x.block) ≡ 2 → ⊥) }
     ensures { result ≡ limit_of (decoded c.now) x }
 {
     if x.works == x.process {
-        return code::room_of(c, code::block_owner(c, x.block));
+        code::room_of(c, code::block_owner(c, x.block))
+    } else {
+        machine::AREA
     }
-    machine::AREA
 }
 
 // A frame with variables of `size` words goes above the limit in the area of process p.
@@ -37,10 +38,11 @@ pub fn is_over(state: &[u8], p: usize, size: usize, limit: usize) -> bool
     ensures { result ≡ ltb limit (memory_of state.now (top_at p) + 4 + size) }
 {
     let top = machine::record_word(state, p, machine::TOP);
-    limit < top as usize + 4 + size
+    limit < usize::from(top) + 4 + size
 }
 
 // The frame of a call of procedure q, whose arguments are the first n words of the buffer (01, A step).
+#[tactic(auto, using(crate::proofs::Entering::entering_code, crate::proofs::Entering::entering_there, crate::proofs::Entering::entering_kind, crate::proofs::Entering::entering_lent, crate::proofs::Entering::entering_low, crate::proofs::Entering::entering_high, crate::proofs::Entering::entering_size))]
 fn enter_local(
     c: &code::Slots,
     state: &mut [u8],
@@ -80,10 +82,9 @@ fn call_local(
     ensures { StatementLeaves c.now state.old page.now x result state.new page.now }
 {
     let mut buffer = [0u16; 256];
-    let g = arguments(c, k, stack, state, page, x, &mut buffer[..], q, from, d);
-    match g {
-        Gathered::Fail(f) => effects::fail(state, f),
-        Gathered::Count(n) => enter_local(c, state, page, x, q, &buffer[..], n),
+    match arguments(c, k, stack, state, page, x, &mut buffer[..], q, from, d) {
+        Err(f) => effects::fail(state, f),
+        Ok(n) => enter_local(c, state, page, x, q, &buffer[..], n),
     }
 }
 
@@ -111,6 +112,7 @@ pub fn local_call(
 }
 
 // The end of a call: the process stands after the call statement, where it stood before (12.2, 13).
+#[tactic(auto, using(crate::proofs::Ending::ends))]
 fn return_from(c: &code::Slots, state: &mut [u8], page: &[u8], x: Context) -> u8
     requires standing { Standing c.now state.old page.now x }
     requires statement_value { stmt_kind (decoded c.now) x.statement ≡ 13 }
@@ -118,7 +120,7 @@ fn return_from(c: &code::Slots, state: &mut [u8], page: &[u8], x: Context) -> u8
     ensures { StatementLeaves c.now state.old page.now x result state.new page.now }
 {
     let call = machine::area_word(state, x.process, x.frame + 1);
-    if code::stmt_kind(c, call as usize) == kinds::PROCESS_CALL {
+    if code::stmt_kind(c, usize::from(call)) == kinds::PROCESS_CALL {
         frames::pop_process(state, x.process, call);
         return 0;
     }
@@ -127,6 +129,7 @@ fn return_from(c: &code::Slots, state: &mut [u8], page: &[u8], x: Context) -> u8
 }
 
 // The end of a block ends the process, or the call that it executes (12.2, 13).
+#[tactic(auto, using(crate::proofs::Ending::ends))]
 pub fn block_end(c: &code::Slots, state: &mut [u8], page: &[u8], x: Context) -> u8
     requires standing { Standing c.now state.old page.now x }
     requires statement_value { stmt_kind (decoded c.now) x.statement ≡ 13 }

@@ -11,13 +11,11 @@ ghost use Rattle.calls.specs.Entering.{Invoking, Entering};
 ghost use Rattle.machine.specs.Statements.{can_serve};
 ghost use Rattle.calls.specs.Serving.{Serving, Starting, Beginning};
 
-use super::Gathered;
 use super::arguments::arguments;
 use super::frame::{frame_words, procedure_words};
 use super::procedures::is_over;
 use evaluation::Stack;
 use operands::Context;
-use transfers::Reference;
 use transfers::references::reference;
 use words::values::Failure;
 
@@ -27,13 +25,12 @@ fn is_free(state: &[u8], r: usize) -> bool
     requires le_r { (1 ≤ r) × (r ≤ 64) }
     ensures { result ≡ can_serve (memory_of state.now) r }
 {
-    if machine::record_word(state, r, machine::STATUS) == machine::UNSTARTED {
-        return false;
-    }
-    machine::record_word(state, r, machine::HOLDER) == 0
+    machine::record_word(state, r, machine::STATUS) != machine::UNSTARTED
+        && machine::record_word(state, r, machine::HOLDER) == 0
 }
 
 // The frame of a call of procedure q of process r, whose arguments are the first n words of the buffer (01, A step).
+#[tactic(auto, using(crate::proofs::Entering::entering_code, crate::proofs::Entering::entering_there, crate::proofs::Entering::entering_kind, crate::proofs::Entering::entering_lent, crate::proofs::Entering::entering_low, crate::proofs::Entering::entering_high, crate::proofs::Entering::entering_size))]
 fn enter_process(
     c: &code::Slots,
     state: &mut [u8],
@@ -76,10 +73,9 @@ fn call_process(
     ensures { StatementLeaves c.now state.old page.now x result state.new page.now }
 {
     let mut buffer = [0u16; 256];
-    let g = arguments(c, k, stack, state, page, x, &mut buffer[..], q, from, d);
-    match g {
-        Gathered::Fail(f) => effects::fail(state, f),
-        Gathered::Count(n) => enter_process(c, state, page, x, q, r, &buffer[..], n),
+    match arguments(c, k, stack, state, page, x, &mut buffer[..], q, from, d) {
+        Err(f) => effects::fail(state, f),
+        Ok(n) => enter_process(c, state, page, x, q, r, &buffer[..], n),
     }
 }
 
@@ -109,6 +105,7 @@ fn call_on(
 }
 
 // The caller waits where process r cannot serve.
+#[tactic(auto, using(crate::proofs::Serving::serving_lent, crate::proofs::Serving::serving_low, crate::proofs::Serving::serving_high, crate::proofs::Serving::serving_free, crate::proofs::Serving::serving_waits))]
 fn serve(
     c: &code::Slots,
     k: &[u16],
@@ -142,14 +139,14 @@ pub fn process_call(
     ensures { StatementLeaves c.now state.old page.now x result state.new page.now }
 {
     let a = code::stmt_a(c, x.statement);
-    let l = reference(c, k, stack, state, page, x, a);
-    match l {
-        Reference::Fail(f) => effects::fail(state, f),
-        Reference::To(r) => serve(c, k, stack, state, page, x, r),
+    match reference(c, k, stack, state, page, x, a) {
+        Err(f) => effects::fail(state, f),
+        Ok(r) => serve(c, k, stack, state, page, x, r),
     }
 }
 
 // Process r, of module b, has its parameters in the first n words of the buffer.
+#[tactic(auto, using(crate::proofs::Starting::beginning_framing, crate::proofs::Starting::beginning_lent, crate::proofs::Starting::beginning_words, crate::proofs::Starting::beginning_size, crate::proofs::Starting::beginning_done))]
 fn begin(
     c: &code::Slots,
     state: &mut [u8],
@@ -190,14 +187,14 @@ fn start_created(
     let from = code::stmt_c(c, x.statement);
     let d = code::stmt_d(c, x.statement);
     let mut buffer = [0u16; 256];
-    let g = arguments(c, k, stack, state, page, x, &mut buffer[..], b, from, d);
-    match g {
-        Gathered::Fail(f) => effects::fail(state, f),
-        Gathered::Count(n) => begin(c, state, page, x, r, b, &buffer[..], n),
+    match arguments(c, k, stack, state, page, x, &mut buffer[..], b, from, d) {
+        Err(f) => effects::fail(state, f),
+        Ok(n) => begin(c, state, page, x, r, b, &buffer[..], n),
     }
 }
 
 // A process is started once (01).
+#[tactic(auto, using(crate::proofs::Starting::starting_lent, crate::proofs::Starting::starting_low, crate::proofs::Starting::starting_high, crate::proofs::Starting::starting_new, crate::proofs::Starting::starting_twice))]
 fn start_once(
     c: &code::Slots,
     k: &[u16],
@@ -218,7 +215,8 @@ fn start_once(
     effects::fail(state, Failure::StartedTwice)
 }
 
-// 11.5: the start of the process that a variable refers to.
+// 11.5: the start of the process that a variable refers to. (It looks like `process_call`, but for what it goes on with: that is not less as an
+// argument.)
 pub fn start(
     c: &code::Slots,
     k: &[u16],
@@ -232,9 +230,8 @@ pub fn start(
     ensures { StatementLeaves c.now state.old page.now x result state.new page.now }
 {
     let a = code::stmt_a(c, x.statement);
-    let l = reference(c, k, stack, state, page, x, a);
-    match l {
-        Reference::Fail(f) => effects::fail(state, f),
-        Reference::To(r) => start_once(c, k, stack, state, page, x, r),
+    match reference(c, k, stack, state, page, x, a) {
+        Err(f) => effects::fail(state, f),
+        Ok(r) => start_once(c, k, stack, state, page, x, r),
     }
 }

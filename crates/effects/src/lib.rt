@@ -12,38 +12,26 @@ use operands::Context;
 use operands::packed::FAILURES;
 use words::values::Failure;
 
-fn wide(x: u8) -> u16
-    ensures { result ≡ x }
-{
-    x as u16
-}
-
 // The run fails: only the failure mark changes.
+#[tactic(auto, using(crate::proofs::Carrying::marked))]
 pub fn fail(state: &mut [u8], f: Failure) -> u8
     requires { State state.old }
     ensures { (result ≡ failure_number f) × Becomes state.new (update (memory_of state.old) failure_at (failure_number f)) }
 {
-    let n = words::values::number(f);
-    frames::mark_failure(state, wide(n));
+    let n = u8::from(f);
+    frames::mark_failure(state, u16::from(n));
     n
 }
 
-// The number of the failure in an answer that is one (operands, packed).
-fn failure_in(r: u32) -> u8
-    requires { (65536 ≤ r) × (is_failure (r - 65536) ≡ true) }
-    ensures { result ≡ r - 65536 }
-{
-    (r - FAILURES) as u8
-}
-
-// The run fails, by such an answer.
+// The run fails, by an answer that is a failure (operands, packed).
+#[tactic(auto, using(crate::proofs::Carrying::marked, crate::proofs::Carrying::failure_fits))]
 pub fn fail_by(state: &mut [u8], r: u32) -> u8
     requires state { State state.old }
     requires le_r { (65536 ≤ r) × (is_failure (r - 65536) ≡ true) }
     ensures { (result ≡ r - 65536) × Becomes state.new (update (memory_of state.old) failure_at (r - 65536)) }
 {
-    let n = failure_in(r);
-    frames::mark_failure(state, wide(n));
+    let n = (r - FAILURES) as u8;
+    frames::mark_failure(state, u16::from(n));
     n
 }
 

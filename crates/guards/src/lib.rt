@@ -21,7 +21,8 @@ use evaluation::{Stack, eval};
 use operands::Context;
 use operands::packed::FAILURES;
 
-// The first arm whose guard is not false, with its value, or its failure (from 65,536 on); or the end of the arms, with 0.
+// The first arm whose guard is not false, with its value, or its failure (from 65,536 on); or the end of the arms, with 0. The value stays the
+// engine's number (operands, packed): an enum goes through memory, and each guard that is tried would be slower.
 #[derive(Clone, Copy)]
 struct ArmFound {
     at: usize,
@@ -29,6 +30,7 @@ struct ArmFound {
 }
 
 // 11.1: the process goes on.
+#[tactic(auto, using(crate::proofs::Linking::ends))]
 pub fn skip(c: &code::Slots, state: &mut [u8], page: &[u8], x: Context) -> u8
     requires standing { Standing c.now state.old page.now x }
     requires statement_value { stmt_kind (decoded c.now) x.statement ≡ 0 }
@@ -39,6 +41,7 @@ pub fn skip(c: &code::Slots, state: &mut [u8], page: &[u8], x: Context) -> u8
 }
 
 // The value of the guard of arm i.
+#[tactic(auto, using(crate::proofs::Choosing::guards))]
 fn guard(
     c: &code::Slots,
     k: &[u16],
@@ -58,7 +61,8 @@ fn guard(
     eval(c, k, stack, state, page, x, a)
 }
 
-// The guards of the arms from i on, in the order written (11.6).
+// The guards of the arms from i on, in the order written (11.6). A loop along links, not over numbers, so it is a while.
+#[tactic(auto, using(crate::proofs::Choosing::chooses))]
 fn choose(
     c: &code::Slots,
     k: &[u16],
@@ -85,6 +89,7 @@ fn choose(
 }
 
 // A guard is true: its arm is entered. A when or cycle then holds the variables that the process works on (11.9, 11.10, 13).
+#[tactic(auto, using(crate::proofs::Opening::goings))]
 fn enter(state: &mut [u8], x: Context, waits: bool, i: usize) -> u8
     requires { Going state.old x i }
     ensures { (result ≡ 0) × Becomes state.new (update (pick waits (update (memory_of state.old) (holder_at x.works) x.process) (memory_of state.old)) (statement_at x.process) (i + 1)) }
@@ -99,19 +104,22 @@ fn enter(state: &mut [u8], x: Context, waits: bool, i: usize) -> u8
 }
 
 // No guard is true: the process goes on after the end i. A when or cycle is blocked, and gives the variables up (11.9, 11.10, 13).
+#[tactic(auto, using(crate::proofs::Opening::goings))]
 fn pass(state: &mut [u8], x: Context, waits: bool, i: usize) -> u8
     requires { Going state.old x i }
     ensures { (result ≡ pick waits 1 0) × Becomes state.new (pick waits (update (memory_of state.old) (holder_at x.works) 0) (update (memory_of state.old) (statement_at x.process) (i + 1))) }
 {
     if waits {
         frames::hold(state, x.works, 0);
-        return 1;
+        1
+    } else {
+        frames::go_to(state, x.process, (i + 1) as u16);
+        0
     }
-    frames::go_to(state, x.process, (i + 1) as u16);
-    0
 }
 
 // An if, while, when or cycle is followed by its first arm.
+#[tactic(auto, using(crate::proofs::Opening::opening))]
 pub fn open(
     c: &code::Slots,
     k: &[u16],
@@ -126,19 +134,19 @@ pub fn open(
 {
     let waits = kinds::WHEN <= code::stmt_kind(c, x.statement);
     let first = x.statement + 1;
-    let r = choose(c, k, stack, state, page, x, first);
-    let v = r.value;
-    let i = r.at;
-    if FAILURES <= v {
-        return effects::fail_by(state, v);
+    let ArmFound { at, value } = choose(c, k, stack, state, page, x, first);
+    if FAILURES <= value {
+        return effects::fail_by(state, value);
     }
-    if v == 0 {
-        return pass(state, x, waits, i);
+    if value == 0 {
+        pass(state, x, waits, at)
+    } else {
+        enter(state, x, waits, at)
     }
-    enter(state, x, waits, i)
 }
 
-// The end of the arms from i on: each arm is linked to the next.
+// The end of the arms from i on: each arm is linked to the next, so the loop is a while.
+#[tactic(auto, using(crate::proofs::Linking::links))]
 fn end_of(c: &code::Slots, i: usize) -> usize
     requires { Linked (decoded c.now) i }
     ensures { ArmsEnd (decoded c.now) i result }
@@ -151,20 +159,19 @@ fn end_of(c: &code::Slots, i: usize) -> usize
 }
 
 // Where a process goes on from the end of the arms: a while or cycle is executed again (11.8, 11.10).
+#[tactic(auto, using(crate::proofs::Linking::nexts))]
 fn next(k: usize, opener: usize, end: usize) -> u16
     requires { (opener < 65535) × (end < 65535) }
     ensures { result ≡ pick (repeats (opener_of k)) opener (end + 1) }
 {
-    if k == kinds::WHILE {
-        return opener as u16;
+    match k {
+        kinds::WHILE | kinds::CYCLE => opener as u16,
+        _ => (end + 1) as u16,
     }
-    if k == kinds::CYCLE {
-        return opener as u16;
-    }
-    (end + 1) as u16
 }
 
 // An arm or end that is reached from inside: the conditional statements have been executed (11.7 to 11.10).
+#[tactic(auto, using(crate::proofs::Linking::ends))]
 pub fn end_arm(c: &code::Slots, state: &mut [u8], page: &[u8], x: Context) -> u8
     requires standing { Standing c.now state.old page.now x }
     requires bound { (10 ≤ stmt_kind (decoded c.now) x.statement) × (stmt_kind (decoded c.now) x.statement ≤ 11) }

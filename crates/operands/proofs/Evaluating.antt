@@ -25,8 +25,7 @@ use Rattle.machine.specs.Variables.{fits}
 use Rattle.machine.specs.Operands.{retrieved}
 use Rattle.code.specs.Code.{decoded}
 use Rattle.operands.specs.declared.Context.{Context}
-use Rattle.operands.specs.declared.Place.{Place}
-use Rattle.operands.specs.declared.Place.TheVariants as place
+use Rattle.std.specs.Prelude.{Result, Ok, Err}
 use Rattle.operands.specs.Answers.{single, Unstuck, Evaluable, Retrieval, Retrieved}
 use Rattle.operands.specs.Ready.{context_in, Ready}
 use Rattle.operands.proofs.Nodes.{is_retrieve, type_constant, type_retrieve, type_unary, type_binary, type_transfer}
@@ -70,11 +69,11 @@ module _ (t m p : List ℕ) (x : Context) (h : Ready t m p x) (n : ℕ) (c : Ret
   stands_fits a e = there_fits t m p x h n c (node_p (decoded t) n) refl a (sym e)
 
   -- as a place, or the failure
-  module _ (l : Place) (hl : Retrieved (decoded t) (memory_of m) (memory_of p) (context_in x) n l) where
-    pub got_failed : (e : Failure) → l ≡ place.Fail e → out t m p x n ≡ fail (failure_number e)
+  module _ (l : Result ℕ Failure) (hl : Retrieved (decoded t) (memory_of m) (memory_of p) (context_in x) n l) where
+    pub got_failed : (e : Failure) → l ≡ Err e → out t m p x n ≡ fail (failure_number e)
     got_failed e g = sym hl.is ∙ rw g
 
-    module _ (a : ℕ) (ha : l ≡ place.At a) where
+    module _ (a : ℕ) (ha : l ≡ Ok a) where
       pub got_value : out t m p x n ≡ ok (value (type_of (decoded t) n) (words_at (memory_of m) a (words_of (decoded t) (type_of (decoded t) n))))
       got_value = sym hl.is ∙ rw ha
 

@@ -1,12 +1,12 @@
 -- The words at locations, of types and of nodes: the laws of each return. Assumes nothing.
-use Prim.Native.Nat.{ℕ, suc, ◌+◌, ◌-◌, ◌<◌, ◌≤◌}
-use mathlib.Core.Path.{◌≡◌, sym, ap, ◌∙◌}
-use mathlib.Core.Bool.{true, false}
+use Prim.Native.Nat.{ℕ, zero, suc, ◌+◌, ◌-◌, ◌<◌, ◌≤◌}
+use mathlib.Core.Path.{◌≡◌, refl, sym, ap, ◌∙◌}
+use mathlib.Core.Bool.{Bool, true, false}
 use mathlib.Core.List.{List, ◌∷◌}
 use lib.Dec.{eqb}
 use native.Mathlib.Omega.{arith}
 use borrow.Author.Tests.{eq-eqb, ne_eqb, eqb-true, eqb-false}
-use Rattle.basics.specs.Choice.{both}
+use Rattle.basics.specs.Choice.{both, all_below}
 use Rattle.basics.specs.Cases.{cases}
 use Rattle.table.specs.Entries.{node_kind}
 use Rattle.table.specs.Reading.{Field}
@@ -65,7 +65,29 @@ counted_single t n τ w h f g =
     let o = h.code.sizes (type_of (decoded t) n) (h.type c) in
     sym (single_numbered (decoded t) n c ∙ rw (d, e, o)))
 
+-- a test of all numbers begins with the first
+swap : (a b c : Bool) → both a (both b c) ≡ both b (both a c)
+unfolding both
+swap true b c = refl
+swap false true c = refl
+swap false false c = refl
+
+all_front : (n : ℕ) (p : ℕ → Bool) → all_below (suc n) p ≡ both (p 0) (all_below n (λ i. p (suc i)))
+unfolding all_below
+all_front zero p = refl
+all_front (suc n) p = ap (both (p (suc n))) (all_front n p) ∙ swap (p (suc n)) (p 0) (all_below n (λ i. p (suc i)))
+
 -- words that are compared
+pub same_is : (f g : Memory) (a b n : ℕ) (p : ℕ → Bool) → ((i : ℕ) → p i ≡ eqb (f (a + i)) (g (b + i))) → all_below n p ≡ same (words_at f a n) (words_at g b n)
+unfolding same words_at all_below
+same_is f g a b zero p h = refl
+same_is f g a b (suc n) p h =
+    let u : a + 0 ≡ a = omega arith in
+    let v : b + 0 ≡ b = omega arith in
+    let first : p 0 ≡ eqb (f a) (g b) = rw (u, v) at (h 0) in
+    all_front n p ∙ rw (first, same_is f g (a + 1) (b + 1) n (λ i. p (suc i)) (λ i. let d : a + 1 + i ≡ a + suc i = omega arith in let e : b + 1 + i ≡ b + suc i = omega arith in rw (d, e) (h (suc i))))
+
+-- words that are compared one by one (engine, of characters)
 module _ (f g : Memory) (a b n i : ℕ) where
   next_words : (m : Memory) (a : ℕ) → i < n → words_at m (a + i) (n - i) ≡ m (a + i) ∷ words_at m (a + (i + 1)) (n - (i + 1))
   unfolding words_at

@@ -6,13 +6,6 @@ pub mod operators;
 pub mod packed;
 pub mod places;
 
-// A location, or the failure of the step.
-#[derive(Clone, Copy)]
-pub enum Place {
-    At(usize),
-    Fail(words::values::Failure),
-}
-
 // What the next statement of a process is, and which variables it can name (13).
 #[derive(Clone, Copy)]
 pub struct Context {

@@ -11,10 +11,11 @@ ghost use Rattle.operands.specs.Packed.{WordIs, value_at};
 ghost use Rattle.operands.specs.Places.{IndexIs, WordsInAreas};
 ghost use Rattle.operands.specs.Ready.{Sized, Valued, Counted};
 
-use super::packed::{UNSET, long};
+use super::packed::UNSET;
 use words::memory::get;
 
 // The word at a location.
+#[tactic(auto, using(crate::proofs::Standing::standing))]
 pub fn word_at(state: &[u8], a: usize) -> u16
     requires { (length state.now ≡ state_size) × (a < locations) }
     ensures { result ≡ memory_of state.now a }
@@ -23,17 +24,20 @@ pub fn word_at(state: &[u8], a: usize) -> u16
 }
 
 // The value of a variable of one word at a location (8.7), which must be marked (02, g).
+#[tactic(auto, using(crate::proofs::Packing::valuing))]
 pub fn value_at(state: &[u8], a: usize) -> u32
     requires { (length state.now ≡ state_size) × (a < locations) }
     ensures { WordIs (value_at (memory_of state.now) a) result }
 {
     if marks::is_marked(state, a) {
-        return long(word_at(state, a));
+        u32::from(word_at(state, a))
+    } else {
+        UNSET
     }
-    UNSET
 }
 
 // The words of type y.
+#[tactic(auto, using(crate::proofs::Standing::standing))]
 pub fn words_of(c: &code::Slots, y: usize) -> usize
     requires { Sized c.now y }
     ensures { (result ≡ words_of (decoded c.now) y) × (result ≤ 200) }
@@ -42,6 +46,7 @@ pub fn words_of(c: &code::Slots, y: usize) -> usize
 }
 
 // The words of node n's value.
+#[tactic(auto, using(crate::proofs::Standing::standing))]
 pub fn node_words(c: &code::Slots, n: usize) -> usize
     requires { Valued c.now n }
     ensures { (result ≡ words_of (decoded c.now) (type_of (decoded c.now) n)) × (result ≤ 200) }
@@ -50,6 +55,7 @@ pub fn node_words(c: &code::Slots, n: usize) -> usize
 }
 
 // The value of node n has one word, and is no text: the type of a string constant has no number, and so no words here.
+#[tactic(auto, using(crate::proofs::Standing::standing))]
 pub fn is_single(c: &code::Slots, n: usize) -> bool
     requires { Counted c.now n }
     ensures { result ≡ single (decoded c.now) n }
@@ -61,19 +67,18 @@ pub fn is_single(c: &code::Slots, n: usize) -> bool
 pub const OUTSIDE: usize = 65536;
 
 // How many elements lie before the one with index value i, of index values from low to high (8.5), or OUTSIDE.
+#[tactic(auto, using(crate::proofs::Indexes::finding))]
 pub fn index_of(low: usize, high: usize, i: usize) -> usize
     requires { (low < 65536) × ((high < 65536) × (i < 65536)) }
     ensures { IndexIs low high i result }
 {
     let l = types::offset_of(low);
     let x = types::offset_of(i);
-    if x < l {
-        return OUTSIDE;
+    if l <= x && x <= types::offset_of(high) {
+        x - l
+    } else {
+        OUTSIDE
     }
-    if types::offset_of(high) < x {
-        return OUTSIDE;
-    }
-    x - l
 }
 
 // The n words at two locations are the same.
@@ -81,13 +86,5 @@ pub fn same_words(state: &[u8], a: usize, b: usize, n: usize) -> bool
     requires { WordsInAreas state.now a b n }
     ensures { result ≡ same (words_at (memory_of state.now) a n) (words_at (memory_of state.now) b n) }
 {
-    let mut i = 0;
-    while i < n {
-        if word_at(state, a + i) == word_at(state, b + i) {
-            i += 1;
-        } else {
-            return false;
-        }
-    }
-    true
+    (0..n).all(|i| word_at(state, a + i) == word_at(state, b + i))
 }

@@ -7,7 +7,6 @@ use lib.ListN.{length}
 use native.Mathlib.Nat.{add-zero}
 use native.Mathlib.Omega.{arith}
 use Rattle.table.specs.Entries.{node_count, node_kind, node_p, node_q, stmt_kind, stmt_a, stmt_b}
-use Rattle.table.specs.Reading.{Field}
 use Rattle.types.specs.Types.{NodeType, numbered, evened, type_of}
 use Rattle.types.specs.Match.{matching, is_equal}
 use Rattle.sizes.specs.Sizes.{words_of}
@@ -91,11 +90,8 @@ module _ (t m p : List ℕ) (x : Context) (h : Standing t m p x) (hk : stmt_kind
           let q = rw ha at (told_no_place (type_of (decoded t) a) _ l hl g) in
           stands_fail t m p x h (l - 65536) r s1 (does ∙ place_failed _ _ (l - 65536) q) k c
 
-      pub assign_target : (i : ℕ) → l < 65536 → Field l i → Assigning t m p x i
-      assign_target i g f =
-          let e = f.is in
-          let q = rw ha at (told_place (type_of (decoded t) a) _ l hl g) in
-          record { standing = h; kind = hk; below = stands_below t m p x h; target = rw e q }
+      pub assign_target : l < 65536 → Assigning t m p x l
+      assign_target g = record { standing = h; kind = hk; below = stands_below t m p x h; target = rw ha at (told_place (type_of (decoded t) a) _ l hl g) }
 
 -- ---- the laws of `assign_at`
 
@@ -181,16 +177,15 @@ module _ (t m p : List ℕ) (x : Context) (i : ℕ) (c : Assigning t m p x i) wh
           let q = rw hb at (failed _ _ (told_failure _ v hv g)) in
           stands_fail t m p x c.standing (v - 65536) r s1 (then ∙ typed_failed _ _ (v - 65536) q) k d
 
-      pub word_returns : (w : ℕ) (s1 s2 : List ℕ) → v < 65536 → Field v w
-          → Becomes s1 (mark (update (memory_of m) i w) i 1) → Becomes s2 (update (memory_of s1) (statement_at x.process) (x.statement + 1))
+      pub word_returns : (s1 s2 : List ℕ) → v < 65536
+          → Becomes s1 (mark (update (memory_of m) i v) i 1) → Becomes s2 (update (memory_of s1) (statement_at x.process) (x.statement + 1))
           → Stepped 0 s2 p (statement_step (decoded t) (memory_of m) (memory_of p) (context_in x))
-      word_returns w s1 s2 g f d₁ d₂ =
-          let e = f.is in
+      word_returns s1 s2 g d₁ d₂ =
           let q = typed_expression (decoded t) (memory_of m) (memory_of p) (context_in x) c.standing.ready.ranged (stmt_b (decoded t) x.statement) value_there.expression o.numbered in
-          let j = typed_gave (decoded t) (type_of (decoded t) (stmt_b (decoded t) x.statement)) (out t m p x (stmt_b (decoded t) x.statement)) _ w (apart _ _ then c.standing.unstuck) q (rw e (rw hb at (told_word _ v hv g))) in
-          let only : j.words ≡ w ∷ [] = yielding.single j.words (j.long ∙ o.is) ∙ rw j.first in
-          stands_done t m p x c.standing 0 s2 (update (mark (update (memory_of m) i w) i 1) (statement_at x.process) (x.statement + 1))
-          (keeps j.words j.is ∙ rw (only, store_one (memory_of m) i w))
+          let j = typed_gave (decoded t) (type_of (decoded t) (stmt_b (decoded t) x.statement)) (out t m p x (stmt_b (decoded t) x.statement)) _ v (apart _ _ then c.standing.unstuck) q (rw hb at (told_word _ v hv g)) in
+          let only : j.words ≡ v ∷ [] = yielding.single j.words (j.long ∙ o.is) ∙ rw j.first in
+          stands_done t m p x c.standing 0 s2 (update (mark (update (memory_of m) i v) i 1) (statement_at x.process) (x.statement + 1))
+          (keeps j.words j.is ∙ rw (only, store_one (memory_of m) i v))
           (record { long = d₂.long; is = d₂.is ∙ rw d₁.is })
 
   -- ---- the laws of `assign_text`
@@ -244,33 +239,33 @@ module _ (t m p : List ℕ) (x : Context) (i : ℕ) (c : Assigning t m p x i) wh
         words_fails r s1 g h d =
             stands_fail t m p x c.standing (l - 65536) r s1 (then ∙ typed_failed _ _ (l - 65536) (here.fails g)) h d
 
-        module _ (g : l < 65536) (j n : ℕ) (f : Field l j) (hn : n ≡ words_of (decoded t) (type_of (decoded t) b)) where
+        module _ (g : l < 65536) (n : ℕ) (hn : n ≡ words_of (decoded t) (type_of (decoded t) b)) where
           count : n ≡ words_of (decoded t) (type_of (decoded t) (stmt_b (decoded t) x.statement))
           count = hn ∙ rw hb
 
           found : out t m p x (stmt_b (decoded t) x.statement)
-              ≡ ok (value (type_of (decoded t) (stmt_b (decoded t) x.statement)) (words_at (memory_of m) j n))
-          found = let e = f.is in rw (e, count) (here.holds g)
+              ≡ ok (value (type_of (decoded t) (stmt_b (decoded t) x.statement)) (words_at (memory_of m) l n))
+          found = rw count (here.holds g)
 
           source : out t m p x (node_p (decoded t) (stmt_b (decoded t) x.statement))
-              ≡ ok (place j (type_of (decoded t) (node_p (decoded t) (stmt_b (decoded t) x.statement))))
-          source = let e = f.is in rw e (here.stands g)
+              ≡ ok (place l (type_of (decoded t) (node_p (decoded t) (stmt_b (decoded t) x.statement))))
+          source = here.stands g
 
           target_words : n ≡ words_of (decoded t) (type_of (decoded t) (stmt_a (decoded t) x.statement))
-          target_words = count ∙ sym (same_words (words_at (memory_of m) j n) found)
+          target_words = count ∙ sym (same_words (words_at (memory_of m) l n) found)
 
           source_words : n ≡ words_of (decoded t) (type_of (decoded t) (node_p (decoded t) (stmt_b (decoded t) x.statement)))
           source_words = count ∙ ap (words_of (decoded t)) (got_type t m p x c.standing.ready _ is_retrieval _ refl)
 
           -- the two variables are the same or apart
-          copied_apart : SameOrApart j i n
+          copied_apart : SameOrApart l i n
           copied_apart =
-              rw (← source_words) at (c.standing.places.apart (node_p (decoded t) (stmt_b (decoded t) x.statement)) (stmt_a (decoded t) x.statement) j i _ _
+              rw (← source_words) at (c.standing.places.apart (node_p (decoded t) (stmt_b (decoded t) x.statement)) (stmt_a (decoded t) x.statement) l i _ _
               source c.target (sym source_words ∙ target_words))
 
-          pub words_copying : Copying x j i n
+          pub words_copying : Copying x l i n
           words_copying =
-              let a = fits_high (decoded t) j (type_of (decoded t) (stmt_b (decoded t) x.statement)) (stands_fits t m p x c.standing.ready _ is_retrieval j source) in
+              let a = fits_high (decoded t) l (type_of (decoded t) (stmt_b (decoded t) x.statement)) (stands_fits t m p x c.standing.ready _ is_retrieval l source) in
               let b = fits_high (decoded t) i (type_of (decoded t) (stmt_a (decoded t) x.statement)) target_fits in
               record {
                 process_low = c.standing.ready.context.process_low;
@@ -279,11 +274,11 @@ module _ (t m p : List ℕ) (x : Context) (i : ℕ) (c : Assigning t m p x i) wh
                 words = record { source = rw count a; target = rw target_words b; apart = copied_apart };
               }
 
-          pub words_returns : (s1 : List ℕ) → Becomes s1 (copied (memory_of m) x j i n)
+          pub words_returns : (s1 : List ℕ) → Becomes s1 (copied (memory_of m) x l i n)
               → Stepped 0 s1 p (statement_step (decoded t) (memory_of m) (memory_of p) (context_in x))
           unfolding copied
           words_returns s1 d =
-              stands_done t m p x c.standing 0 s1 _ (rw (length_words (memory_of m) j n) at (keeps (words_at (memory_of m) j n) found)) d
+              stands_done t m p x c.standing 0 s1 _ (rw (length_words (memory_of m) l n) at (keeps (words_at (memory_of m) l n) found)) d
 
 pub ruleset assigns = (assign_selectable, assigning_low, assigning_evaluable, assigning_counted, assigning_one, assigning_several, assigning_text, assigning_words, word_one, text_fits, text_returns, words_retrieval, words_valued, words_several)
 

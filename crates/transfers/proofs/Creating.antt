@@ -20,8 +20,7 @@ use Rattle.machine.specs.Statements.{go_on, go_to, do_create, perform}
 use Rattle.machine.specs.Step.{settled}
 use Rattle.code.specs.Code.{slot_in, decoded}
 use Rattle.operands.specs.declared.Context.{Context}
-use Rattle.operands.specs.declared.Place.{Place}
-use Rattle.operands.specs.declared.Place.TheVariants as place
+use Rattle.std.specs.Prelude.{Result, Ok, Err}
 use Rattle.operands.specs.Answers.{selected}
 use Rattle.operands.specs.Ready.{context_in}
 use Rattle.operands.proofs.Lending.{lends_type}
@@ -77,8 +76,8 @@ module _ (t m p : List ℕ) (x : Context) (h : Standing t m p x) (hk : stmt_kind
           unstuck = selected_unstuck is_selected;
         })
 
-    module _ (l : Place) (hl : selected l (type_of (decoded t) a) ≡ out t m p x a) where
-      pub create_stops : (e : Failure) (r : ℕ) (s1 : List ℕ) → l ≡ place.Fail e → r ≡ failure_number e
+    module _ (l : Result ℕ Failure) (hl : selected l (type_of (decoded t) a) ≡ out t m p x a) where
+      pub create_stops : (e : Failure) (r : ℕ) (s1 : List ℕ) → l ≡ Err e → r ≡ failure_number e
           → Becomes s1 (update (memory_of m) failure_at (failure_number e))
           → Stepped r s1 p (statement_step (decoded t) (memory_of m) (memory_of p) (context_in x))
       unfolding do_create
@@ -88,7 +87,7 @@ module _ (t m p : List ℕ) (x : Context) (h : Standing t m p x) (hk : stmt_kind
           stands_fail t m p x h (failure_number e) r s1
           (does ∙ rw d (process_failed (decoded t) (type_of (decoded t) (stmt_a (decoded t) x.statement)) _ (failure_number e))) k c
 
-      module _ (i : ℕ) (g : l ≡ place.At i) where
+      module _ (i : ℕ) (g : l ≡ Ok i) where
         is_place : out t m p x (stmt_a (decoded t) x.statement) ≡ ok (place i (type_of (decoded t) (stmt_a (decoded t) x.statement)))
         is_place = let q : out t m p x a ≡ ok (place i (type_of (decoded t) a)) = sym hl ∙ rw g in rw ha at q
 

@@ -27,15 +27,12 @@ use Rattle.machine.specs.Operands.{operand}
 use Rattle.machine.specs.Processes.{on_module, on_process, refers, on_reference}
 use Rattle.code.specs.Code.{decoded}
 use Rattle.operands.specs.declared.Context.{Context}
-use Rattle.operands.specs.declared.Place.{Place}
-use Rattle.operands.specs.declared.Place.TheVariants as place
+use Rattle.std.specs.Prelude.{Result, Ok, Err}
 use Rattle.operands.specs.Answers.{selected, Unstuck, goes, fails, Selectable}
 use Rattle.operands.specs.Ready.{context_in, Ready}
 use Rattle.types.proofs.Matching.{declared_from}
 use Rattle.operands.proofs.Typed.{OfType, a_place, a_value, a_failure, a_stuck, typed_variable}
 use Rattle.operands.proofs.Selecting.{fits_low}
-use Rattle.transfers.specs.declared.Reference.{Reference}
-use Rattle.transfers.specs.declared.Reference.TheVariants.{To, Fail}
 use Rattle.transfers.proofs.Following.{apart, need_true, need_done, no_stuck, not_stuck, no_ok, ok_is, fail_is}
 use Rattle.transfers.specs.References.{reference_of, referred_process, place_refers, referred, Referring}
 
@@ -128,7 +125,7 @@ module _ (m : Memory) (a : ℕ) (b : Bool) (hb : b ≡ marked m a) where
   unfolding place_refers
   refer_unset e = rw (← hb, e)
 
-  pub refer_marked : b ≡ true → (w : ℕ) (r : Reference) → w ≡ m a → referred r ≡ referred_process w → referred r ≡ place_refers m a
+  pub refer_marked : b ≡ true → (w : ℕ) (r : Result ℕ Failure) → w ≡ m a → referred r ≡ referred_process w → referred r ≡ place_refers m a
   unfolding place_refers
   refer_marked e w r hw d = d ∙ rw (← hb, e, hw)
 
@@ -157,14 +154,14 @@ module _ (t m p : List ℕ) (x : Context) (h : Ready t m p x) (n : ℕ)
   pub reference_selectable : Selectable (decoded t) (memory_of m) (memory_of p) (context_in x) n
   reference_selectable = record { variable = c.variable; unstuck = selected_unstuck is_selected }
 
-  module _ (l : Place) (hl : selected l (type_of (decoded t) n) ≡ operand (decoded t) (memory_of m) (memory_of p) (context_in x) n) where
-    pub reference_fails : (e : Failure) → l ≡ place.Fail e
+  module _ (l : Result ℕ Failure) (hl : selected l (type_of (decoded t) n) ≡ operand (decoded t) (memory_of m) (memory_of p) (context_in x) n) where
+    pub reference_fails : (e : Failure) → l ≡ Err e
         → fail (failure_number e) ≡ reference_of (decoded t) (memory_of m) (operand (decoded t) (memory_of m) (memory_of p) (context_in x) n)
     unfolding reference_of
     reference_fails e g =
         rw (← hl, g) (sym (process_failed (decoded t) (type_of (decoded t) n) _ (failure_number e)))
 
-    module _ (a : ℕ) (g : l ≡ place.At a) where
+    module _ (a : ℕ) (g : l ≡ Ok a) where
       is_place : operand (decoded t) (memory_of m) (memory_of p) (context_in x) n ≡ ok (place a (type_of (decoded t) n))
       is_place = sym hl ∙ rw g
 
@@ -174,7 +171,7 @@ module _ (t m p : List ℕ) (x : Context) (h : Ready t m p x) (n : ℕ)
       pub reference_low : a < locations
       reference_low = fits_low (decoded t) a (type_of (decoded t) n) (selected_fits here)
 
-      pub reference_returns : (r : Reference) → referred r ≡ place_refers (memory_of m) a
+      pub reference_returns : (r : Result ℕ Failure) → referred r ≡ place_refers (memory_of m) a
           → referred r ≡ reference_of (decoded t) (memory_of m) (operand (decoded t) (memory_of m) (memory_of p) (context_in x) n)
       reference_returns r d =
           rw is_place
@@ -332,9 +329,9 @@ module _ {A : Type 0} (T : Table) (m page : Memory) (x : machine.Context) (h : i
             (λ j e. no_stuck j (sym (reference_fails_there j e) ∙ k));
       }
 
-  module _ (r : Reference) (hr : referred r ≡ reference_of T m (operand T m page x n)) where
+  module _ (r : Result ℕ Failure) (hr : referred r ≡ reference_of T m (operand T m page x n)) where
     -- it fails: so does the statement
-    pub follows_fails : (k : Failure) → r ≡ Fail k → follows T m page x n b f ≡ fail (failure_number k)
+    pub follows_fails : (k : Failure) → r ≡ Err k → follows T m page x n b f ≡ fail (failure_number k)
     follows_fails k z =
         selected_cases followed
         (λ a e.
@@ -344,7 +341,7 @@ module _ {A : Type 0} (T : Table) (m page : Memory) (x : machine.Context) (h : i
         (λ j e. fails_there j e ∙ fail_is j (failure_number k) (sym ((rw z at hr) ∙ reference_fails_there j e)))
 
     -- it is process j
-    module _ (j : ℕ) (z : r ≡ To j) where
+    module _ (j : ℕ) (z : r ≡ Ok j) where
       to_place : {P : Type 0} → ((a : ℕ) → operand T m page x n ≡ ok (place a (type_of T n)) → Full m a j → P) → P
       to_place q =
           selected_cases followed

@@ -9,7 +9,6 @@ use native.Mathlib.Omega.{arith}
 use Rattle.basics.specs.Cases.{cases}
 use Rattle.table.specs.Table.{Table}
 use Rattle.table.specs.Entries.{stmt_kind, stmt_a, stmt_b}
-use Rattle.table.specs.Reading.{Field}
 use Rattle.types.specs.Types.{type_of}
 use Rattle.numbers.proofs.OperandPromise.{write_address, write_value}
 use Rattle.typing.proofs.Promise.{written_address, written_value, address_numbered, written_numbered}
@@ -20,8 +19,7 @@ use Rattle.words.specs.Pages.{write_device, page_with}
 use Rattle.words.specs.Outcomes as words
 use Rattle.words.specs.Values.{failure_number, outcome_of}
 use Rattle.words.specs.declared.values.Failure.{Failure}
-use Rattle.words.specs.declared.values.Value.{Value}
-use Rattle.words.specs.declared.values.Value.TheVariants.{Word, Fail}
+use Rattle.std.specs.Prelude.{Result, Ok, Err}
 use Rattle.words.proofs.MemoryLaws.{length_put_at}
 use Rattle.words.proofs.DeviceLaws.{position_even, position_le}
 use Rattle.machine.specs.Memory.{memory_of, update}
@@ -79,8 +77,8 @@ is-device i v w e =
     (λ t. t)
     (λ t. no_word w 21 (rw t at e))
 
-module _ (s d d1 : List ℕ) (x : Context) (i v : ℕ) (l : length d ≡ page_size) (w : Value) (hw : outcome_of w ≡ write_device i v) (hd : d1 ≡ page_with d i v) where
-  pub write_fails : (e : Failure) (r : ℕ) (s1 : List ℕ) → w ≡ Fail e → r ≡ failure_number e
+module _ (s d d1 : List ℕ) (x : Context) (i v : ℕ) (l : length d ≡ page_size) (w : Result ℕ Failure) (hw : outcome_of w ≡ write_device i v) (hd : d1 ≡ page_with d i v) where
+  pub write_fails : (e : Failure) (r : ℕ) (s1 : List ℕ) → w ≡ Err e → r ≡ failure_number e
       → Becomes s1 (update (memory_of s) failure_at (failure_number e))
       → Stepped r s1 d1 (settled (memory_of s) (memory_of d) (writes (memory_of s) (memory_of d) x i v))
   unfolding settled writes fail_where page_with
@@ -89,7 +87,7 @@ module _ (s d d1 : List ℕ) (x : Context) (i v : ℕ) (l : length d ≡ page_si
       let same : d1 ≡ d = hd ∙ rw q.0 in
       record { long = c.long; wide = rw same l; is = rw (q.0, same, k, c.is, q.1) }
 
-  pub write_returns : (u : ℕ) (s1 : List ℕ) → w ≡ Word u → i < 65536 → v < 65536
+  pub write_returns : (u : ℕ) (s1 : List ℕ) → w ≡ Ok u → i < 65536 → v < 65536
       → Becomes s1 (update (memory_of s) (statement_at x.process) (x.statement + 1))
       → Stepped 0 s1 d1 (settled (memory_of s) (memory_of d) (writes (memory_of s) (memory_of d) x i v))
   unfolding settled writes fail_where page_with
@@ -144,11 +142,8 @@ module _ (t m p : List ℕ) (x : Context) (h : Standing t m p x) (hk : stmt_kind
           let q = rw ha at (failed _ _ (told_failure _ v hv g)) in
           stands_fail t m p x h (v - 65536) r s1 (does ∙ value_failed _ _ (v - 65536) q) k c
 
-      pub address_writing : (i : ℕ) → v < 65536 → Field v i → Writing t m p x i
-      address_writing i g f =
-          let e = f.is in
-          let q = rw ha at (told_word _ v hv g) in
-          record { standing = h; kind = hk; below = stands_below t m p x h; address = rw e q }
+      pub address_writing : v < 65536 → Writing t m p x v
+      address_writing g = record { standing = h; kind = hk; below = stands_below t m p x h; address = rw ha at (told_word _ v hv g) }
 
 -- ---- the laws of `write_value`
 
@@ -189,16 +184,15 @@ module _ (t m p : List ℕ) (x : Context) (i : ℕ) (c : Writing t m p x i) wher
           let q = rw hb at (failed _ _ (told_failure _ v hv g)) in
           stands_fail t m p x c.standing (v - 65536) r s1 (then ∙ value_failed _ _ (v - 65536) q) k d
 
-      pub writing_returns : (w r : ℕ) (s1 d1 : List ℕ) → v < 65536 → Field v w
-          → Stepped r s1 d1 (settled (memory_of m) (memory_of p) (writes (memory_of m) (memory_of p) x i w))
+      pub writing_returns : (r : ℕ) (s1 d1 : List ℕ) → v < 65536
+          → Stepped r s1 d1 (settled (memory_of m) (memory_of p) (writes (memory_of m) (memory_of p) x i v))
           → Stepped r s1 d1 (statement_step (decoded t) (memory_of m) (memory_of p) (context_in x))
       unfolding statement_step context_in
-      writing_returns w r s1 d1 g f d =
-          let q = f.is in
-          let e = then ∙ word_goes (decoded t) (type_of (decoded t) (stmt_b (decoded t) x.statement)) _ _ w (apart _ _ then c.standing.unstuck)
+      writing_returns r s1 d1 g d =
+          let e = then ∙ word_goes (decoded t) (type_of (decoded t) (stmt_b (decoded t) x.statement)) _ _ v (apart _ _ then c.standing.unstuck)
           (typed_expression (decoded t) (memory_of m) (memory_of p) (context_in x) c.standing.ready.ranged (stmt_b (decoded t) x.statement) value_there.expression
           (written_numbered (decoded t) c.standing.ready.typed x.statement (stands_there t m p x c.standing) c.kind))
-          (rw q (rw hb at (told_word _ v hv g))) in
+          (rw hb at (told_word _ v hv g)) in
           rw (← e) at d
 
 pub ruleset writings = (write_fails, write_returns, address_evaluable, address_one, writing_evaluable, writing_one)

@@ -1,19 +1,18 @@
 -- Inner: for code and proofs only; no public promise is said with these definitions.
 -- What a process variable refers to (5.2). Assumes nothing.
-use Rattle.std.specs.Prelude.{ℕ, ◌≡◌, eqb}
+use Rattle.std.specs.Prelude.{ℕ, ◌≡◌, eqb, Result, Ok, Err}
 use Rattle.basics.specs.Choice.{pick}
 use Rattle.table.specs.Table.{Table}
 use Rattle.table.specs.Entries.{node_count}
 use Rattle.numbers.specs.Nodes.{Variable}
 use Rattle.words.specs.Values.{failure_number}
+use Rattle.words.specs.declared.values.Failure.{Failure}
 use Rattle.machine.specs.Memory.{Memory}
 use Rattle.machine.specs.Marks.{marked}
 use Rattle.machine.specs.Context.{Context}
 use Rattle.machine.specs.Outcomes.{Outcome, ok, fail, stuck, Operand}
 use Rattle.machine.specs.Operands.{operand}
 use Rattle.machine.specs.Processes.{on_process, on_reference}
-use Rattle.transfers.specs.declared.Reference.{Reference}
-use Rattle.transfers.specs.declared.Reference.TheVariants.{To, Fail}
 
 -- the number of the process that an operand refers to; 31 where it is unmarked (02, g), 19 where its value is empty (11.3, 11.5)
 unfoldable pub reference_of : Table → Memory → Outcome Operand → Outcome ℕ
@@ -28,9 +27,9 @@ unfoldable pub place_refers : Memory → ℕ → Outcome ℕ
 place_refers m a = pick (marked m a) (referred_process (m a)) (fail 31)
 
 -- the answer of the code
-abbrev pub referred : Reference → Outcome ℕ
-referred (To r) = ok r
-referred (Fail f) = fail (failure_number f)
+abbrev pub referred : Result ℕ Failure → Outcome ℕ
+referred (Ok r) = ok r
+referred (Err f) = fail (failure_number f)
 
 -- node n is a process variable whose reference can be asked
 pub record Referring (T : Table) (m page : Memory) (x : Context) (n : ℕ) : Type 0 where

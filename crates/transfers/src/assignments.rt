@@ -13,10 +13,11 @@ ghost use Rattle.transfers.specs.Assignments.{Assigning, Copying, copied};
 use code::kinds;
 use evaluation::{Stack, eval, retrieve_place, select};
 use operands::Context;
-use operands::packed::{FAILURES, cut, widen};
+use operands::packed::FAILURES;
 use operands::places::{is_single, node_words};
 
 // The n words from `from` on, to `to`, directly (02, d), which are marked (02, g); then the process goes on.
+#[tactic(auto, using(crate::proofs::Assigning::copy_returns))]
 fn copy(state: &mut [u8], x: Context, from: usize, to: usize, n: usize)
     requires state { State state.old }
     requires copying { Copying x from to n }
@@ -46,7 +47,7 @@ fn assign_word(
     if FAILURES <= v {
         return effects::fail_by(state, v);
     }
-    frames::store_word(state, i, cut(v));
+    frames::store_word(state, i, v as u16);
     effects::go_on(state, x);
     0
 }
@@ -72,13 +73,12 @@ fn assign_words(
     if FAILURES <= l {
         return effects::fail_by(state, l);
     }
-    let j = widen(l);
-    let n = node_words(c, b);
-    copy(state, x, j, i, n);
+    copy(state, x, l as usize, i, node_words(c, b));
     0
 }
 
 // A string constant (02, b). The page is left what it is.
+#[tactic(auto, using(crate::proofs::Assigning::assigns))]
 fn assign_text(c: &code::Slots, state: &mut [u8], page: &[u8], x: Context, i: usize) -> u8
     requires assigning { Assigning c.now state.old page.now x i }
     requires statement_value { node_kind (decoded c.now) (stmt_b (decoded c.now) x.statement) ≡ 8 }
@@ -93,6 +93,7 @@ fn assign_text(c: &code::Slots, state: &mut [u8], page: &[u8], x: Context, i: us
 }
 
 // The value, to location i: one of several words is a string constant or that of a variable.
+#[tactic(auto, using(crate::proofs::Assigning::assigns))]
 fn assign_at(
     c: &code::Slots,
     k: &[u16],
@@ -134,5 +135,5 @@ pub fn assign(
     if FAILURES <= l {
         return effects::fail_by(state, l);
     }
-    assign_at(c, k, stack, state, page, x, widen(l))
+    assign_at(c, k, stack, state, page, x, l as usize)
 }

@@ -11,7 +11,7 @@ ghost use Rattle.evaluation.specs.Acting.{Acting};
 ghost use Rattle.transfers.specs.Creations.{CreatePremises, creates};
 
 use evaluation::{Stack, place_of};
-use operands::{Context, Place};
+use operands::Context;
 use words::values::Failure;
 
 // A process of module `block`, for the variable at location i: the next number, or 24 while 64 processes exist (01). The page is left
@@ -30,7 +30,7 @@ fn create_next(state: &mut [u8], page: &[u8], x: Context, i: usize, block: usize
         state,
         x.process,
         (x.statement + 1) as u16,
-        n as usize + 1,
+        usize::from(n) + 1,
         block as u16,
         i,
     );
@@ -51,10 +51,9 @@ pub fn create(
     ensures { StatementLeaves c.now state.old page.now x result state.new page.now }
 {
     let a = code::stmt_a(c, x.statement);
-    let l = place_of(c, k, stack, state, page, x, a);
-    match l {
-        Place::Fail(f) => effects::fail(state, f),
-        Place::At(i) => {
+    match place_of(c, k, stack, state, page, x, a) {
+        Err(f) => effects::fail(state, f),
+        Ok(i) => {
             let block = code::type_p(c, code::type_of(c, a));
             create_next(state, page, x, i, block)
         }

@@ -12,20 +12,19 @@ ghost use Rattle.transfers.specs.Devices.{Writing, writes};
 
 use evaluation::{Stack, eval};
 use operands::Context;
-use operands::packed::{FAILURES, cut};
-use words::values::Value;
+use operands::packed::FAILURES;
 
 // The word v, to the device location with this address.
+#[tactic(auto, using(crate::proofs::Writing::writings))]
 fn write_word(state: &mut [u8], page: &mut [u8], x: Context, address: u16, v: u16) -> u8
     requires state { State state.old }
     requires page_len { length page.old ≡ page_size }
     requires le_process { (1 ≤ x.process) × ((x.process ≤ 64) × (x.statement < 65535)) }
     ensures { Stepped result state.new page.new (settled (memory_of state.old) (memory_of page.old) (writes (memory_of state.old) (memory_of page.old) x address v)) }
 {
-    let w = words::devices::write_device(page, address, v);
-    match w {
-        Value::Fail(f) => effects::fail(state, f),
-        Value::Word(u) => {
+    match words::devices::write_device(page, address, v) {
+        Err(f) => effects::fail(state, f),
+        Ok(_) => {
             effects::go_on(state, x);
             0
         }
@@ -51,10 +50,10 @@ fn write_value(
     if FAILURES <= v {
         return effects::fail_by(state, v);
     }
-    write_word(state, page, x, address, cut(v))
+    write_word(state, page, x, address, v as u16)
 }
 
-// 12.3.
+// 12.3. (It looks like `assign`, which selects where this evaluates.)
 pub fn write(
     c: &code::Slots,
     k: &[u16],
@@ -72,5 +71,5 @@ pub fn write(
     if FAILURES <= v {
         return effects::fail_by(state, v);
     }
-    write_value(c, k, stack, state, page, x, cut(v))
+    write_value(c, k, stack, state, page, x, v as u16)
 }

@@ -5,10 +5,3 @@ pub mod assignments;
 pub mod creations;
 pub mod devices;
 pub mod references;
-
-// The number of a process, or the failure of the step.
-#[derive(Clone, Copy)]
-pub enum Reference {
-    To(usize),
-    Fail(words::values::Failure),
-}

@@ -1,10 +1,9 @@
 -- What the code's operations in 32 bits come to: conversions, the test of a range, sums, differences, products. Assumes nothing.
-use Prim.Native.Nat.{ℕ, zero, suc, ◌+◌, ◌*◌, ◌-◌, ◌%◌, ◌<◌, ◌≤◌}
+use Prim.Native.Nat.{ℕ, zero, suc, ◌+◌, ◌*◌, ◌-◌, ◌<◌, ◌≤◌}
 use mathlib.Core.Path.{◌≡◌, sym, ap, ◌∙◌}
 use mathlib.Core.Bool.{Bool, true, false, cond}
 use native.Mathlib.Omega.{arith}
 use native.Mathlib.Nat.{mul-le-mul, le_trans}
-use borrow.Author.Tests.{lt-ltb, le-ltb, ltb-true, ltb-false}
 use lib.Bits.{bit_and, and_mask}
 use lib.Dec.{T, ltb}
 use lib.IntN.{ℤ, pos, negsuc, neg_ℤ, nat_abs, ◌+ℤ◌, ◌-ℤ◌, ◌*ℤ◌, sub_ℕ, +ℤ_idl}
@@ -13,10 +12,14 @@ use mir.Syntax.{w16, w32}
 use mir.Val.{Fits, SFits, to_z, of_z}
 use mir.Facts.{sfits_widen}
 use mir.ValLaws.{to_z-of_z, to_z_pos, to_z-Fits}
+use Rattle.std.proofs.lemmas.Int.{ints}
+use Rattle.std.specs.Ordering.{partial_le}
+use Rattle.std.specs.Range.{range_inclusive_contains, range_inclusive_start, range_inclusive_end, range_inclusive_exhausted}
+use Rattle.std.specs.declared.ops.RangeInclusive.{RangeInclusive}
+use Rattle.std.specs.contracts.prelude.I32PartialOrd.TheImpl as order
 use Rattle.basics.specs.Cases.{cases}
 use Rattle.basics.specs.Choice.{both}
 use Rattle.words.specs.Numbers.{int_of, word_of_z, between_z}
-use Rattle.words.specs.Magnitudes.{signed_z}
 use Rattle.words.specs.Outcomes.{WordOutcome, word, fail}
 use Rattle.words.specs.Operators.{ranged, add_w, sub_w, neg_w, mul_w, lt_w, le_w}
 use Rattle.words.proofs.Integers.{word_lt, in_range_mag}
@@ -28,22 +31,7 @@ fits_int w f = sfits_widen tt (to_z-Fits w16 w f)
 pub back : {w : ℕ} {z : ℤ} → z ≡ int_of w → Fits w16 w → to_z w32 (of_z w32 z) ≡ int_of w
 back {w} e f = rw e (to_z-of_z w32 (int_of w) (fits_int w f))
 
--- half the range is added, modulo the range, and taken off again
-module _ (w : ℕ) (f : Fits w16 w) where
-  turned : to_z w32 ((w + 32768) % 65536) -ℤ pos 32768 ≡ int_of w
-  turned =
-      rw (to_z_pos w32 ((w + 32768) % 65536) (omega arith))
-      (cases (ltb w 32768)
-      (λ e. let h = ltb-true w 32768 e in rw (e, le-ltb ((w + 32768) % 65536) 32768 (omega arith)) (ap pos (omega arith)))
-      (λ e. let h = ltb-false w 32768 e in rw (e, lt-ltb ((w + 32768) % 65536) 32768 (omega arith)) (ap negsuc (omega arith))))
-
-  pub turned_fits : SFits w32 (to_z w32 ((w + 32768) % 65536) -ℤ pos 32768)
-  turned_fits = rw turned (fits_int w f)
-
-  pub turned_returns : to_z w32 (of_z w32 (to_z w32 ((w + 32768) % 65536) -ℤ pos 32768)) ≡ int_of w
-  turned_returns = back turned f
-
--- ---- from a sign and a magnitude
+-- ---- of a sign and a magnitude
 mag_minus : (n : ℕ) → mag (neg_ℤ (pos n)) ≤ n
 mag_minus zero = omega arith
 mag_minus (suc n) = omega arith
@@ -51,28 +39,14 @@ mag_minus (suc n) = omega arith
 pub fits_minus : (m : ℕ) → m ≤ 32768 → SFits w32 (neg_ℤ (pos m))
 fits_minus m h = omega (arith, mag_minus m)
 
-module _ (m : ℕ) (h : m ≤ 32768) where
-  minus_is : pos 0 -ℤ to_z w32 m ≡ neg_ℤ (pos m)
-  minus_is = rw (to_z_pos w32 m (omega arith)) (+ℤ_idl (neg_ℤ (pos m)))
+-- ---- a range, as `contains` tests it
+le_is : (a b : ℤ) → partial_le (order.partial_cmp-value).it a b ≡ le_z a b
+le_is a b = grind (arith, ints)
 
-  pub minus_fits : SFits w32 (pos 0 -ℤ to_z w32 m)
-  minus_fits = rw minus_is (fits_minus m h)
-
-  pub minus_returns : (s : Bool) → s ≡ true → to_z w32 (of_z w32 (pos 0 -ℤ to_z w32 m)) ≡ signed_z s m
-  minus_returns s e = rw (e, minus_is) (to_z-of_z w32 (neg_ℤ (pos m)) (fits_minus m h))
-
-  pub plus_returns : (s : Bool) → s ≡ false → to_z w32 m ≡ signed_z s m
-  plus_returns s e = rw e (to_z_pos w32 m (omega arith))
-
--- ---- a range
-module _ (low high z : ℤ) (fl : SFits w32 low) (fz : SFits w32 z) where
-  pub between_above : SFits w32 high → le_z (to_z w32 (of_z w32 low)) (to_z w32 (of_z w32 z)) ≡ true → le_z (to_z w32 (of_z w32 z)) (to_z w32 (of_z w32 high)) ≡ between_z low high z
+module _ (b : Bool) (low high z : ℤ) (s : RangeInclusive ℤ) where
+  pub contained : b ≡ range_inclusive_contains (order.partial_cmp-value).it s z → range_inclusive_start s ≡ low → range_inclusive_end s ≡ high → range_inclusive_exhausted s ≡ false → b ≡ between_z low high z
   unfolding between_z both
-  between_above fh e = let t = simp to_z-of_z at e in simp (to_z-of_z, t)
-
-  pub between_below : le_z (to_z w32 (of_z w32 low)) (to_z w32 (of_z w32 z)) ≡ false → false ≡ between_z low high z
-  unfolding between_z both
-  between_below e = let t = simp to_z-of_z at e in simp t
+  contained e l h x = e ∙ rw (l, h, x, le_is low z, le_is z high) (cases (le_z low z) (λ t. rw t) (λ t. rw t))
 
 -- the low 16 bits of an integer
 low_bits : (z : ℤ) → mag z < 32768 → bit_and (of_z w32 z) 65535 ≡ word_of_z z
@@ -104,7 +78,7 @@ module _ (z : ℤ) (f : SFits w32 z) (b : Bool) (e : b ≡ between_z (negsuc 327
   unfolding ranged
   fail_returns t = rw (← tested, t)
 
-pub ruleset conversions = (turned_fits, turned_returns, minus_fits, minus_returns, plus_returns, between_above, between_below, cast_sign, cast_fits, word_returns, fail_returns)
+pub ruleset conversions = (contained, cast_sign, cast_fits, word_returns, fail_returns)
 
 -- ---- how large a result is
 mag_sub : (a b : ℕ) → mag (sub_ℕ a b) ≤ a + b

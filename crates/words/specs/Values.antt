@@ -1,10 +1,8 @@
 -- Inner: for code and proofs only; no public promise is said with these definitions.
--- The enums of the code as outcomes. Assumes nothing.
-use Rattle.std.specs.Prelude.{ℕ}
+-- What the code answers, as outcomes. Assumes nothing.
+use Rattle.std.specs.Prelude.{ℕ, Result, Ok, Err}
 use Rattle.words.specs.declared.values.Failure.{Failure}
 use Rattle.words.specs.declared.values.Failure.TheVariants.{ResultRange, DivisorZero, IndexRange, EmptyReference, StartedTwice, DeviceAddress, AreaFull, NoValue, ProcessLimit, Unset}
-use Rattle.words.specs.declared.values.Value.{Value}
-use Rattle.words.specs.declared.values.Value.TheVariants.{Word, Fail}
 use Rattle.words.specs.Outcomes.{WordOutcome, fail, word}
 
 abbrev pub failure_number : Failure → ℕ
@@ -19,6 +17,6 @@ failure_number NoValue = 23
 failure_number ProcessLimit = 24
 failure_number Unset = 31
 
-abbrev pub outcome_of : Value → WordOutcome
-outcome_of (Word w) = word w
-outcome_of (Fail f) = fail (failure_number f)
+abbrev pub outcome_of : Result ℕ Failure → WordOutcome
+outcome_of (Ok w) = word w
+outcome_of (Err f) = fail (failure_number f)

@@ -6,38 +6,40 @@ ghost use Rattle.words.specs.Devices.{is_device};
 ghost use Rattle.words.specs.Pages.{read_device, write_device, page_with};
 
 use super::memory::{get_at, put_at};
-use super::numbers::{integer, is_between};
-use super::values::{Failure, Value};
+use super::numbers::integer;
+use super::values::Failure;
 
+#[tactic(auto, using(crate::proofs::DeviceLaws::devices, crate::proofs::Arithmetic::conversions))]
 fn is_device(address: u16) -> bool
     ensures { result ≡ is_device (int_of address) }
 {
-    if address % 2 == 0 {
-        return is_between(-8192, -2, integer(address));
-    }
-    false
+    address % 2 == 0 && (-8192..=-2).contains(&integer(address))
 }
 
 // 10.2, val. The word stands at byte address + 8,192 of the page.
-pub fn read_device(page: &[u8], address: u16) -> Value
+#[tactic(auto, using(crate::proofs::DeviceLaws::devices))]
+pub fn read_device(page: &[u8], address: u16) -> Result<u16, Failure>
     requires { length page.now ≡ 8192 }
     ensures { outcome_of result ≡ read_device page.now address }
 {
     if is_device(address) {
-        return Value::Word(get_at(page, address as usize - 57344));
+        Ok(get_at(page, usize::from(address) - 57344))
+    } else {
+        Err(Failure::DeviceAddress)
     }
-    Value::Fail(Failure::DeviceAddress)
 }
 
 // 12.3. Answers the word written.
-pub fn write_device(page: &mut [u8], address: u16, v: u16) -> Value
+#[tactic(auto, using(crate::proofs::DeviceLaws::devices))]
+pub fn write_device(page: &mut [u8], address: u16, v: u16) -> Result<u16, Failure>
     requires { length page.old ≡ 8192 }
     ensures answer { outcome_of result ≡ write_device address v }
     ensures page { page.new ≡ page_with page.old address v }
 {
     if is_device(address) {
-        put_at(page, address as usize - 57344, v);
-        return Value::Word(v);
+        put_at(page, usize::from(address) - 57344, v);
+        Ok(v)
+    } else {
+        Err(Failure::DeviceAddress)
     }
-    Value::Fail(Failure::DeviceAddress)
 }

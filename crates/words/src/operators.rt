@@ -5,39 +5,45 @@ ghost use Rattle.words.specs.Magnitudes.{negative, magnitude_of, signed_z};
 ghost use Rattle.words.specs.Operators.{ranged, add_w, sub_w, neg_w, mul_w, div_w, mod_w, lt_w, le_w, not_w, and_w, or_w, not_b, and_b, or_b, bool_word};
 ghost use Rattle.words.specs.Relations.{eq_w, ne_w, gt_w, ge_w};
 
-use super::numbers::{integer, is_between};
+use super::numbers::integer;
 use super::types::Integer;
-use super::values::{Failure, Value};
+use super::values::Failure;
 
 // A result outside the range of integers fails (10.2).
-fn in_range(z: i32) -> Value
+#[tactic(auto, using(crate::proofs::Arithmetic::conversions))]
+fn in_range(z: i32) -> Result<u16, Failure>
     ensures { outcome_of result ≡ ranged z }
 {
-    if is_between(Integer::LOWEST, Integer::HIGHEST, z) {
-        return Value::Word((z & 65535) as u16);
+    if (Integer::LOWEST..=Integer::HIGHEST).contains(&z) {
+        Ok((z & 65535) as u16)
+    } else {
+        Err(Failure::ResultRange)
     }
-    Value::Fail(Failure::ResultRange)
 }
 
-pub fn add(a: u16, b: u16) -> Value
+#[tactic(auto, using(crate::proofs::Arithmetic::arithmetic))]
+pub fn add(a: u16, b: u16) -> Result<u16, Failure>
     ensures { outcome_of result ≡ add_w a b }
 {
     in_range(integer(a) + integer(b))
 }
 
-pub fn sub(a: u16, b: u16) -> Value
+#[tactic(auto, using(crate::proofs::Arithmetic::arithmetic))]
+pub fn sub(a: u16, b: u16) -> Result<u16, Failure>
     ensures { outcome_of result ≡ sub_w a b }
 {
     in_range(integer(a) - integer(b))
 }
 
-pub fn neg(a: u16) -> Value
+#[tactic(auto, using(crate::proofs::Arithmetic::arithmetic))]
+pub fn neg(a: u16) -> Result<u16, Failure>
     ensures { outcome_of result ≡ neg_w a }
 {
     sub(0, a)
 }
 
-pub fn mul(a: u16, b: u16) -> Value
+#[tactic(auto, using(crate::proofs::Arithmetic::arithmetic))]
+pub fn mul(a: u16, b: u16) -> Result<u16, Failure>
     ensures { outcome_of result ≡ mul_w a b }
 {
     in_range(integer(a) * integer(b))
@@ -55,9 +61,9 @@ fn magnitude(w: u16) -> u32
     ensures { (result ≡ magnitude_of w) × (result ≤ 32768) }
 {
     if w < 32768 {
-        w as u32
+        u32::from(w)
     } else {
-        65536 - w as u32
+        65536 - u32::from(w)
     }
 }
 
@@ -65,10 +71,7 @@ fn signed(minus: bool, m: u32) -> i32
     requires { m ≤ 32768 }
     ensures { result ≡ signed_z minus m }
 {
-    if minus {
-        return 0 - m as i32;
-    }
-    m as i32
+    if minus { -(m as i32) } else { m as i32 }
 }
 
 // Of magnitudes, so it rounds towards zero whatever the signs.
@@ -79,11 +82,12 @@ fn quotient(m: u32, n: u32) -> u32
     m / n
 }
 
-pub fn div(a: u16, b: u16) -> Value
+#[tactic(auto, using(crate::proofs::Divisions::divisions))]
+pub fn div(a: u16, b: u16) -> Result<u16, Failure>
     ensures { outcome_of result ≡ div_w a b }
 {
     if b == 0 {
-        return Value::Fail(Failure::DivisorZero);
+        return Err(Failure::DivisorZero);
     }
     in_range(signed(
         is_negative(a) != is_negative(b),
@@ -91,11 +95,12 @@ pub fn div(a: u16, b: u16) -> Value
     ))
 }
 
-pub fn modulus(a: u16, b: u16) -> Value
+#[tactic(auto, using(crate::proofs::Divisions::divisions))]
+pub fn modulus(a: u16, b: u16) -> Result<u16, Failure>
     ensures { outcome_of result ≡ mod_w a b }
 {
     if b == 0 {
-        return Value::Fail(Failure::DivisorZero);
+        return Err(Failure::DivisorZero);
     }
     in_range(signed(is_negative(a), magnitude(a) % magnitude(b)))
 }
@@ -113,12 +118,14 @@ pub fn not_equal(a: u16, b: u16) -> bool
     a != b
 }
 
+#[tactic(auto, using(crate::proofs::Arithmetic::arithmetic))]
 pub fn less(a: u16, b: u16) -> bool
     ensures { result ≡ lt_w a b }
 {
     integer(a) < integer(b)
 }
 
+#[tactic(auto, using(crate::proofs::Arithmetic::arithmetic))]
 pub fn not_greater(a: u16, b: u16) -> bool
     ensures { result ≡ le_w a b }
 {
@@ -160,21 +167,24 @@ pub fn or_bits(a: u16, b: u16) -> u16
 pub fn boolean(x: bool) -> u16
     ensures { result ≡ bool_word x }
 {
-    if x { 1 } else { 0 }
+    u16::from(x)
 }
 
+#[tactic(auto, unfolding(crate::specs::Operators::not_b))]
 pub fn not_boolean(x: u16) -> u16
     ensures { result ≡ not_b x }
 {
     if x == 0 { 1 } else { 0 }
 }
 
+#[tactic(auto, unfolding(crate::specs::Operators::and_b))]
 pub fn and_boolean(x: u16, y: u16) -> u16
     ensures { result ≡ and_b x y }
 {
     if y == 0 { 0 } else { x }
 }
 
+#[tactic(auto, unfolding(crate::specs::Operators::or_b))]
 pub fn or_boolean(x: u16, y: u16) -> u16
     ensures { result ≡ or_b x y }
 {

@@ -3,8 +3,8 @@ ghost use Rattle.std.specs.Prelude.{◌≡◌};
 ghost use Rattle.words.specs.Values.{outcome_of};
 ghost use Rattle.words.specs.Types.{in_type, transfer_w};
 
-use super::numbers::{integer, is_between};
-use super::values::{Failure, Value};
+use super::numbers::integer;
+use super::values::Failure;
 
 #[derive(Clone, Copy)]
 pub struct Integer {}
@@ -40,27 +40,27 @@ impl Character {
 }
 
 // The word is a value of the standard type with this number; no word is one of another type.
+#[tactic(auto, using(crate::proofs::StandardTypes::typed, crate::proofs::Arithmetic::conversions))]
 pub fn is_value(number: usize, w: u16) -> bool
     ensures { result ≡ in_type number w }
 {
-    if number == Integer::TYPE {
-        return is_between(Integer::LOWEST, Integer::HIGHEST, integer(w));
+    let z = integer(w);
+    match number {
+        Integer::TYPE => (Integer::LOWEST..=Integer::HIGHEST).contains(&z),
+        Boolean::TYPE => (Boolean::LOWEST..=Boolean::HIGHEST).contains(&z),
+        Character::TYPE => (Character::LOWEST..=Character::HIGHEST).contains(&z),
+        _ => false,
     }
-    if number == Boolean::TYPE {
-        return is_between(Boolean::LOWEST, Boolean::HIGHEST, integer(w));
-    }
-    if number == Character::TYPE {
-        return is_between(Character::LOWEST, Character::HIGHEST, integer(w));
-    }
-    false
 }
 
 // A transfer keeps the word, which must be a value of the new type (01, answer 23).
-pub fn transfer(number: usize, w: u16) -> Value
+#[tactic(auto, unfolding(crate::specs::Types::transfer_w))]
+pub fn transfer(number: usize, w: u16) -> Result<u16, Failure>
     ensures { outcome_of result ≡ transfer_w number w }
 {
     if is_value(number, w) {
-        return Value::Word(w);
+        Ok(w)
+    } else {
+        Err(Failure::NoValue)
     }
-    Value::Fail(Failure::NoValue)
 }

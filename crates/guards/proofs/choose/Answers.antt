@@ -1,9 +1,6 @@
 use Rattle.guards.proofs.Choosing.{chooses}
 use Rattle.guards.proofs.choose.Goals as goal
 
-pub loop-x-init : goal.loop-x-init
-loop-x-init c = search chooses
-
 pub guard-v-requires-clause-evaluable : goal.guard-v-requires-clause-evaluable
 guard-v-requires-clause-evaluable c = search chooses
 
@@ -18,9 +15,6 @@ returns-then-v-ne0 c = search chooses
 
 pub loop-x-smaller : goal.loop-x-smaller
 loop-x-smaller c = search chooses
-
-pub loop-x-preserved : goal.loop-x-preserved
-loop-x-preserved c = search chooses
 
 pub returns : goal.returns
 returns c = search chooses

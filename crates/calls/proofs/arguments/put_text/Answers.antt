@@ -11,12 +11,6 @@ text_word-w-requires c = (search fills, omega arith)
 pub put-count-requires : goal.put-count-requires
 put-count-requires c = search fills
 
-pub overflow_add-j : goal.overflow_add-j
-overflow_add-j c = omega arith
-
-pub loop-j-smaller : goal.loop-j-smaller
-loop-j-smaller c = omega arith
-
 pub loop-j-preserved : goal.loop-j-preserved
 loop-j-preserved c = search fills
 

@@ -14,12 +14,6 @@ word_of-requires c = search puts
 pub put-count-requires : goal.put-count-requires
 put-count-requires c = search puts
 
-pub overflow_add-j : goal.overflow_add-j
-overflow_add-j c = omega arith
-
-pub loop-j-smaller : goal.loop-j-smaller
-loop-j-smaller c = omega arith
-
 pub loop-j-preserved : goal.loop-j-preserved
 loop-j-preserved c = search puts
 

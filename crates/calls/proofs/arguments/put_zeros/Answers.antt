@@ -1,4 +1,3 @@
-use native.Mathlib.Omega.{arith}
 use Rattle.calls.proofs.Putting.{fills}
 use Rattle.calls.proofs.arguments.put_zeros.Goals as goal
 
@@ -7,12 +6,6 @@ loop-j-init c = search fills
 
 pub put-count-requires : goal.put-count-requires
 put-count-requires c = search fills
-
-pub overflow_add-j : goal.overflow_add-j
-overflow_add-j c = omega arith
-
-pub loop-j-smaller : goal.loop-j-smaller
-loop-j-smaller c = omega arith
 
 pub loop-j-preserved : goal.loop-j-preserved
 loop-j-preserved c = search fills

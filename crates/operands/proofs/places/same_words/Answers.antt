@@ -1,27 +1,13 @@
-use native.Mathlib.Omega.{arith}
-use Rattle.operands.proofs.Standing.{matching}
+use Rattle.std.proofs.Common.{rules, ◌+◌, ◌∙◌, refl, ℕ, Bool}
+use lib.Dec.{eqb}
+use borrow.Author.Tests.{tests}
+use Rattle.machine.specs.Memory.{memory_of}
+use Rattle.basics.proofs.Ranges.{all_of}
+use Rattle.operands.proofs.Standing.{same_is}
 use Rattle.operands.proofs.places.same_words.Goals as goal
 
-pub loop-i-init : goal.loop-i-init
-loop-i-init c = search matching
-
-pub overflow_add-a : goal.overflow_add-a
-overflow_add-a c = omega arith
-
-pub overflow_add-b : goal.overflow_add-b
-overflow_add-b c = omega arith
-
-pub overflow_add-i : goal.overflow_add-i
-overflow_add-i c = omega arith
-
-pub loop-i-smaller : goal.loop-i-smaller
-loop-i-smaller c = omega arith
-
-pub loop-i-preserved : goal.loop-i-preserved
-loop-i-preserved c = search matching
-
-pub returns-else-word_at : goal.returns-else-word_at
-returns-else-word_at c = search matching
-
 pub returns : goal.returns
-returns c = search matching
+returns c =
+    let m = memory_of c.args.state.now in
+    let p : ℕ → Bool = λ i. eqb (m (c.args.a + i)) (m (c.args.b + i)) in
+    all_of _ _ _ _ p c.all.ensures.ran (cc) (λ x q k. search (rules, tests)) (λ x q k. search (rules, tests)) ∙ same_is m m c.args.a c.args.b c.args.n p (λ i. refl)

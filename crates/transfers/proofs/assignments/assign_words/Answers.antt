@@ -18,8 +18,8 @@ fail_by-requires-clause-le_r c = (search rules, c.retrieve_place-l.ensures.liste
 pub returns-then-l-ge-FAILURES : goal.returns-then-l-ge-FAILURES
 returns-then-l-ge-FAILURES c = search assigned
 
-pub node_words-n-requires : goal.node_words-n-requires
-node_words-n-requires c = search (assigns, rules)
+pub node_words-requires : goal.node_words-requires
+node_words-requires c = search (assigns, rules)
 
 pub copy-requires-clause-copying : goal.copy-requires-clause-copying
 copy-requires-clause-copying c = search assigned

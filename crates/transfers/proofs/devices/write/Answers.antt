@@ -19,4 +19,4 @@ pub returns-then-v-ge-FAILURES : goal.returns-then-v-ge-FAILURES
 returns-then-v-ge-FAILURES c = search address_fails
 
 pub write_value-requires-clause-writing : goal.write_value-requires-clause-writing
-write_value-requires-clause-writing c = address_writing _ _ _ _ c.requires.acting.standing c.requires.statement_value _ c.stmt_a-a.ensures.is _ c.eval-v.ensures _ (search rules) (search rules)
+write_value-requires-clause-writing c = address_writing _ _ _ _ c.requires.acting.standing c.requires.statement_value _ c.stmt_a-a.ensures.is _ c.eval-v.ensures (search rules)
