@@ -1,23 +1,22 @@
 -- Marks that are set after words are written (02, g). Assumes nothing.
-use Prim.Native.Nat.{ℕ, ◌+◌, ◌-◌, ◌*◌, ◌≤◌, ◌<◌}
-use mathlib.Core.Path.{◌≡◌, ◌∙◌}
+use Prim.Native.Nat.{ℕ, ◌+◌, ◌-◌, ◌*◌, ◌≤◌}
+use mathlib.Core.Path.{◌≡◌, refl, ◌∙◌}
 use mathlib.Core.List.{List}
 use native.Mathlib.Omega.{arith}
-use borrow.Author.Rules.{rules}
 use lib.Dec.{eqb}
 use lib.ListN.{length, take}
 use lib.Seq.{length-take-le}
 use Rattle.table.specs.Table.{Table}
 use Rattle.types.specs.Types.{evened}
 use Rattle.machine.specs.Memory.{Memory, memory_of, update, store}
-use Rattle.machine.specs.Layout.{location, statement_at, top_at, number_at, locations}
+use Rattle.machine.specs.Layout.{location, statement_at, top_at, number_at}
 use Rattle.machine.specs.Lent.{Becomes}
 use Rattle.machine.specs.Marks.{set_marks, mark, fresh}
 use Rattle.machine.specs.Texts.{text_at}
 use Rattle.machine.specs.Processes.{created, started}
 use Rattle.marks.proofs.Marking.{then_marks}
 use Rattle.machine.proofs.TextLaws.{text_long, evened_low}
-use Rattle.frames.specs.Frames.{framed_marks, entered, called_in, with_process, FrameFits}
+use Rattle.frames.specs.Frames.{framed_marks, entered, called_in, with_process}
 
 -- ---- locations that are made
 
@@ -35,9 +34,6 @@ then_makes s r m a n c d = record { long = d.long; is = rw (d.is, c.is) }
 
 -- ---- a string constant
 
-pub text_short : (at q : ℕ) → at + evened q ≤ locations → q < 65536
-text_short at q h = omega (arith, evened_low q)
-
 pub marks_text : (T : Table) (s s1 s2 : List ℕ) (at p q n : ℕ) → n ≡ evened q → Becomes s1 (store (memory_of s) at (text_at T p q))
     → Becomes s2 (mark (memory_of s1) at n)
     → Becomes s2 (mark (store (memory_of s) at (text_at T p q)) at (length (text_at T p q)))
@@ -51,17 +47,11 @@ pub marks_frame : (s s1 s2 : List ℕ) (at n size : ℕ) → Becomes s1 (mark (m
 unfolding framed_marks
 marks_frame s s1 s2 at n size c1 c2 = then_makes s1 s2 (mark (memory_of s) at (4 + n)) (at + 4 + n) (size - n) c1 c2
 
--- it lies in its area
-pub frame_room : (m : Memory) (p size top at : ℕ) → FrameFits m p size → top ≡ m (top_at p) → at ≡ location p top → at + 4 + size ≤ locations
-unfolding location
-frame_room m p size top at f i j = omega (arith, f.low, f.high, f.area)
-
-pub calls_in : (s s1 s2 b : List ℕ) (p q r c size n top at : ℕ) → n ≤ length b → top ≡ memory_of s (top_at p) → at ≡ location p top
-    → Becomes s1 (entered (memory_of s) p q r c size (take n b)) → Becomes s2 (framed_marks (memory_of s1) at size n)
-    → Becomes s2 (called_in (memory_of s) p q r c size (take n b))
+pub calls_in : (s s1 s2 ws : List ℕ) (p q r c size top at : ℕ) → top ≡ memory_of s (top_at p) → at ≡ location p top
+    → Becomes s1 (entered (memory_of s) p q r c size ws) → Becomes s2 (framed_marks (memory_of s1) at size (length ws))
+    → Becomes s2 (called_in (memory_of s) p q r c size ws)
 unfolding called_in
-calls_in s s1 s2 b p q r c size n top at h i j c1 c2 =
-    record { long = c2.long; is = c2.is ∙ rw (c1.is, j, i, length-take-le n b h) }
+calls_in s s1 s2 ws p q r c size top at i j c1 c2 = record { long = c2.long; is = c2.is ∙ rw (c1.is, j, i) }
 
 -- ---- processes
 
@@ -83,9 +73,8 @@ pub starts_on : (T : Table) (s s1 s2 s3 b : List ℕ) (p c r μ n at : ℕ) → 
 starts_on T s s1 s2 s3 b p c r μ n at h i c1 c2 c3 =
     record { long = c3.long; is = rw (c3.is, c2.is, c1.is, i, length-take-le n b h) }
 
--- the parameters lie in the area
-pub start_room : (r n at : ℕ) → 1 ≤ r → r ≤ 64 → n ≤ 256 → at ≡ location r 0 → at + n ≤ locations
+pub location_is : (p k : ℕ) → location p k ≡ (p - 1) * 256 + k
 unfolding location
-start_room r n at h k l e = omega arith
+location_is p k = refl
 
-pub ruleset marks = (makes, makes_area, then_marks, text_short, marks_text, marks_frame, frame_room, calls_in, makes_for, creates_at, starts_on, start_room, rules)
+pub ruleset marks = (location_is, makes, makes_area, then_marks, evened_low, marks_text, marks_frame, calls_in, makes_for, creates_at, starts_on)

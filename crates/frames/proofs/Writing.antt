@@ -5,8 +5,7 @@ use mathlib.Core.List.{List, [], ◌∷◌, ◌++◌}
 use native.Mathlib.Omega.{arith}
 use borrow.Author.Tests.{eqb-true, eqb-false, ltb-true, ltb-false}
 use lib.Dec.{eqb, ltb}
-use lib.ListN.{length, replicate, take, length-replicate, get_or-replicate}
-use lib.Seq.{length-take-le}
+use lib.ListN.{length, replicate, length-replicate, get_or-replicate}
 use Rattle.basics.specs.Cases.{cases}
 use Rattle.machine.specs.Memory.{Memory, memory_of, update, store, clear}
 use Rattle.machine.specs.Layout.{location, record_at, status_at, module_at, statement_at, frame_at, top_at, works_at, holder_at, depth_at, created_at, link_at, state_words}
@@ -147,13 +146,10 @@ store_padded m a n ws =
     store_append m a ws (replicate (n - length ws) 0)
     ∙ store_zeros (store m a ws) (a + length ws) (n - length ws)
 
-pub pads : (s s1 s2 b : List ℕ) (size n at : ℕ) → n ≤ length b → Becomes s1 (store (memory_of s) at (take n b))
-    → Becomes s2 (clear (memory_of s1) (at + n) (size - n))
-    → Becomes s2 (store (memory_of s) at (padded (take n b) size))
-pads s s1 s2 b size n at h c1 c2 =
-    let long : length (take n b) ≡ n = length-take-le n b h in
-    let whole = rw long at (store_padded (memory_of s) at size (take n b)) in
-    record { long = c2.long; is = c2.is ∙ rw c1.is (sym whole) }
+pub pads : (s s1 s2 ws : List ℕ) (size at : ℕ) → Becomes s1 (store (memory_of s) at ws)
+    → Becomes s2 (clear (memory_of s1) (at + length ws) (size - length ws))
+    → Becomes s2 (store (memory_of s) at (padded ws size))
+pads s s1 s2 ws size at c1 c2 = record { long = c2.long; is = c2.is ∙ rw c1.is (sym (store_padded (memory_of s) at size ws)) }
 
 pub links_back : (s s1 : List ℕ) (p f x y z q : ℕ) → x ≡ memory_of s (frame_at p) → y ≡ memory_of s (statement_at p)
     → z ≡ memory_of s (works_at p) → Becomes s1 (store (memory_of s) (location p f) (linked x y z q []))

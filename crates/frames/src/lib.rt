@@ -15,46 +15,45 @@ ghost use Rattle.machine.specs.Calls.{standing};
 ghost use Rattle.machine.specs.Processes.{created, started};
 ghost use Rattle.frames.specs.Frames.{Direct, with_position, padded, linked, framed, framed_marks, entered, called_in, left, wiped, with_parameters, with_start, with_process, ended, CallLeaves, ReturnLeaves, FrameFits, InCall};
 
-// The first n words of the buffer, to the words from `at` on.
-pub fn copy_words(state: &mut [u8], at: usize, n: usize, words: &[u16])
+// The words, to those from `at` on.
+#[tactic(auto, using(crate::proofs::Storing::copies))]
+pub fn copy_words(state: &mut [u8], at: usize, words: &[u16])
     requires state { State state.old }
-    requires n_bound { (at + n ≤ state_words) × (n ≤ length words.now) }
-    ensures { Becomes state.new (store (memory_of state.old) at (take n words.now)) }
+    requires words_bound { at + length words.now ≤ state_words }
+    ensures { Becomes state.new (store (memory_of state.old) at words.now) }
 {
-    let mut k: usize = 0;
-    while k < n {
-        machine::set_word(state, at + k, words[k]);
-        k += 1;
+    for (k, w) in words.iter().enumerate() {
+        machine::set_word(state, at + k, *w);
     }
 }
 
 // The n words from `from` on, to `to`, one after the other: no word is read after another was stored in its place (02, d).
+#[tactic(auto, using(crate::proofs::Storing::copies))]
 fn copy_across(state: &mut [u8], from: usize, to: usize, n: usize)
     requires state { State state.old }
     requires direct { Direct from to n }
     ensures { Becomes state.new (store (memory_of state.old) to (words_at (memory_of state.old) from n)) }
 {
-    let mut k = 0;
-    while k < n {
+    for k in 0..n {
         let w = machine::word_of(state, from + k);
         machine::set_word(state, to + k, w);
-        k += 1;
     }
 }
 
 // The n words from `from` on, to `to`, directly: the two are the same words, and there is nothing to do, or share none.
+#[tactic(auto, using(crate::proofs::Storing::moves_itself))]
 fn move_words(state: &mut [u8], from: usize, to: usize, n: usize)
     requires state { State state.old }
     requires direct { Direct from to n }
     ensures { Becomes state.new (store (memory_of state.old) to (words_at (memory_of state.old) from n)) }
 {
-    if from == to {
-        return;
+    if from != to {
+        copy_across(state, from, to, n);
     }
-    copy_across(state, from, to, n);
 }
 
 // The word w, to location a: it has a value now (02, g).
+#[tactic(auto, using(crate::proofs::Marks::marks))]
 pub fn store_word(state: &mut [u8], a: usize, w: u16)
     requires state { State state.old }
     requires a_lt_locations { a < locations }
@@ -65,6 +64,7 @@ pub fn store_word(state: &mut [u8], a: usize, w: u16)
 }
 
 // The n words from `from` on, to `to`, which have values now (02, g).
+#[tactic(auto, using(crate::proofs::Marks::marks))]
 pub fn assign_words(state: &mut [u8], from: usize, to: usize, n: usize)
     requires state { State state.old }
     requires direct { Direct from to n }
@@ -75,20 +75,19 @@ pub fn assign_words(state: &mut [u8], from: usize, to: usize, n: usize)
 }
 
 // The string constant of q characters from p on, which are n with the character 0 that an odd one gains (02, b), to `at`.
+#[tactic(auto, using(crate::proofs::Storing::texts))]
 fn put_text(c: &code::Slots, state: &mut [u8], at: usize, p: usize, q: usize, n: usize)
     requires state { State state.old }
     requires n_bound { (at + n ≤ locations) × ((p < 65536) × (n ≡ evened q)) }
     ensures { Becomes state.new (store (memory_of state.old) at (text_at (decoded c.now) p q)) }
 {
-    let mut k: usize = 0;
-    while k < n {
-        let w = code::text_word(c, p, q, k);
-        machine::set_word(state, at + k, w as u16);
-        k += 1;
+    for i in 0..n {
+        machine::set_word(state, at + i, code::text_word(c, p, q, i) as u16);
     }
 }
 
 // The string constant of q characters from p on, to the locations from `at` on, which have values now (02, b, g).
+#[tactic(auto, using(crate::proofs::Marks::marks))]
 pub fn assign_text(c: &code::Slots, state: &mut [u8], at: usize, p: usize, q: usize)
     requires state { State state.old }
     requires q_bound { (at + evened q ≤ locations) × (p < 65536) }
@@ -100,6 +99,7 @@ pub fn assign_text(c: &code::Slots, state: &mut [u8], at: usize, p: usize, q: us
 }
 
 // The n locations from a on are made: unmarked or marked, by the number that the run was begun with (02, g).
+#[tactic(auto, using(crate::proofs::Marks::marks))]
 fn make_fresh(state: &mut [u8], a: usize, n: usize)
     requires state { State state.old }
     requires n_bound { a + n ≤ locations }
@@ -110,6 +110,7 @@ fn make_fresh(state: &mut [u8], a: usize, n: usize)
 }
 
 // The area of process p is made.
+#[tactic(auto, using(crate::proofs::Marks::marks))]
 fn make_area(state: &mut [u8], p: usize)
     requires state { State state.old }
     requires le_p { (1 ≤ p) × (p ≤ 64) }
@@ -120,15 +121,14 @@ fn make_area(state: &mut [u8], p: usize)
 }
 
 // Makes the n words from `at` on 0.
+#[tactic(auto, using(crate::proofs::Storing::copies))]
 pub fn clear_words(state: &mut [u8], at: usize, n: usize)
     requires state { State state.old }
     requires n_bound { at + n ≤ state_words }
     ensures { Becomes state.new (clear (memory_of state.old) at n) }
 {
-    let mut k: usize = 0;
-    while k < n {
-        machine::set_word(state, at + k, 0);
-        k += 1;
+    for i in at..at + n {
+        machine::set_word(state, i, 0);
     }
 }
 
@@ -159,6 +159,7 @@ pub fn mark_failure(state: &mut [u8], n: u16)
 }
 
 // Process p has ended.
+#[tactic(auto, using(crate::proofs::Writing::ends))]
 pub fn end_process(state: &mut [u8], p: usize)
     requires state { State state.old }
     requires le_p { (1 ≤ p) × (p ≤ 64) }
@@ -168,6 +169,7 @@ pub fn end_process(state: &mut [u8], p: usize)
     hold(state, p, 0);
 }
 
+#[tactic(auto, using(crate::proofs::Writing::puts))]
 fn place(state: &mut [u8], p: usize, statement: u16, frame: u16, top: u16)
     requires state { State state.old }
     requires le_p { (1 ≤ p) × (p ≤ 64) }
@@ -179,6 +181,7 @@ fn place(state: &mut [u8], p: usize, statement: u16, frame: u16, top: u16)
 }
 
 // Where process p stands.
+#[tactic(auto, using(crate::proofs::Writing::stood))]
 pub fn stand(
     state: &mut [u8],
     p: usize,
@@ -198,6 +201,7 @@ pub fn stand(
 }
 
 // The links of a frame at f in the area of process p.
+#[tactic(auto, using(crate::proofs::Writing::links))]
 fn link(state: &mut [u8], p: usize, f: usize, frame: u16, statement: u16, works: u16, q: u16)
     requires state { State state.old }
     requires le_p { (1 ≤ p) × ((p ≤ 64) × (f + 4 ≤ 256)) }
@@ -209,17 +213,20 @@ fn link(state: &mut [u8], p: usize, f: usize, frame: u16, statement: u16, works:
     machine::set_area_word(state, p, f + 3, q);
 }
 
-// The first n words of the buffer, then zeros: `size` words from `at` on.
-fn pad(state: &mut [u8], at: usize, size: usize, n: usize, words: &[u16])
+// The words, then zeros: `size` words from `at` on.
+#[tactic(auto, using(crate::proofs::Writing::pads))]
+fn pad(state: &mut [u8], at: usize, size: usize, words: &[u16])
     requires state { State state.old }
-    requires size_bound { (at + size ≤ state_words) × ((n ≤ size) × (n ≤ length words.now)) }
-    ensures { Becomes state.new (store (memory_of state.old) at (padded (take n words.now) size)) }
+    requires size_bound { (at + size ≤ state_words) × (length words.now ≤ size) }
+    ensures { Becomes state.new (store (memory_of state.old) at (padded words.now size)) }
 {
-    copy_words(state, at, n, words);
+    let n = words.len();
+    copy_words(state, at, words);
     clear_words(state, at + n, size - n);
 }
 
 // The links of a frame for procedure q at f: where process p stands.
+#[tactic(auto, using(crate::proofs::Writing::links_back))]
 fn link_back(state: &mut [u8], p: usize, f: usize, q: u16)
     requires state { State state.old }
     requires le_p { (1 ≤ p) × ((p ≤ 64) × (f + 4 ≤ 256)) }
@@ -232,40 +239,35 @@ fn link_back(state: &mut [u8], p: usize, f: usize, q: u16)
 }
 
 // The frame of a call: the links, the argument words, zeros.
-fn put_frame(state: &mut [u8], p: usize, f: usize, q: u16, size: usize, n: usize, words: &[u16])
+#[tactic(auto, using(crate::proofs::Writing::frames))]
+fn put_frame(state: &mut [u8], p: usize, f: usize, q: u16, size: usize, words: &[u16])
     requires state { State state.old }
     requires le_p { (1 ≤ p) × ((p ≤ 64) × (f + 4 + size ≤ 256)) }
-    requires n_le_size { (n ≤ size) × (n ≤ length words.now) }
-    ensures { Becomes state.new (framed (memory_of state.old) p f q (padded (take n words.now) size)) }
+    requires words_le_size { length words.now ≤ size }
+    ensures { Becomes state.new (framed (memory_of state.old) p f q (padded words.now size)) }
 {
     let at = machine::location_of(p, f);
     link_back(state, p, f, q);
-    pad(state, at + 4, size, n, words);
+    pad(state, at + 4, size, words);
 }
 
-// Process p enters procedure q, whose variables take `size` words and whose first statement is c, on process r. The first n words of
-// the buffer are the arguments.
-fn enter(state: &mut [u8], p: usize, q: u16, r: u16, c: u16, size: usize, n: usize, words: &[u16])
+// Process p enters procedure q, whose variables take `size` words and whose first statement is c, on process r; the words are the arguments.
+#[tactic(auto, using(crate::proofs::Writing::enters))]
+fn enter(state: &mut [u8], p: usize, q: u16, r: u16, c: u16, size: usize, words: &[u16])
     requires state { State state.old }
     requires frame_fits { FrameFits (memory_of state.old) p size }
-    requires n_le_size { (n ≤ size) × (n ≤ length words.now) }
-    ensures { Becomes state.new (entered (memory_of state.old) p q r c size (take n words.now)) }
+    requires words_le_size { length words.now ≤ size }
+    ensures { Becomes state.new (entered (memory_of state.old) p q r c size words.now) }
 {
     let top = machine::record_word(state, p, machine::TOP);
     let depth = machine::record_word(state, p, machine::DEPTH);
-    put_frame(state, p, top as usize, q, size, n, words);
-    stand(
-        state,
-        p,
-        c,
-        top,
-        (top as usize + 4 + size) as u16,
-        r,
-        depth + 1,
-    );
+    let f = usize::from(top);
+    put_frame(state, p, f, q, size, words);
+    stand(state, p, c, top, (f + 4 + size) as u16, r, depth + 1);
 }
 
 // The marks of a frame at location `at`: of its links and n parameters, then of its other variables.
+#[tactic(auto, using(crate::proofs::Marks::marks))]
 fn mark_frame(state: &mut [u8], at: usize, size: usize, n: usize)
     requires state { State state.old }
     requires size_bound { (at + 4 + size ≤ locations) × (n ≤ size) }
@@ -276,19 +278,21 @@ fn mark_frame(state: &mut [u8], at: usize, size: usize, n: usize)
 }
 
 // Process p enters procedure q, as in `enter`, and its frame has its marks.
-fn call_in(state: &mut [u8], p: usize, q: u16, r: u16, c: u16, size: usize, n: usize, words: &[u16])
+#[tactic(auto, using(crate::proofs::Marks::marks))]
+fn call_in(state: &mut [u8], p: usize, q: u16, r: u16, c: u16, size: usize, words: &[u16])
     requires state { State state.old }
     requires frame_fits { FrameFits (memory_of state.old) p size }
-    requires n_le_size { (n ≤ size) × (n ≤ length words.now) }
-    ensures { Becomes state.new (called_in (memory_of state.old) p q r c size (take n words.now)) }
+    requires words_le_size { length words.now ≤ size }
+    ensures { Becomes state.new (called_in (memory_of state.old) p q r c size words.now) }
 {
     let top = machine::record_word(state, p, machine::TOP);
-    let at = machine::location_of(p, top as usize);
-    enter(state, p, q, r, c, size, n, words);
-    mark_frame(state, at, size, n);
+    let at = machine::location_of(p, usize::from(top));
+    enter(state, p, q, r, c, size, words);
+    mark_frame(state, at, size, words.len());
 }
 
 // Process p leaves the procedure of its innermost call, and stands after the call statement c.
+#[tactic(auto, using(crate::proofs::Writing::leaves))]
 pub fn leave(state: &mut [u8], p: usize, c: u16)
     requires state { State state.old }
     requires in_call { InCall (memory_of state.old) p }
@@ -297,12 +301,13 @@ pub fn leave(state: &mut [u8], p: usize, c: u16)
 {
     let frame = machine::record_word(state, p, machine::FRAME);
     let depth = machine::record_word(state, p, machine::DEPTH);
-    let caller = machine::area_word(state, p, frame as usize);
-    let works = machine::area_word(state, p, frame as usize + 2);
+    let caller = machine::area_word(state, p, usize::from(frame));
+    let works = machine::area_word(state, p, usize::from(frame) + 2);
     stand(state, p, c + 1, caller, frame, works, depth - 1);
 }
 
 // Makes the area and the control record of process n 0.
+#[tactic(auto, using(crate::proofs::Writing::wipes, crate::proofs::Writing::record_room))]
 fn wipe(state: &mut [u8], n: usize)
     requires state { State state.old }
     requires le_n { (1 ≤ n) × (n ≤ 64) }
@@ -315,6 +320,7 @@ fn wipe(state: &mut [u8], n: usize)
 }
 
 // Process n is created, of module `block`.
+#[tactic(auto, using(crate::proofs::Writing::creates))]
 pub fn create(state: &mut [u8], n: usize, block: u16)
     requires state { State state.old }
     requires le_n { (1 ≤ n) × (n ≤ 64) }
@@ -327,30 +333,33 @@ pub fn create(state: &mut [u8], n: usize, block: u16)
 }
 
 // Process r has its parameters, is started and holds its own variables.
-fn give(state: &mut [u8], r: usize, n: usize, words: &[u16])
+#[tactic(auto, using(crate::proofs::Writing::gives))]
+fn give(state: &mut [u8], r: usize, words: &[u16])
     requires state { State state.old }
     requires le_r { (1 ≤ r) × (r ≤ 64) }
-    requires n_bound { (n ≤ 256) × (n ≤ length words.now) }
-    ensures { Becomes state.new (with_parameters (memory_of state.old) r (take n words.now)) }
+    requires words_bound { length words.now ≤ 256 }
+    ensures { Becomes state.new (with_parameters (memory_of state.old) r words.now) }
 {
     let at = machine::location_of(r, 0);
-    copy_words(state, at, n, words);
+    copy_words(state, at, words);
     machine::set_record_word(state, r, machine::STATUS, machine::STARTED);
     hold(state, r, r as u16);
 }
 
-// Process r begins at statement c; its variables take `size` words, of which the first n are those of the buffer.
-pub fn begin(state: &mut [u8], r: usize, c: u16, size: u16, n: usize, words: &[u16])
+// Process r begins at statement c; its variables take `size` words, of which the first are its parameters.
+#[tactic(auto, using(crate::proofs::Writing::begins))]
+pub fn begin(state: &mut [u8], r: usize, c: u16, size: u16, words: &[u16])
     requires state { State state.old }
     requires le_r { (1 ≤ r) × (r ≤ 64) }
-    requires n_bound { (n ≤ 256) × (n ≤ length words.now) }
-    ensures { Becomes state.new (with_start (memory_of state.old) r c size (take n words.now)) }
+    requires words_bound { length words.now ≤ 256 }
+    ensures { Becomes state.new (with_start (memory_of state.old) r c size words.now) }
 {
-    give(state, r, n, words);
+    give(state, r, words);
     stand(state, r, c, 0, size, r as u16, 0);
 }
 
 // Process p calls procedure q of its own module; the first n words of the buffer are the arguments.
+#[tactic(auto, using(crate::proofs::Meanings::pushes_local))]
 pub fn push_local(
     c: &code::Slots,
     state: &mut [u8],
@@ -368,10 +377,11 @@ pub fn push_local(
 {
     let first = code::first_stmt(c, q);
     let works = machine::record_word(state, p, machine::WORKS);
-    call_in(state, p, q as u16, works, first as u16, size, n, words);
+    call_in(state, p, q as u16, works, first as u16, size, &words[..n]);
 }
 
 // Process p calls procedure q of process r, and holds its variables.
+#[tactic(auto, using(crate::proofs::Meanings::pushes_process))]
 pub fn push_process(
     c: &code::Slots,
     state: &mut [u8],
@@ -390,10 +400,19 @@ pub fn push_process(
 {
     let first = code::first_stmt(c, q);
     hold(state, r, p as u16);
-    call_in(state, p, q as u16, r as u16, first as u16, size, n, words);
+    call_in(
+        state,
+        p,
+        q as u16,
+        r as u16,
+        first as u16,
+        size,
+        &words[..n],
+    );
 }
 
 // The end of a local call, whose statement is c.
+#[tactic(auto, using(crate::proofs::Meanings::pops_local))]
 pub fn pop_local(state: &mut [u8], p: usize, c: u16)
     requires state { State state.old }
     requires in_call { InCall (memory_of state.old) p }
@@ -404,6 +423,7 @@ pub fn pop_local(state: &mut [u8], p: usize, c: u16)
 }
 
 // The end of a process call, whose statement is c: the variables that it worked on are given up.
+#[tactic(auto, using(crate::proofs::Meanings::pops_process))]
 pub fn pop_process(state: &mut [u8], p: usize, c: u16)
     requires state { State state.old }
     requires in_call { InCall (memory_of state.old) p }
@@ -411,31 +431,25 @@ pub fn pop_process(state: &mut [u8], p: usize, c: u16)
     ensures { ReturnLeaves (memory_of state.old) state.new p (update (memory_of state.old) (holder_at (memory_of state.old (works_at p))) 0) c }
 {
     let works = machine::record_word(state, p, machine::WORKS);
-    hold(state, works as usize, 0);
+    hold(state, usize::from(works), 0);
     leave(state, p, c);
 }
 
-// Process r, of module b, is started; the first n words of the buffer are its parameters.
-pub fn start(
-    c: &code::Slots,
-    state: &mut [u8],
-    r: usize,
-    b: usize,
-    size: usize,
-    n: usize,
-    words: &[u16],
-)
+// Process r, of module b, is started; the words are its parameters.
+#[tactic(auto, using(crate::proofs::Meanings::starts_done))]
+pub fn start(c: &code::Slots, state: &mut [u8], r: usize, b: usize, size: usize, words: &[u16])
     requires state { State state.old }
     requires le_r { (1 ≤ r) × (r ≤ 64) }
-    requires n_bound { (n ≤ 256) × ((n ≤ length words.now) × (size < 65536)) }
+    requires words_bound { (length words.now ≤ 256) × (size < 65536) }
     requires size_value { size ≡ module_words (decoded c.now) b }
-    ensures { Becomes state.new (started (decoded c.now) (memory_of state.old) r b (take n words.now)) }
+    ensures { Becomes state.new (started (decoded c.now) (memory_of state.old) r b words.now) }
 {
     let first = code::first_stmt(c, b);
-    begin(state, r, first as u16, size as u16, n, words);
+    begin(state, r, first as u16, size as u16, words);
 }
 
 // Process p enters an arm at statement c, and holds the variables of process w.
+#[tactic(auto, using(crate::proofs::Writing::then_update))]
 pub fn enter_arm(state: &mut [u8], p: usize, w: usize, c: u16)
     requires state { State state.old }
     requires le_p { (1 ≤ p) × ((p ≤ 64) × ((1 ≤ w) × (w ≤ 64))) }
@@ -446,6 +460,7 @@ pub fn enter_arm(state: &mut [u8], p: usize, w: usize, c: u16)
 }
 
 // Process n is created, of module `block`, its number is stored at `at`, and its area is made.
+#[tactic(auto, using(crate::proofs::Marks::marks))]
 fn create_for(state: &mut [u8], n: usize, block: u16, at: usize)
     requires state { State state.old }
     requires le_n { (1 ≤ n) × ((n ≤ 64) × (at < locations)) }
@@ -457,6 +472,7 @@ fn create_for(state: &mut [u8], n: usize, block: u16, at: usize)
 }
 
 // Process n is created, of module `block`, for the variable at `at`, and process p goes on at statement c.
+#[tactic(auto, using(crate::proofs::Marks::marks))]
 pub fn create_at(state: &mut [u8], p: usize, c: u16, n: usize, block: u16, at: usize)
     requires state { State state.old }
     requires le_p { (1 ≤ p) × ((p ≤ 64) × ((1 ≤ n) × (n ≤ 64))) }
@@ -469,6 +485,7 @@ pub fn create_at(state: &mut [u8], p: usize, c: u16, n: usize, block: u16, at: u
 }
 
 // Process r, of module b, is started with marked parameters, and process p goes on at statement next.
+#[tactic(auto, using(crate::proofs::Marks::marks))]
 pub fn start_on(
     c: &code::Slots,
     state: &mut [u8],
@@ -486,7 +503,7 @@ pub fn start_on(
     requires size_value { size ≡ module_words (decoded c.now) b }
     ensures { Becomes state.new (update (mark (started (decoded c.now) (memory_of state.old) r b (take n words.now)) (location r 0) (length (take n words.now))) (statement_at p) next) }
 {
-    start(c, state, r, b, size, n, words);
+    start(c, state, r, b, size, &words[..n]);
     marks::set_marks(state, machine::location_of(r, 0), n, true);
     go_to(state, p, next);
 }

@@ -5,8 +5,8 @@ use mathlib.Core.Bool.{Bool, true}
 use native.Mathlib.Omega.{arith}
 use native.Mathlib.Nat.{not-suc-le-zero}
 use lib.Dec.{eqb}
-use borrow.Author.Tests.{eqb-true, eqb-false, eq-eqb, ne_eqb, le-leb}
-use Rattle.basics.specs.Choice.{either, between}
+use borrow.Author.Tests.{eqb-true, eqb-false, eq-eqb, le-leb}
+use Rattle.basics.specs.Choice.{between}
 use Rattle.basics.specs.Cases.{cases}
 use Rattle.basics.proofs.Bools.{no_true, between_true, both_i, either_l, either_r, either_case}
 use Rattle.machine.specs.Values.{some_below}
@@ -51,14 +51,6 @@ failure_i n a b = either_l _ _ (range_i 16 24 n a b)
 pub failure_unset : is_failure 31 ≡ true
 unfolding is_failure
 failure_unset = either_r _ _ (eq-eqb 31 31 refl)
-
-pub failure_at : (n : ℕ) → n ≡ 31 → true ≡ is_failure n
-unfolding is_failure
-failure_at n e = sym (either_r _ _ (eq-eqb n 31 e))
-
-pub failure_else : (n : ℕ) (r : Bool) → (n ≡ 31 → ⊥) → r ≡ between 16 24 n → r ≡ is_failure n
-unfolding is_failure either
-failure_else n r d e = cases (between 16 24 n) (λ h. rw (e, h)) (λ h. rw (e, h, ne_eqb n 31 d))
 
 -- it is no other answer, and a byte
 pub failure_low : (n : ℕ) → is_failure n ≡ true → 16 ≤ n

@@ -39,7 +39,7 @@ pub const FAILURE: usize = 9;
 // And the number that the run was begun with.
 pub const NUMBER: usize = 10;
 
-// The statuses of a created process.
+// The statuses of a created process: numbers, since they are words of a lent state.
 pub const UNSTARTED: u16 = 1;
 
 pub const STARTED: u16 = 2;
@@ -47,16 +47,15 @@ pub const STARTED: u16 = 2;
 pub const ENDED: u16 = 3;
 
 // n is the number of a failure (01, Step answers).
+#[tactic(auto, unfolding(crate::specs::Outcomes::is_failure, basics::specs::Choice::either, basics::specs::Choice::both, basics::specs::Choice::between))]
 pub fn is_failure(n: usize) -> bool
     ensures { result ≡ is_failure n }
 {
-    if n == 31 {
-        return true;
-    }
-    basics::between(16, 24, n)
+    matches!(n, 16..=24 | 31)
 }
 
 // Where word k of the area of process p stands.
+#[tactic(auto, unfolding(crate::specs::Layout::location))]
 pub fn location_of(p: usize, k: usize) -> usize
     requires { (1 ≤ p) × ((p ≤ 64) × (k ≤ 255)) }
     ensures { (result ≡ location p k) × (result < locations) }
@@ -65,6 +64,7 @@ pub fn location_of(p: usize, k: usize) -> usize
 }
 
 // Where word k of the control record of process p stands.
+#[tactic(auto, unfolding(crate::specs::Layout::record_at))]
 pub fn record_of(p: usize, k: usize) -> usize
     requires { (1 ≤ p) × ((p ≤ 64) × (k < 20)) }
     ensures { (result ≡ record_at p k) × (result < state_words) }
@@ -73,6 +73,7 @@ pub fn record_of(p: usize, k: usize) -> usize
 }
 
 // Word i of a state.
+#[tactic(auto, using(crate::proofs::Memories::memory_word))]
 pub fn word_of(state: &[u8], i: usize) -> u16
     requires state { State state.now }
     requires i_lt_state_words { i < state_words }
@@ -82,6 +83,7 @@ pub fn word_of(state: &[u8], i: usize) -> u16
 }
 
 // Makes it v.
+#[tactic(auto, using(crate::proofs::Lending::puts))]
 pub fn set_word(state: &mut [u8], i: usize, v: u16)
     requires state { State state.old }
     requires i_lt_state_words { i < state_words }

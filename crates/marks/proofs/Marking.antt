@@ -4,6 +4,7 @@ use mathlib.Core.Path.{◌≡◌, refl, sym, ap, ◌∙◌}
 use mathlib.Core.Bool.{Bool, true, false}
 use mathlib.Core.List.{List}
 use native.Mathlib.Omega.{arith}
+use Rattle.std.proofs.Common.{add-one}
 use borrow.Author.Rules.{rules}
 use lib.Dec.{eqb, ltb}
 use lib.ListN.{get_or}
@@ -39,9 +40,9 @@ module _ (s : List ℕ) (b : Bytes s) (a : ℕ) where
       let k : a % 16 ≡ 8 + a % 8 = omega arith in
       rw (i, k) (sym (bit_higher 8 x y (a % 8) (b.small ((plain_words + a / 16) * 2)))))
 
-  pub mark-is : eqb (get_or s (plain_words * 2 + a / 8) 0 / 2 ^ (a % 8) % 2) 1 ≡ marked (memory_of s) a
+  pub mark_is : eqb (get_or s (plain_words * 2 + a / 8) 0 / 2 ^ (a % 8) % 2) 1 ≡ marked (memory_of s) a
   unfolding marked mark_word bit_of
-  mark-is = ap (λ (x : ℕ). eqb x 1) byte_bit
+  mark_is = ap (λ (x : ℕ). eqb x 1) byte_bit
 
 -- ---- in one word
 
@@ -60,62 +61,46 @@ pub then_marks : (s r : List ℕ) (m : Memory) (a n : ℕ) (v : Bool) → Become
     → Becomes r (set_marks (memory_of s) a n v) → Becomes r (set_marks m a n v)
 then_marks s r m a n v c d = record { long = d.long; is = rw (d.is, c.is) }
 
--- ---- the loop that sets whole words of marks
+-- no locations
+pub none_set : (s : List ℕ) (a n : ℕ) (v : Bool) → State s → n ≡ 0 → Becomes s (set_marks (memory_of s) a n v)
+none_set s a n v l e = record { long = l.long; is = rw e (sym (marks_none (memory_of s) a v)) }
 
-pub record Filling (m : Memory) (i n : ℕ) (v : Bool) (s : List ℕ) (k : ℕ) : Type 0 where
-  pub upto : k ≤ n
-  pub is : Becomes s (set_marks m (i * 16) (k * 16) v)
+pub none_tested : (m : Memory) (a n : ℕ) → n ≡ 0 → true ≡ all_marked m a n
+unfolding all_marked
+none_tested m a n e = rw e
 
-module _ (s₀ : List ℕ) (i n : ℕ) (v : Bool) where
-  pub fills_none : State s₀ → Filling (memory_of s₀) i n v s₀ 0
-  fills_none l = record { upto = omega arith; is = record { long = l.long; is = sym (marks_none (memory_of s₀) (i * 16) v) } }
+-- ---- whole words of marks, one after the other
 
-  pub fills_lent : (s : List ℕ) (k : ℕ) → Filling (memory_of s₀) i n v s k → State s
-  fills_lent s k l = record { long = l.is.long }
+module _ (m : Memory) (i k : ℕ) where
+  apart : (i + k) * 16 ≡ i * 16 + k * 16
+  apart = omega arith
 
-  pub fills_more : (s r : List ℕ) (k : ℕ) → Filling (memory_of s₀) i n v s k → k < n
-      → Becomes r (set_marks (memory_of s) ((i + k) * 16) 16 v) → Filling (memory_of s₀) i n v r (k + 1)
-  fills_more s r k l h g =
-      let d : (i + k) * 16 ≡ i * 16 + k * 16 = omega arith in
-      let e : (k + 1) * 16 ≡ k * 16 + 16 = omega arith in
-      record {
-        upto = omega arith;
-        is = record { long = g.long; is = g.is ∙ rw (l.is.is, d, e) (sym (marks_add (memory_of s₀) (i * 16) (k * 16) 16 v)) };
-      }
+  pub fills_none : (v : Bool) → set_marks m (i * 16) (0 * 16) v ≡ m
+  fills_none v = marks_none m (i * 16) v
 
-  pub fills_all : (s : List ℕ) (k : ℕ) → Filling (memory_of s₀) i n v s k → n ≤ k
-      → Becomes s (set_marks (memory_of s₀) (i * 16) (n * 16) v)
-  fills_all s k l h = let e : k ≡ n = omega (arith, l.upto) in rw e at l.is
+  pub fills_more : (v : Bool) → set_marks (set_marks m (i * 16) (k * 16) v) ((i + k) * 16) 16 v ≡ set_marks m (i * 16) ((k + 1) * 16) v
+  fills_more v = let e : (k + 1) * 16 ≡ k * 16 + 16 = omega arith in rw (apart, e) (sym (marks_add m (i * 16) (k * 16) 16 v))
 
--- ---- the loop that tests them
-
-pub record Testing (m : Memory) (i n k : ℕ) : Type 0 where
-  pub upto : k ≤ n
-  pub is : all_marked m (i * 16) (k * 16) ≡ true
-
-module _ (m : Memory) (i n : ℕ) where
-  pub tests_none : Testing m i n 0
+  pub tests_none : all_marked m (i * 16) (0 * 16) ≡ true
   unfolding all_marked
-  tests_none = record { upto = omega arith; is = refl }
+  tests_none = refl
 
-  one_more : (k : ℕ) → all_marked m (i * 16) ((k + 1) * 16) ≡ both (all_marked m (i * 16) (k * 16)) (all_marked m ((i + k) * 16) 16)
-  one_more k =
-      let d : (i + k) * 16 ≡ i * 16 + k * 16 = omega arith in
-      let e : (k + 1) * 16 ≡ k * 16 + 16 = omega arith in
-      rw (d, e) (all_add m (i * 16) (k * 16) 16)
+  one_more : all_marked m (i * 16) ((k + 1) * 16) ≡ both (all_marked m (i * 16) (k * 16)) (all_marked m ((i + k) * 16) 16)
+  one_more = let e : (k + 1) * 16 ≡ k * 16 + 16 = omega arith in rw (apart, e) (all_add m (i * 16) (k * 16) 16)
 
-  pub tests_more : (k : ℕ) (r : Bool) → Testing m i n k → k < n → r ≡ all_marked m ((i + k) * 16) 16 → r ≡ true → Testing m i n (k + 1)
+  pub tests_more : all_marked m (i * 16) (k * 16) ≡ true → all_marked m ((i + k) * 16) 16 ≡ true → all_marked m (i * 16) ((k + 1) * 16) ≡ true
   unfolding both
-  tests_more k r l h e t = record { upto = omega arith; is = rw (one_more k, l.is, ← e) t }
+  tests_more l t = rw (one_more, l) t
 
-  pub tests_stop : (k : ℕ) (r : Bool) → Testing m i n k → k < n → r ≡ all_marked m ((i + k) * 16) 16 → r ≡ false → false ≡ all_marked m (i * 16) (n * 16)
+  pub tests_stop : (n : ℕ) → k < n → all_marked m (i * 16) (k * 16) ≡ true → all_marked m ((i + k) * 16) 16 ≡ false → all_marked m (i * 16) (n * 16) ≡ false
   unfolding both
-  tests_stop k r l h e t =
+  tests_stop n h l t =
       let d : (k + 1) * 16 + (n - (k + 1)) * 16 ≡ n * 16 = omega arith in
-      rw (← d, all_add m (i * 16) ((k + 1) * 16) ((n - (k + 1)) * 16), one_more k, l.is, ← e, t)
+      rw (← d, all_add m (i * 16) ((k + 1) * 16) ((n - (k + 1)) * 16), one_more, l, t)
 
-  pub tests_all : (k : ℕ) → Testing m i n k → n ≤ k → true ≡ all_marked m (i * 16) (n * 16)
-  tests_all k l h = let e : k ≡ n = omega (arith, l.upto) in sym (rw e at l.is)
+pub ruleset fills = (fills_none, fills_more)
+
+pub ruleset tests = (tests_none, tests_more, tests_stop)
 
 -- ---- the first word, whole words, the rest: c of n locations from a on, k words, what is left
 
@@ -177,15 +162,5 @@ module _ (a n c k : ℕ) (p : MarkRun a n c) (e : k ≡ (n - c) / 16) where
 pub first_unset : (m : Memory) (a n c : ℕ) (r : Bool) → MarkRun a n c → r ≡ all_marked m a c → r ≡ false → false ≡ all_marked m a n
 unfolding both
 first_unset m a n c r p q t = let e : c + (n - c) ≡ n = omega (arith, p.upto) in rw (← e, all_add m a c (n - c), ← q, t)
-
--- no locations
-pub none_set : (s : List ℕ) (a n : ℕ) (v : Bool) → State s → n ≡ 0 → Becomes s (set_marks (memory_of s) a n v)
-none_set s a n v l e = record { long = l.long; is = rw e (sym (marks_none (memory_of s) a v)) }
-
-pub none_tested : (m : Memory) (a n : ℕ) → n ≡ 0 → true ≡ all_marked m a n
-unfolding all_marked
-none_tested m a n e = rw e
-
-pub ruleset marking = (fills_none, fills_lent, fills_more, fills_all, tests_none, tests_more, tests_stop, tests_all, rules)
 
 pub ruleset parting = (whole_fits, rest_in, rest_room, sets_parts, first_unset, whole_unset, rest_tested, none_set, none_tested, rules)

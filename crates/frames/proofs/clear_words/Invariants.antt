@@ -1,10 +1,7 @@
 use Prim.Native.Nat.{◌-◌}
-use Rattle.machine.specs.Memory.{memory_of}
-use Rattle.frames.proofs.Storing.{Clearing}
+use Rattle.machine.specs.Memory.{memory_of, clear}
+use Rattle.machine.specs.Lent.{Becomes}
 use Rattle.frames.proofs.clear_words.Given as goal
 
-abbrev pub invariant-loop-k : goal.invariant-loop-k
-invariant-loop-k l = Clearing (memory_of l.initial.state) l.at l.n l.state l.k
-
-abbrev pub decreases-loop-k : goal.decreases-loop-k
-decreases-loop-k l = l.n - l.k
+abbrev pub invariant-loop-i : goal.invariant-loop-i
+invariant-loop-i l = Becomes l.state (clear (memory_of l.initial.state) l.at (l.i - l.at))

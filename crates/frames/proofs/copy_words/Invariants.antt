@@ -1,10 +1,7 @@
-use Prim.Native.Nat.{◌-◌}
-use Rattle.machine.specs.Memory.{memory_of}
-use Rattle.frames.proofs.Storing.{Storing}
+use lib.ListN.{take}
+use Rattle.machine.specs.Memory.{memory_of, store}
+use Rattle.machine.specs.Lent.{Becomes}
 use Rattle.frames.proofs.copy_words.Given as goal
 
 abbrev pub invariant-loop-k : goal.invariant-loop-k
-invariant-loop-k l = Storing (memory_of l.initial.state) l.at l.n l.words l.state l.k
-
-abbrev pub decreases-loop-k : goal.decreases-loop-k
-decreases-loop-k l = l.n - l.k
+invariant-loop-k l = Becomes l.state (store (memory_of l.initial.state) l.at (take l.k l.words))
