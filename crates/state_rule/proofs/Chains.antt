@@ -7,12 +7,10 @@ use native.Mathlib.Omega.{arith}
 use native.Mathlib.Nat.{add-zero}
 use mir.Val.{Fits}
 use mir.Syntax.{w64}
-use borrow.Author.Tests.{eq-eqb, ne_eqb, le-leb, lt-leb, lt-ltb, le-ltb, eqb-true, eqb-false, leb-true}
+use borrow.Author.Tests.{eq-eqb, ne_eqb, le-leb, lt-leb, lt-ltb, le-ltb, eqb-true, leb-true}
 use Rattle.basics.specs.Choice.{both, either, between}
 use Rattle.basics.specs.Cases.{cases}
-use Rattle.basics.specs.Loops.{Passed}
 use Rattle.basics.proofs.Bools.{both_l, both_r, both_i, both_false_l, both_false_r}
-use Rattle.basics.proofs.Passes.{passed_fail, passed_all}
 use Rattle.table.specs.Table.{Table}
 use Rattle.table.specs.Entries.{block_count, stmt_count, var_type, owner, first_var, vars, first_stmt, stmt_kind, stmt_a, stmt_b, stmt_c, stmt_d, stmt_link, stmt_limit}
 use Rattle.sizes.specs.Sizes.{words_of, var_offset, module_words}
@@ -21,7 +19,7 @@ use Rattle.machine.specs.Memory.{Memory}
 use Rattle.machine.specs.Layout.{location, link_at, status_at, module_at, statement_at, frame_at, top_at, works_at, holder_at, depth_at, created_at, failure_at, number_at, caller_frame, call_statement, caller_works, called_block}
 use Rattle.machine.specs.Entries.{waits, statement_of, stmt_at}
 use Rattle.machine.proofs.Entries.{statement_cases}
-use Rattle.machine.specs.Variables.{var_words, first_words, frame_words, is_module, is_procedure}
+use Rattle.machine.specs.Variables.{var_words, first_words, frame_words, is_procedure}
 use Rattle.machine.specs.Rule.{lies_in, calls, may_wait, is_created, worked, holds_on, works_by, modules_hold, frames_hold, frame_ok, chain, module_ok, started_ok, process_ok, failure_ok, run_ok, rule}
 use Rattle.machine.specs.Outcomes.{is_failure}
 use Rattle.values.specs.Walks.{WordCount}
@@ -79,18 +77,15 @@ module _ (T : Table) (c n : ℕ) (e : n ≡ stmt_count T) where
     unfolding stmt_at statement_of may_wait waits
     wait_when h = rw (← e, lt-ltb c n l, ← hk, h)
 
-    wait_at : k ≡ 9 → true ≡ may_wait (stmt_at T c)
+    pub wait_cycle : k ≡ 9 → true ≡ may_wait (stmt_at T c)
     unfolding stmt_at statement_of may_wait waits
-    wait_at h = rw (← e, lt-ltb c n l, ← hk, h)
+    wait_cycle h = rw (← e, lt-ltb c n l, ← hk, h)
 
-    wait_none : (k ≡ 8 → ⊥) → (k ≡ 9 → ⊥) → false ≡ may_wait (stmt_at T c)
+    pub wait_none : (k ≡ 8 → ⊥) → (k ≡ 9 → ⊥) → false ≡ may_wait (stmt_at T c)
     unfolding stmt_at
     wait_none h g = rw (← e, lt-ltb c n l, ← hk) (sym (no_wait k (stmt_a T c) (stmt_b T c) (stmt_c T c) (stmt_d T c) (stmt_link T c) h g))
 
-    pub wait_cycle : (k ≡ 8 → ⊥) → eqb k 9 ≡ may_wait (stmt_at T c)
-    wait_cycle h = cases (eqb k 9) (λ g. g ∙ wait_at (eqb-true k 9 g)) (λ g. g ∙ wait_none h (eqb-false k 9 g))
-
-pub ruleset waiting = (wait_beyond, wait_when, wait_cycle)
+pub ruleset waiting = (wait_beyond, wait_when, wait_cycle, wait_none)
 
 -- who holds what a process works on
 module _ (T : Table) (m : Memory) (p w h : ℕ) (hh : h ≡ m (holder_at w)) where
@@ -390,27 +385,6 @@ pub ruleset chains = (left_begin, left_deep, left_base, left_fails, left_next)
 
 -- ---- processes
 
-module _ (T : Table) (m : Memory) (p status b : ℕ) (hs : status ≡ m (status_at p)) (hb : b ≡ m (module_at p)) (x : Bool) where
-  module _ (e : p ≡ 1) (h : x ≡ between 2 3 status) where
-    pub first_status : x ≡ false → false ≡ module_ok T m p
-    unfolding module_ok both
-    first_status z = rw (eq-eqb p 1 e, ← hs, ← h, z)
-
-    pub first_block : x ≡ true → eqb b 0 ≡ module_ok T m p
-    unfolding module_ok both
-    first_block z = rw (eq-eqb p 1 e, ← hs, ← h, z, ← hb)
-
-  module _ (e : p ≡ 1 → ⊥) (h : x ≡ between 1 3 status) where
-    pub other_status : x ≡ false → false ≡ module_ok T m p
-    unfolding module_ok both
-    other_status z = rw (ne_eqb p 1 e, ← hs, ← h, z)
-
-    pub other_block : (r : Bool) → x ≡ true → r ≡ is_module T b → r ≡ module_ok T m p
-    unfolding module_ok both
-    other_block r z g = rw (ne_eqb p 1 e, ← hs, ← h, z, ← hb) g
-
-pub ruleset modules = (first_status, first_block, other_status, other_block)
-
 module _ (T : Table) (m : Memory) (p k : ℕ) (h : k ≡ m (status_at p)) where
   pub running_started : (r : Bool) → k ≡ 2 → r ≡ started_ok T m p → r ≡ running_ok T m p
   unfolding running_ok
@@ -463,19 +437,7 @@ module _ (m : Memory) (x : Bool) (e : x ≡ failure_ok m) where
 pub few : (x n : ℕ) → n ≡ x → n ≤ 64 → x ≤ 64
 few x n e l = rw e at l
 
-pub process-row : (T : Table) (m : Memory) (i : ℕ) (r : Bool) → r ≡ process_ok T m (i + 1) → r ≡ process_row T m i
-unfolding process_row
-process-row T m i r e = e
-
 module _ (T : Table) (m : Memory) (n : ℕ) (h : n ≡ m created_at) where
-  pub processes_fail : (i : ℕ) (r : Bool) → r ≡ process_ok T m (i + 1) → i < n → r ≡ false → false ≡ processes_hold T m
-  unfolding processes_hold
-  processes_fail i r e l g = passed_fail (process_row T m) i r (process-row T m i r e) (m created_at) (rw h at l) g
-
-  pub processes_all : (i : ℕ) → Passed (process_row T m) i → i ≤ n → n ≤ i → true ≡ processes_hold T m
-  unfolding processes_hold
-  processes_all i p l g = passed_all (process_row T m) i (m created_at) p (rw h at l) (rw h at g)
-
   pub rule_none : n < 1 → false ≡ rule T m
   unfolding rule between both
   rule_none l = rw (← h, lt-leb 1 n l)

@@ -1,6 +1,6 @@
 -- Variables of areas and frames: the laws of each return. Assumes nothing.
 use Prim.Native.Nat.{ℕ, suc, ◌+◌, ◌-◌, ◌/◌, ◌%◌, ◌≤◌, ◌<◌}
-use mathlib.Core.Path.{◌≡◌, refl, sym, ◌∙◌}
+use mathlib.Core.Path.{◌≡◌, sym, ◌∙◌}
 use mathlib.Core.Bool.{Bool, true, false}
 use mathlib.Core.List.{List}
 use lib.Dec.{eqb}
@@ -34,6 +34,8 @@ variable_is T m p v a x l r e g h = rw (← e, ← g) h
 pub variable-free : (T : Table) (m : Memory) (p v a x h : ℕ) → x ≡ var_type T v → Head T x h → h ≡ 0 → true ≡ variable_holds T m p v a
 unfolding variable_holds
 variable-free T m p v a x h e d z = rw (← e) (v_free T m x h (location p a) d z)
+
+pub ruleset variables = (near_any, variable_is, variable-free)
 
 -- ---- passes over the variables of a block
 
@@ -82,22 +84,24 @@ pub ruleset walking = (walked_none, walked_fail, walked_all, modules_is, frames_
 -- ---- live variables
 
 -- the search for what a process worked on goes from frame to frame
-module _ (m : Memory) (p r d f w n g v : ℕ) (h : worked m p n g v r ≡ worked m p d f w r) where
-  module _ (l : 0 < n) where
-    fewer : n ≡ suc (n - 1)
+module _ (m : Memory) (p r d f w i g v : ℕ) (h : worked m p (d - i) g v r ≡ worked m p d f w r) where
+  module _ (l : i < d) where
+    fewer : d - i ≡ suc (d - (i + 1))
     fewer = omega arith
 
     pub worked_found : v ≡ r → true ≡ worked m p d f w r
     unfolding worked either
     worked_found x = (rw (fewer, eq-eqb v r x) at h)
 
-    pub worked_next : (g' v' : ℕ) → (v ≡ r → ⊥) → v' ≡ m (location p (g + 2)) → g' ≡ m (location p g) → worked m p (n - 1) g' v' r ≡ worked m p d f w r
+    pub worked_next : (g' v' : ℕ) → (v ≡ r → ⊥) → v' ≡ m (location p (g + 2)) → g' ≡ m (location p g) → worked m p (d - (i + 1)) g' v' r ≡ worked m p d f w r
     unfolding worked either link_at
     worked_next g' v' x hv hg = rw (hv, hg) (rw (fewer, ne_eqb v r x, add-zero g) at h)
 
-  pub worked_last : n ≤ 0 → eqb v r ≡ worked m p d f w r
+  pub worked_last : d ≤ i → eqb v r ≡ worked m p d f w r
   unfolding worked
-  worked_last l = let e : n ≡ 0 = omega arith in (rw e at h)
+  worked_last l = let e : d - i ≡ 0 = omega arith in (rw e at h)
+
+pub ruleset working = (worked_found, worked_next, worked_last)
 
 module _ (T : Table) (m : Memory) (p d f w τ a : ℕ) where
   module _ (c : Bool) (h : c ≡ worked m p d f w (a / 256 + 1)) where
@@ -122,8 +126,6 @@ module _ (T : Table) (m : Memory) (p d f w τ a : ℕ) where
     unfolding lives either lives_in_module both
     lives_none e g = rw (← h, e, ne_eqb (a / 256 + 1) p g)
 
-pub ruleset living = (in_none, in_some, lives_module, lives_frame, lives_none)
-
 module _ (T : Table) (m : Memory) (p τ k : ℕ) where
   pub owned_none : (f : ℕ) → k < f + 4 → false ≡ owned_in T m p f τ k
   unfolding owned_in both
@@ -134,27 +136,24 @@ module _ (T : Table) (m : Memory) (p τ k : ℕ) where
   owned_some f b r h e z = rw (le-leb (f + 4) k h, ← e) z
 
   -- the search goes from frame to frame
-  pub owns_begin : (d f : ℕ) → owns T m p d f τ k ≡ owns T m p d f τ k
-  owns_begin d f = refl
-
-  module _ (d f n g : ℕ) (h : owns T m p n g τ k ≡ owns T m p d f τ k) where
-    module _ (c : Bool) (e : c ≡ owned_in T m p g τ k) (l : 0 < n) where
-      less : n ≡ suc (n - 1)
+  module _ (d f i g : ℕ) (h : owns T m p (d - i) g τ k ≡ owns T m p d f τ k) where
+    module _ (c : Bool) (e : c ≡ owned_in T m p g τ k) (l : i < d) where
+      less : d - i ≡ suc (d - (i + 1))
       less = omega arith
 
       pub owns_found : c ≡ true → true ≡ owns T m p d f τ k
       unfolding owns either owned_in
       owns_found x = (rw (less, ← e, x) at h)
 
-      pub owns_next : (g' : ℕ) → c ≡ false → g' ≡ m (location p g) → owns T m p (n - 1) g' τ k ≡ owns T m p d f τ k
+      pub owns_next : (g' : ℕ) → c ≡ false → g' ≡ m (location p g) → owns T m p (d - (i + 1)) g' τ k ≡ owns T m p d f τ k
       unfolding owns either owned_in link_at
       owns_next g' x y = rw y (rw (less, ← e, x, add-zero g) at h)
 
-    pub owns_none : n ≤ 0 → false ≡ owns T m p d f τ k
+    pub owns_none : d ≤ i → false ≡ owns T m p d f τ k
     unfolding owns
-    owns_none l = let e : n ≡ 0 = omega arith in (rw e at h)
+    owns_none l = let e : d - i ≡ 0 = omega arith in (rw e at h)
 
-pub ruleset owning = (owns_begin, owns_found, owns_next, owns_none)
+pub ruleset owning = (owns_found, owns_next, owns_none)
 
 module _ (T : Table) (m : Memory) (p d f v a mode : ℕ) (hm : mode ≡ var_mode T v) (r : Bool) where
   pub frame_bound : (x y g w : ℕ) → mode ≡ 2 → x ≡ var_type T v → y ≡ m (location p (f + 4 + a)) → g ≡ m (location p f) → w ≡ m (location p (f + 2)) → r ≡ lives T m p d g w x y → r ≡ frame_variable_ok T m p d f v a

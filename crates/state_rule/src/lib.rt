@@ -16,13 +16,13 @@ ghost use Rattle.state_rule.specs.Chains.{running_ok, processes_hold};
 ghost use Rattle.values.specs.Walks.{SmallSizes};
 
 use areas::modules_hold;
-use basics::between;
 use chained::{chain_ok, is_module};
 use code::kinds;
 use values::lent::{created, record_word};
 use values::{heads, jumps, lent};
 
 // Process 1 is started and runs block 0; the others are created, of a process module.
+#[tactic(auto, unfolding(machine::specs::Rule::module_ok, basics::specs::Choice::between, basics::specs::Choice::both))]
 fn module_ok(c: &code::Slots, state: &[u8], p: usize) -> bool
     requires state { State state.now }
     requires le_p { (1 ≤ p) × (p ≤ 64) }
@@ -31,18 +31,14 @@ fn module_ok(c: &code::Slots, state: &[u8], p: usize) -> bool
     let status = record_word(state, p, machine::STATUS);
     let b = record_word(state, p, machine::MODULE);
     if p == 1 {
-        if between(lent::STARTED, lent::ENDED, status) {
-            return b == 0;
-        }
-        return false;
+        (lent::STARTED..=lent::ENDED).contains(&status) && b == 0
+    } else {
+        (lent::UNSTARTED..=lent::ENDED).contains(&status) && is_module(c, b)
     }
-    if between(lent::UNSTARTED, lent::ENDED, status) {
-        return is_module(c, b);
-    }
-    false
 }
 
 // A started process has calls, and stands at a statement.
+#[tactic(auto, using(crate::proofs::Chains::processing))]
 fn running_ok(
     c: &code::Slots,
     sizes: &[u16],
@@ -55,12 +51,11 @@ fn running_ok(
     requires le_p { (1 ≤ p) × (p ≤ 64) }
     ensures { result ≡ running_ok (decoded c.now) (memory_of state.now) p }
 {
-    if record_word(state, p, machine::STATUS) == lent::STARTED {
-        return chain_ok(c, sizes, heads, jumps, state, p);
-    }
-    true
+    record_word(state, p, machine::STATUS) != lent::STARTED
+        || chain_ok(c, sizes, heads, jumps, state, p)
 }
 
+#[tactic(auto, using(crate::proofs::Chains::processing))]
 fn process_ok(
     c: &code::Slots,
     sizes: &[u16],
@@ -73,44 +68,34 @@ fn process_ok(
     requires le_p { (1 ≤ p) × (p ≤ 64) }
     ensures { result ≡ process_ok (decoded c.now) (memory_of state.now) p }
 {
-    if module_ok(c, state, p) {
-        if record_word(state, p, machine::HOLDER) <= created(state) {
-            if modules_hold(
-                c,
-                sizes,
-                heads,
-                state,
-                p,
-                record_word(state, p, machine::MODULE),
-            ) {
-                return running_ok(c, sizes, heads, jumps, state, p);
-            }
-            return false;
-        }
-        return false;
-    }
-    false
+    module_ok(c, state, p)
+        && record_word(state, p, machine::HOLDER) <= created(state)
+        && modules_hold(
+            c,
+            sizes,
+            heads,
+            state,
+            p,
+            record_word(state, p, machine::MODULE),
+        )
+        && running_ok(c, sizes, heads, jumps, state, p)
 }
 
+#[tactic(auto, using(crate::proofs::Chains::failure_none, crate::proofs::Chains::failure_some))]
 fn failure_ok(state: &[u8]) -> bool
     requires { State state.now }
     ensures { result ≡ failure_ok (memory_of state.now) }
 {
     let n = record_word(state, 1, machine::FAILURE);
-    if n == 0 {
-        return true;
-    }
-    machine::is_failure(n)
+    n == 0 || machine::is_failure(n)
 }
 
+#[tactic(auto, using(crate::proofs::Chains::run_failed, crate::proofs::Chains::run_number))]
 fn run_ok(state: &[u8]) -> bool
     requires { State state.now }
     ensures { result ≡ run_ok (memory_of state.now) }
 {
-    if failure_ok(state) {
-        return record_word(state, 1, machine::NUMBER) <= 1;
-    }
-    false
+    failure_ok(state) && record_word(state, 1, machine::NUMBER) <= 1
 }
 
 // Each created process.
@@ -125,16 +110,7 @@ fn processes_hold(
     requires created_at_bound { memory_of state.now created_at ≤ 64 }
     ensures { result ≡ processes_hold (decoded c.now) (memory_of state.now) }
 {
-    let processes = created(state);
-    let mut i = 0;
-    while i < processes {
-        if process_ok(c, sizes, heads, jumps, state, i + 1) {
-            i += 1;
-        } else {
-            return false;
-        }
-    }
-    true
+    (0..created(state)).all(|i| process_ok(c, sizes, heads, jumps, state, i + 1))
 }
 
 // The same, where nothing is found of the types yet. The table has few: the chains are short.
@@ -167,12 +143,9 @@ fn words_in_use(state: &[u8]) -> usize
     requires state { State state.now }
     requires created_at_bound { memory_of state.now created_at ≤ 64 }
 {
-    let processes = created(state);
     let mut sum = 0;
-    let mut i = 0;
-    while i < processes {
-        sum += record_word(state, i + 1, machine::TOP);
-        i += 1;
+    for p in 1..=created(state) {
+        sum += record_word(state, p, machine::TOP);
     }
     sum
 }
@@ -184,9 +157,10 @@ fn worth_finding(state: &[u8], n: usize) -> usize
     ensures { (3 ≤ result) × (result ≤ 258) }
 {
     if n <= words_in_use(state) {
-        return n;
+        n
+    } else {
+        kinds::STANDARD
     }
-    kinds::STANDARD
 }
 
 // The same, by either way.
@@ -197,26 +171,18 @@ fn all_hold(c: &code::Slots, sizes: &[u16], state: &[u8]) -> bool
 {
     let n = heads::known_types(c);
     if n <= 16 {
-        return few_hold(c, sizes, state, n);
+        few_hold(c, sizes, state, n)
+    } else {
+        many_hold(c, sizes, state, worth_finding(state, n))
     }
-    many_hold(c, sizes, state, worth_finding(state, n))
 }
 
 // THE STATE RULE: the lent state is one that a run of the table can be in, as far as its words show.
+#[tactic(auto, using(crate::proofs::Chains::ruling, crate::proofs::Chains::few))]
 pub fn rule_holds(c: &code::Slots, sizes: &[u16], state: &[u8]) -> bool
     requires small_sizes { SmallSizes (decoded c.now) sizes.now }
     requires state { State state.now }
     ensures { result ≡ rule (decoded c.now) (memory_of state.now) }
 {
-    let n = created(state);
-    if 1 <= n {
-        if n <= 64 {
-            if run_ok(state) {
-                return all_hold(c, sizes, state);
-            }
-            return false;
-        }
-        return false;
-    }
-    false
+    (1..=64).contains(&created(state)) && run_ok(state) && all_hold(c, sizes, state)
 }

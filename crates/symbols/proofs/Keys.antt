@@ -1,15 +1,13 @@
 -- A name is a word symbol where its bytes as one number are those of a word symbol. Assumes nothing.
-use Prim.Native.Nat.{ℕ, zero, suc, ◌+◌, ◌-◌, ◌*◌, ◌%◌, ◌^◌, ◌<◌, ◌≤◌}
-use mathlib.Core.Path.{◌≡◌, refl, sym, ◌∙◌}
+use Prim.Native.Nat.{ℕ, zero, suc, ◌+◌, ◌*◌, ◌%◌, ◌^◌, ◌<◌, ◌≤◌}
+use mathlib.Core.Path.{◌≡◌, refl, sym, ap, ◌∙◌}
 use mathlib.Core.Bool.{Bool, true, false}
-use mathlib.Core.List.{List, [], ◌∷◌, map}
-use native.Mathlib.Numerals.{add-one}
+use mathlib.Core.List.{List, [], ◌∷◌, ◌++◌, map, append-nil, append_assoc}
 use native.Mathlib.Nat.{mod-eq_of_lt, not-suc-le-zero}
 use native.Mathlib.Omega.{arith}
-use lib.ListN.{length, get_or, take, drop, length-map, length-take, length-drop}
-use lib.Seq.{drop-cons, length-take-le}
+use lib.ListN.{length, length-map, length-append}
 use lib.Dec.{eqb, leb}
-use borrow.Author.Rules.{rules}
+use Rattle.std.proofs.lemmas.List.{nil_from_length}
 use borrow.Author.Tests.{eq-eqb, ne_eqb, eqb-true, eqb-false, leb-true, le-leb}
 use Rattle.basics.specs.Choice.{both, either, between}
 use Rattle.basics.specs.Cases.{cases}
@@ -51,39 +49,31 @@ packed_below zero (x ∷ s) h = absurd (not-suc-le-zero h)
 packed_below (suc n) [] h = let i = packed_below n [] (omega arith) in omega arith
 packed_below (suc n) (x ∷ s) h = let i = packed_below n s (omega arith) in omega arith
 
-pub record Packing (text : List ℕ) (from to k at : ℕ) : Type 0 where
-  pub above : from ≤ at
-  pub below : at ≤ to
-  pub is : k ≡ packed (map small (take (to - at) (drop at text)))
+-- the name is what is still to come and what is packed, from its end
+pub record Packing (name : List ℕ) (k : ℕ) (rest : List ℕ) : Type 0 where
+  pub done : List ℕ
+  pub split : name ≡ rest ++ done
+  pub is : k ≡ packed (map small done)
 
-module _ (text : List ℕ) (from to : ℕ) where
-  pub pack_none : from ≤ to → Packing text from to 0 to
-  unfolding packed
-  pack_none h = let e : to - to ≡ 0 = omega arith in record { above = h; below = omega arith; is = rw e }
+pub pack_none : (name rest : List ℕ) → rest ≡ name → Packing name 0 rest
+unfolding packed
+pack_none name rest e = record { done = []; split = sym (append-nil rest ∙ e); is = refl }
 
-  module _ (k at : ℕ) (p : Packing text from to k at) where
-    pub pack_fits : from < at → to ≤ from + 9 → k < 144115188075855872
-    pack_fits h g =
-        let s : List ℕ = map small (take (to - at) (drop at text)) in
-        let l : length s ≤ 8 = rw (length-map (take (to - at) (drop at text)) small, length-take (to - at) (drop at text)) (omega arith) in
-        omega (arith, p.is, packed_below 8 s l)
+module _ (name rest : List ℕ) (k : ℕ) (p : Packing name k rest) where
+  module _ (left : List ℕ) (b : ℕ) (e : rest ≡ left ++ (b ∷ [])) where
+    pub pack_fits : length name ≤ 9 → k < 144115188075855872
+    pack_fits h =
+        let l : length (map small p.done) ≤ 8 = rw (length-map p.done small) (omega (arith, ap length p.split, length-append rest p.done, ap length e, length-append left (b ∷ []))) in
+        omega (arith, p.is, packed_below 8 (map small p.done) l)
 
-    pub pack_more : (r v : ℕ) → from < at → to ≤ length text → v ≡ small (get_or text (at - 1) 0) → r ≡ k * 128 + v % 128 → Packing text from to r (at - 1)
+    pub pack_more : (r v : ℕ) → v ≡ small b → r ≡ k * 128 + v % 128 → Packing name r left
     unfolding packed
-    pack_more r v h g e q =
-        let a : at ≡ suc (at - 1) = omega arith in
-        let b : to - (at - 1) ≡ suc (to - at) = omega (arith, p.below) in
-        let d : at - 1 < length text = omega (arith, p.below) in
-        record {
-          above = omega arith;
-          below = omega (arith, p.below);
-          is = rw (b, drop-cons text (at - 1) 0 d, ← a, ← p.is, ← e) q;
-        }
+    pack_more r v f g = record { done = b ∷ p.done; split = p.split ∙ rw (e, append_assoc left (b ∷ []) p.done); is = rw (← p.is, ← f) g }
 
-    pub pack_all : at ≤ from → k ≡ packed (map small (take (to - from) (drop from text)))
-    pack_all h = let e : at ≡ from = omega (arith, p.above) in rw (← e) p.is
+  pub pack_all : length rest ≡ 0 → k ≡ packed (map small name)
+  pack_all h = rw (p.split, nil_from_length rest h) p.is
 
-pub ruleset packs = (pack_none, pack_fits, pack_more, pack_all, rules)
+pub ruleset packs = (pack_none, pack_fits, pack_more, pack_all)
 
 -- ---- no two names have one number
 
@@ -146,20 +136,19 @@ name_byte x e =
     (λ u. let g = between_true 65 90 x u in rw u (both_i _ _ (le-leb 1 (x + 32) (omega arith)) (le-leb (x + 32) 127 (omega arith))))
     (λ u. let g = between_true 97 122 x (either_l _ _ l u) in rw u (both_i _ _ (le-leb 1 x (omega arith)) (le-leb x 127 (omega arith)))))
 
-name_fine : (n : ℕ) (l : List ℕ) → n ≤ span_length in_name l → fine (map small (take n l)) ≡ true
+name_fine : (l : List ℕ) → span_length in_name l ≡ length l → fine (map small l) ≡ true
 unfolding span_length fine
-name_fine zero l h = refl
-name_fine (suc n) [] h = refl
-name_fine (suc n) (x ∷ l) h =
+name_fine [] h = refl
+name_fine (x ∷ l) h =
     cases (in_name x)
-    (λ e. let g : suc n ≤ suc (span_length in_name l) = rw e at h in both_i _ _ (name_byte x e) (name_fine n l (omega arith)))
-    (λ e. let g : suc n ≤ 0 = rw e at h in absurd (not-suc-le-zero g))
+    (λ e. let g : suc (span_length in_name l) ≡ suc (length l) = rw e at h in both_i _ _ (name_byte x e) (name_fine l (omega arith)))
+    (λ e. let g : 0 ≡ suc (length l) = rw e at h in absurd (omega arith))
 
 letter_name : (x : ℕ) → letter x ≡ true → in_name x ≡ true
 unfolding in_name either
 letter_name x e = rw e
 
-name_run : (l : List ℕ) → name_length l ≤ span_length in_name l
+pub name_run : (l : List ℕ) → name_length l ≤ span_length in_name l
 unfolding name_length span_length
 name_run [] = omega arith
 name_run (x ∷ l) = cases (letter x) (λ e. rw (e, letter_name x e) (omega arith)) (λ e. rw e (omega arith))
@@ -174,40 +163,13 @@ among_long s ss h e =
     (λ q. let b = leb-true (length s) 9 (among_each (λ t. leb (length t) 9) ss s e q) in absurd (omega arith))
     (λ q. q)
 
-module _ (text : List ℕ) (from to : ℕ) (g : from ≤ length text) (e : to ≡ from + name_length (drop from text)) where
-  name_within : name_length (drop from text) ≤ length (drop from text)
-  name_within = name-length (drop from text)
-
-  pub word_long : 9 < to - from → false ≡ is_word (take (to - from) (drop from text))
+module _ (name : List ℕ) where
+  pub word_long : 9 < length name → false ≡ is_word name
   unfolding is_word word_symbols each both
-  word_long h =
-      let b : to - from ≤ length (drop from text) = omega (arith, name_within) in
-      let l : length (map small (take (to - from) (drop from text))) ≡ to - from = length-map (take (to - from) (drop from text)) small ∙ length-take-le (to - from) (drop from text) b in
-      sym (among_long (map small (take (to - from) (drop from text))) word_symbols (omega arith) refl)
+  word_long h = let l = length-map name small in sym (among_long (map small name) word_symbols (omega arith) refl)
 
-  pub word_key : (k : ℕ) (r : Bool) → k ≡ packed (map small (take (to - from) (drop from text))) → r ≡ one_of k (map packed word_symbols) → r ≡ is_word (take (to - from) (drop from text))
+  pub word_key : span_length in_name name ≡ length name → (k : ℕ) (r : Bool) → k ≡ packed (map small name) → r ≡ one_of k (map packed word_symbols) → r ≡ is_word name
   unfolding is_word word_symbols each fine fine_byte both
-  word_key k r p q =
-      let b : to - from ≤ span_length in_name (drop from text) = omega (arith, name_run (drop from text)) in
-      q ∙ rw (p, among_packed (map small (take (to - from) (drop from text))) word_symbols (name_fine (to - from) (drop from text) b) refl)
+  word_key h k r p q = q ∙ rw (p, among_packed (map small name) word_symbols (name_fine name h) refl)
 
-  pub word_nine : to - from ≤ 9 → to ≤ from + 9
-  word_nine h = omega arith
-
-  pub word_inside : to ≤ length text
-  word_inside = omega (arith, name_within, length-drop from text)
-
-pub ruleset words = (word_long, word_key, word_nine, word_inside, rules)
-
--- ---- where a name ends
-
-module _ (text : List ℕ) (at : ℕ) (h : at < length text) (r : Bool) (l : r ≡ letter (get_or text at 0)) where
-  pub name_yes : (end : ℕ) → r ≡ true → end ≡ at + 1 + span_length in_name (drop (at + 1) text) → end ≡ at + name_length (drop at text)
-  unfolding name_length
-  name_yes end e q = rw (drop-cons text at 0 h, ← l, e) (omega (arith, rw (add-one at) at q))
-
-  pub name_no : r ≡ false → at ≡ at + name_length (drop at text)
-  unfolding name_length
-  name_no e = rw (drop-cons text at 0 h, ← l, e) (omega arith)
-
-pub ruleset names = (name_yes, name_no, rules)
+pub ruleset words = (word_long, word_key)

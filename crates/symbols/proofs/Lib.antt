@@ -1,5 +1,7 @@
-pub mod Classes
-pub mod Going
+pub mod Ends
+pub mod Runs
+pub mod Fronts
+pub mod Strings
 pub mod Lengths
 pub mod Specials
 pub mod Among

@@ -1,21 +1,23 @@
 -- From a place in the text to the next: comments and symbols passed. Assumes nothing.
 use Prim.Native.Nat.{ℕ, zero, suc, ◌+◌, ◌-◌, ◌<◌, ◌≤◌}
-use mathlib.Core.Path.{◌≡◌, refl, sym, ap, ◌∙◌}
+use mathlib.Core.Path.{◌≡◌, refl, sym, ◌∙◌}
 use mathlib.Core.Bool.{true}
 use mathlib.Core.List.{List, [], ◌∷◌}
 use native.Mathlib.Nat.{add-zero}
 use native.Mathlib.Omega.{arith}
-use lib.ListN.{length, get_or, drop, length-drop}
+use lib.ListN.{length, get_or, drop, take, length-drop}
 use lib.Seq.{drop-cons, drop-drop}
 use lib.Dec.{eqb, ltb}
-use borrow.Author.Rules.{rules}
 use borrow.Author.Tests.{eq-eqb, ne_eqb, eqb-true, ltb-true, ltb-false}
 use Rattle.basics.specs.Cases.{cases}
 use Rattle.symbols.specs.Characters.{in_comment}
 use Rattle.symbols.specs.Runs.{span_length, new_lines}
 use Rattle.symbols.specs.Symbols.{or_else, symbol_length, symbol_kind, comment_length, Symbol, fault, more, symbols_from}
-use Rattle.symbols.specs.Steps.{Stands, Past, PassesTo}
-use Rattle.symbols.proofs.Going.{drop_end}
+use Rattle.symbols.specs.Steps.{if_any, Stands, PassesTo}
+use Rattle.std.specs.Prelude.{Option, None, Some, IfSome}
+use Rattle.symbols.proofs.Fronts.{any_some, any_more, any_none}
+use Rattle.symbols.proofs.Strings.{tail, tail_is}
+use Rattle.symbols.proofs.Comments.{lines_part}
 use Rattle.symbols.proofs.Lengths.{get_d_past, numeral-length, constant-length}
 use Rattle.symbols.proofs.Keys.{name-length}
 use Rattle.symbols.proofs.Specials.{special-length}
@@ -54,6 +56,10 @@ pub symbol-length : (l : List ℕ) → symbol_length l ≤ length l
 unfolding symbol_length
 symbol-length l =
     or_length _ _ _ (name-length l) (or_length _ _ _ (numeral-length l) (or_length _ _ _ (constant-length l) (special-length l)))
+
+pub symbol_within : (l : List ℕ) (r : Option ℕ) → r ≡ if_any (symbol_length l) → IfSome r (λ n. (0 < n) × (n ≤ length l))
+symbol_within l None e = tt
+symbol_within l (Some n) e = let b = any_some (symbol_length l) n (sym e) in let p = any_more (symbol_length l) n (sym e) in let h = symbol-length l in (p, omega arith)
 
 pub comment_nil : comment_length [] ≡ 0
 unfolding comment_length
@@ -108,29 +114,22 @@ module _ (text : List ℕ) (place line : ℕ) where
   passing_none s = record { stands = s; rises = omega arith; keeps = refl }
 
   module _ (at n : ℕ) (g : Passing text place line at n) where
-    pub passing_stands : Stands text at n
-    passing_stands = g.stands
-
-    module _ (to m : ℕ) (p : Past text at n (comment_length (drop at text)) to m) where
-      pub passing_more : (to ≡ at → ⊥) → Passing text place line to m
-      passing_more z =
-          let b = comment-length (drop at text) in
-          let k = lines_few (comment_length (drop at text)) (drop at text) in
-          let c = comment_next n at (drop at text) (λ q. z (omega (arith, p.place_is))) in
-          let d : drop (comment_length (drop at text)) (drop at text) ≡ drop to text = drop-drop (comment_length (drop at text)) at text ∙ ap (λ (k : ℕ). drop k text) (sym p.place_is) in
+    module _ (x k : ℕ) (e : Some x ≡ if_any (comment_length (tail text at))) (p : 0 < x) (q : k ≡ new_lines (length (take x (drop at text))) (take x (drop at text))) where
+      pub passing_more : Passing text place line (at + x) (n + k)
+      passing_more =
+          let z : comment_length (drop at text) ≡ x = any_some (comment_length (drop at text)) x (sym (rw (tail_is text at) at e)) in
+          let b : x ≤ length (drop at text) = rw z at (comment-length (drop at text)) in
+          let w : k ≡ new_lines x (drop at text) = q ∙ lines_part x (drop at text) b in
+          let f = lines_few x (drop at text) in
+          let c = comment_next n at (drop at text) (λ o. omega arith) in
+          let d : drop x (drop at text) ≡ drop (at + x) text = drop-drop x at text in
           record {
-            stands = record { within = omega (arith, p.place_is, g.stands.within, length-drop at text); counted = omega (arith, p.place_is, p.line-is, g.stands.counted) };
-            rises = omega (arith, p.place_is, g.rises);
-            keeps = sym (rw (d, ← p.line-is, ← p.place_is) at c) ∙ g.keeps;
+            stands = record { within = omega (arith, g.stands.within, length-drop at text); counted = omega (arith, g.stands.counted) };
+            rises = omega (arith, g.rises);
+            keeps = sym (rw (d, ← w) at (rw z at c)) ∙ g.keeps;
           }
 
-      pub passing_less : at < length text → (to ≡ at → ⊥) → length text - to < length text - at
-      passing_less h z = omega (arith, p.place_is)
+    pub passing_stop : None ≡ if_any (comment_length (tail text at)) → PassesTo text place line at n
+    passing_stop e = record { stands = g.stands; rises = g.rises; keeps = g.keeps; ends = any_none (comment_length (drop at text)) (sym (rw (tail_is text at) at e)) }
 
-      pub passing_stop : to ≡ at → PassesTo text place line at n
-      passing_stop z = record { stands = g.stands; rises = g.rises; keeps = g.keeps; ends = omega (arith, p.place_is) }
-
-    pub passing_end : length text ≤ at → PassesTo text place line at n
-    passing_end h = record { stands = g.stands; rises = g.rises; keeps = g.keeps; ends = rw (drop_end text at h) comment_nil }
-
-pub ruleset passings = (passing_none, passing_stands, passing_more, passing_less, passing_stop, passing_end, rules)
+pub ruleset passings = (passing_none, passing_more, passing_stop)

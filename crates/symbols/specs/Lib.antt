@@ -6,3 +6,4 @@ pub mod Symbols
 pub mod Answer
 pub mod Steps
 pub mod Grammar
+pub mod Kinds

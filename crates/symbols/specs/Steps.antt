@@ -1,19 +1,22 @@
 -- Inner: for code and proofs only; no public promise is said with these definitions.
 -- What the functions below the call ask and tell one another: nothing here is part of what the call promises. Assumes nothing.
-use Rattle.std.specs.Prelude.{ℕ, ◌+◌, ◌*◌, ◌%◌, ◌<◌, ◌≤◌, ◌≡◌, Bool, true, false, List, [], ◌∷◌, length, drop, eqb}
+use Rattle.std.specs.Prelude.{ℕ, zero, suc, ◌+◌, ◌*◌, ◌%◌, ◌<◌, ◌≤◌, ◌≡◌, Bool, true, false, Option, None, Some, List, [], ◌∷◌, length, drop, eqb}
 use Rattle.basics.specs.Choice.{either}
-use Rattle.symbols.specs.Runs.{new_lines}
 use Rattle.symbols.specs.Symbols.{symbol_length, comment_length, Reading, fault, found, symbols_from, symbols_of}
+
+-- a length as the code gives it: none where nothing begins, which a definition says by 0
+unfoldable pub if_any : ℕ → Option ℕ
+if_any zero = None
+if_any (suc n) = Some (suc n)
+
+-- what a closure may answer of a byte is what a test says
+abbrev pub Tests : (ℕ → Bool → Type 0) → (ℕ → Bool) → Type 0
+Tests post test = (b : ℕ) (r : Bool) → post b r → r ≡ test b
 
 -- a cursor stands in a text: lines are counted from 1, and a new line is a byte
 pub record Stands (text : List ℕ) (place line : ℕ) : Type 0 where
   pub within : place ≤ length text
   pub counted : line ≤ place + 1
-
--- k bytes on
-pub record Past (text : List ℕ) (place line k place' line' : ℕ) : Type 0 where
-  pub place_is : place' ≡ place + k
-  pub line-is : line' ≡ line + new_lines k (drop place text)
 
 -- from one place and line to the next: no symbol is passed, and no comment begins there
 pub record PassesTo (text : List ℕ) (place line place' line' : ℕ) : Type 0 where
@@ -22,11 +25,11 @@ pub record PassesTo (text : List ℕ) (place line place' line' : ℕ) : Type 0 w
   pub keeps : symbols_from line' place' 0 (drop place' text) ≡ symbols_from line place 0 (drop place text)
   pub ends : comment_length (drop place' text) ≡ 0
 
--- a symbol from one place to another
-pub record Begins (text : List ℕ) (at end : ℕ) : Type 0 where
-  pub inside : at < length text
-  pub some : at < end
-  pub is : end ≡ at + symbol_length (drop at text)
+-- a text begins with a symbol of so many bytes
+pub record Begins (text : List ℕ) (size : ℕ) : Type 0 where
+  pub some : 0 < size
+  pub within : size ≤ length text
+  pub is : size ≡ symbol_length text
 
 -- bytes as one number, the first lowest; a byte of a word is below 128
 unfoldable pub packed : List ℕ → ℕ
@@ -43,6 +46,11 @@ pub record SymbolRoom (out : List ℕ) (at line place size : ℕ) : Type 0 where
   pub line_word : line < 65536
   pub place_word : place < 65536
   pub size_word : size < 65536
+
+-- how many symbols there are, if they can be read
+unfoldable pub counted : Reading → Option ℕ
+counted fault = None
+counted (found l) = Some (length l)
 
 unfoldable pub is_found : Reading → Bool
 is_found fault = false

@@ -1,115 +1,70 @@
-// Numerals, character symbols and constants (6.1 to 6.3). Each function says where one that begins at a place ends: at that place itself where none begins.
-ghost use Rattle.std.specs.Prelude.{◌≡◌, ◌+◌, ◌<◌, ◌≤◌, length, drop};
-ghost use Rattle.symbols.specs.Characters.{digit, octal_digit};
-ghost use Rattle.symbols.specs.Runs.{span_length};
+// Numerals, character symbols and constants (6.1 to 6.3): how many bytes the one that begins here takes.
+ghost use Rattle.std.specs.Prelude.{◌≡◌, ◌<◌, ◌≤◌, length, IfSome};
 ghost use Rattle.symbols.specs.Constants.{numeral_length, character_length, characters_length, constant_length};
+ghost use Rattle.symbols.specs.Steps.{if_any};
 
-use super::characters::{is_digit, is_octal_digit, is_standing};
+use super::characters::{is_digit, is_octal_digit, is_standing, run};
 
-fn digits_end(text: &[u8], from: usize) -> usize
-    requires { from ≤ length text.now }
-    ensures { result ≡ from + span_length digit (drop from text.now) }
+// Nothing begins where no byte is taken.
+#[tactic(auto, unfolding(crate::specs::Steps::if_any))]
+fn if_any(length: usize) -> Option<usize>
+    ensures is { result ≡ if_any length }
+    ensures same { IfSome result (λ n. (0 < n) × (n ≡ length)) }
 {
-    let mut at = from;
-    while at < text.len() {
-        if is_digit(text[at]) {
-            at += 1;
-        } else {
-            return at;
-        }
-    }
-    at
-}
-
-fn octals_end(text: &[u8], from: usize) -> usize
-    requires { from ≤ length text.now }
-    ensures { result ≡ from + span_length octal_digit (drop from text.now) }
-{
-    let mut at = from;
-    while at < text.len() {
-        if is_octal_digit(text[at]) {
-            at += 1;
-        } else {
-            return at;
-        }
-    }
-    at
+    if length == 0 { None } else { Some(length) }
 }
 
 // 6.1.
-pub fn numeral_end(text: &[u8], at: usize) -> usize
-    requires { at ≤ length text.now }
-    ensures { result ≡ at + numeral_length (drop at text.now) }
+#[tactic(auto, using(crate::proofs::Fronts::octal_none, crate::proofs::Fronts::octal_some, crate::proofs::Fronts::decimal_short, crate::proofs::Fronts::decimal_other))]
+pub fn numeral(text: &[u8]) -> Option<usize>
+    ensures is { result ≡ if_any (numeral_length text.now) }
+    ensures within { IfSome result (λ n. (0 < n) × (n ≤ length text.now)) }
 {
-    if text.len() <= at {
-        return at;
+    match text {
+        [b'#', rest @ ..] => Some(if_any(run(rest, is_octal_digit))? + 1),
+        _ => if_any(run(text, is_digit)),
     }
-    let b = text[at];
-    if b == b'#' {
-        let end = octals_end(text, at + 1);
-        if end == at + 1 {
-            return at;
-        }
-        return end;
-    }
-    digits_end(text, at)
 }
 
 // 6.2: a graphic that stands for itself, or @ and a numeral.
-pub fn character_end(text: &[u8], at: usize) -> usize
-    requires { at ≤ length text.now }
-    ensures { result ≡ at + character_length (drop at text.now) }
+#[tactic(auto, using(crate::proofs::Fronts::escape_none, crate::proofs::Fronts::escape_some, crate::proofs::Fronts::standing_one, crate::proofs::Fronts::standing_none, crate::proofs::Fronts::character_short))]
+pub fn character(text: &[u8]) -> Option<usize>
+    ensures is { result ≡ if_any (character_length text.now) }
+    ensures within { IfSome result (λ n. (0 < n) × (n ≤ length text.now)) }
 {
-    if text.len() <= at {
-        return at;
+    match text {
+        [b'@', rest @ ..] => Some(numeral(rest)? + 1),
+        [b, ..] if is_standing(*b) => Some(1),
+        _ => None,
     }
-    let b = text[at];
-    if b == b'@' {
-        let end = numeral_end(text, at + 1);
-        if end == at + 1 {
-            return at;
-        }
-        return end;
-    }
-    if is_standing(b) {
-        return at + 1;
-    }
-    at
 }
 
-fn characters_end(text: &[u8], from: usize) -> usize
-    requires { from ≤ length text.now }
-    ensures { result ≡ from + characters_length 0 (drop from text.now) }
+// The character symbols at the front.
+#[tactic(auto, using(crate::proofs::Strings::strings))]
+fn characters(text: &[u8]) -> usize
+    ensures { result ≡ characters_length 0 text.now }
 {
-    let mut at = from;
-    while at < text.len() {
-        let end = character_end(text, at);
-        if end == at {
-            return at;
-        }
-        at = end;
+    let mut at = 0;
+    while let Some(size) = character(&text[at..]) {
+        at += size;
     }
     at
 }
 
 // 6.2, 6.3: one character symbol or more between apostrophes.
-pub fn constant_end(text: &[u8], at: usize) -> usize
-    requires { at < length text.now }
-    ensures { result ≡ at + constant_length (drop at text.now) }
+#[tactic(auto, using(crate::proofs::Fronts::constants))]
+pub fn constant(text: &[u8]) -> Option<usize>
+    ensures { result ≡ if_any (constant_length text.now) }
 {
-    let b = text[at];
-    if b != b'\'' {
-        return at;
-    }
-    let end = characters_end(text, at + 1);
-    if end == at + 1 {
-        return at;
-    }
-    if end < text.len() {
-        let closing = text[end];
-        if closing == b'\'' {
-            return end + 1;
+    match text {
+        [b'\'', rest @ ..] => {
+            let size = characters(rest);
+            if 0 < size && size < rest.len() && rest[size] == b'\'' {
+                Some(size + 2)
+            } else {
+                None
+            }
         }
+        _ => None,
     }
-    at
 }

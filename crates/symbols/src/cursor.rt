@@ -1,11 +1,10 @@
 // The cursor: it passes spaces, new lines and quoted comments, and counts lines (02).
-ghost use Rattle.std.specs.Prelude.{◌≡◌, ◌+◌, ◌<◌, ◌≤◌, length, drop};
-ghost use Rattle.symbols.specs.Characters.{in_comment};
-ghost use Rattle.symbols.specs.Runs.{span_length};
+ghost use Rattle.std.specs.Prelude.{◌≡◌, ◌<◌, ◌≤◌, length, IfSome};
+ghost use Rattle.symbols.specs.Runs.{new_lines};
 ghost use Rattle.symbols.specs.Symbols.{comment_length};
-ghost use Rattle.symbols.specs.Steps.{Stands, Past, PassesTo};
+ghost use Rattle.symbols.specs.Steps.{if_any, Stands, PassesTo};
 
-use super::characters::in_comment;
+use super::characters::{in_comment, run};
 
 // A place, and its line from 1.
 #[derive(Clone, Copy)]
@@ -14,76 +13,45 @@ pub struct Cursor {
     pub line: usize,
 }
 
-// Past the characters of a comment, to the first byte that is none.
-fn past_characters(text: &[u8], from: usize, line: usize) -> Cursor
-    requires { Stands text.now from line }
-    ensures { Past text.now from line (span_length in_comment (drop from text.now)) result.place result.line }
+// How many bytes the comment that begins here takes.
+#[tactic(auto, using(crate::proofs::Fronts::comments))]
+fn comment(text: &[u8]) -> Option<usize>
+    ensures is { result ≡ if_any (comment_length text.now) }
+    ensures within { IfSome result (λ n. (0 < n) × (n ≤ length text.now)) }
 {
-    let mut at = from;
-    let mut n = line;
-    while at < text.len() {
-        let b = text[at];
-        if in_comment(b) {
-            at += 1;
-            if b == b'\n' {
-                n += 1;
+    match text {
+        [b' ' | b'\n', ..] => Some(1),
+        [b'"', rest @ ..] => {
+            let size = run(rest, in_comment);
+            if size < rest.len() && rest[size] == b'"' {
+                Some(size + 2)
+            } else {
+                None
             }
-        } else {
-            return Cursor { place: at, line: n };
         }
+        _ => None,
     }
-    Cursor { place: at, line: n }
 }
 
-// Past the comment that begins here; the same place where none does.
-fn past_comment(text: &[u8], at: usize, line: usize) -> Cursor
-    requires { (at < length text.now) × Stands text.now at line }
-    ensures { Past text.now at line (comment_length (drop at text.now)) result.place result.line }
+#[tactic(auto, using(crate::proofs::Comments::lines_are))]
+fn new_lines(text: &[u8]) -> usize
+    ensures is { result ≡ new_lines (length text.now) text.now }
+    ensures few { result ≤ length text.now }
 {
-    let b = text[at];
-    if b == b' ' {
-        return Cursor {
-            place: at + 1,
-            line,
-        };
-    }
-    if b == b'\n' {
-        return Cursor {
-            place: at + 1,
-            line: line + 1,
-        };
-    }
-    if b == b'"' {
-        let c = past_characters(text, at + 1, line);
-        let end = c.place;
-        if text.len() <= end {
-            return Cursor { place: at, line };
-        }
-        let closing = text[end];
-        if closing == b'"' {
-            return Cursor {
-                place: end + 1,
-                line: c.line,
-            };
-        }
-    }
-    Cursor { place: at, line }
+    text.iter().filter(|b| **b == b'\n').count()
 }
 
 // Past all comments.
+#[tactic(auto, using(crate::proofs::Scanning::passings))]
 fn past_comments(text: &[u8], place: usize, line: usize) -> Cursor
     requires { Stands text.now place line }
     ensures { PassesTo text.now place line result.place result.line }
 {
     let mut at = place;
     let mut n = line;
-    while at < text.len() {
-        let c = past_comment(text, at, n);
-        if c.place == at {
-            return Cursor { place: at, line: n };
-        }
-        at = c.place;
-        n = c.line;
+    while let Some(size) = comment(&text[at..]) {
+        n += new_lines(&text[at..at + size]);
+        at += size;
     }
     Cursor { place: at, line: n }
 }

@@ -1,61 +1,38 @@
 // Names, word symbols and special symbols (3.2, 3.3).
-ghost use Rattle.std.specs.Prelude.{◌≡◌, [], ◌∷◌, map, ◌+◌, ◌-◌, ◌*◌, ◌<◌, ◌≤◌, ◌%◌, length, take, drop};
+ghost use Rattle.std.specs.Prelude.{◌≡◌, map, ◌+◌, ◌*◌, ◌<◌, ◌≤◌, ◌%◌, length};
 ghost use Rattle.symbols.specs.Characters.{in_name, small};
-ghost use Rattle.symbols.specs.Steps.{one_of, packed};
+ghost use Rattle.symbols.specs.Steps.{if_any, one_of, packed};
 ghost use Rattle.symbols.specs.Runs.{span_length};
 ghost use Rattle.symbols.specs.Vocabulary.{name_length, special_length, word_symbols, is_word};
 
-use super::characters::{in_name, is_letter, small};
+use super::characters::{in_name, is_letter, run, small};
 
-fn letters_end(text: &[u8], from: usize) -> usize
-    requires { from ≤ length text.now }
-    ensures { result ≡ from + span_length in_name (drop from text.now) }
+// 3.3: how many bytes the name that begins here takes.
+#[tactic(auto, using(crate::proofs::Fronts::names))]
+pub fn name(text: &[u8]) -> Option<usize>
+    ensures { result ≡ if_any (name_length text.now) }
 {
-    let mut at = from;
-    while at < text.len() {
-        if in_name(text[at]) {
-            at += 1;
-        } else {
-            return at;
-        }
+    match text {
+        [first, rest @ ..] if is_letter(*first) => { Some(1 + run(rest, in_name)) }
+        _ => None,
     }
-    at
-}
-
-// 3.3: where the name that begins here ends.
-pub fn name_end(text: &[u8], at: usize) -> usize
-    requires { at < length text.now }
-    ensures { result ≡ at + name_length (drop at text.now) }
-{
-    if is_letter(text[at]) {
-        return letters_end(text, at + 1);
-    }
-    at
-}
-
-// The bound of a parameter is known, that of an element is not: so the sum is made here.
-fn put_before(k: u64, b: u8) -> u64
-    requires { k < 144115188075855872 }
-    ensures { result ≡ k * 128 + b % 128 }
-{
-    k * 128 + (b % 128) as u64
 }
 
 // The bytes of a name as one number: no word symbol has more than nine letters.
-fn key(text: &[u8], from: usize, to: usize) -> u64
-    requires { (from ≤ to) × ((to ≤ from + 9) × (to ≤ length text.now)) }
-    ensures { result ≡ packed (map small (take (to - from) (drop from text.now))) }
+#[tactic(auto, using(crate::proofs::Keys::packs))]
+fn key(name: &[u8]) -> u64
+    requires { length name.now ≤ 9 }
+    ensures { result ≡ packed (map small name.now) }
 {
     let mut k: u64 = 0;
-    let mut at = to;
-    while from < at {
-        at -= 1;
-        k = put_before(k, small(text[at]));
+    for b in name.iter().rev() {
+        k = k * 128 + u64::from(small(*b) % 128);
     }
     k
 }
 
-// The word symbols of 3.2, and mod, as numbers.
+// The word symbols of 3.2, and mod, as numbers. (Tried: the proof of a match on the 25 byte strings did not close.)
+#[tactic(auto, using(crate::proofs::Keys::keyed), unfolding(crate::specs::Steps::one_of, basics::specs::Choice::either))]
 fn is_key(k: u64) -> bool
     ensures { result ≡ one_of k (map packed word_symbols) }
 {
@@ -90,51 +67,23 @@ fn is_key(k: u64) -> bool
 }
 
 // Whether a name is a word symbol.
-pub fn is_word(text: &[u8], from: usize, to: usize) -> bool
-    requires { (from ≤ length text.now) × (to ≡ from + name_length (drop from text.now)) }
-    ensures { result ≡ is_word (take (to - from) (drop from text.now)) }
+#[tactic(auto, using(crate::proofs::Keys::words))]
+pub fn is_word(name: &[u8]) -> bool
+    requires { span_length in_name name.now ≡ length name.now }
+    ensures { result ≡ is_word name.now }
 {
-    if 9 < to - from {
-        return false;
-    }
-    is_key(key(text, from, to))
+    name.len() <= 9 && is_key(key(name))
 }
 
-// The special symbol that two bytes begin with; 0 stands for the end of the text.
-fn special_length(a: u8, b: u8) -> usize
-    ensures { result ≡ special_length (a ∷ b ∷ []) }
+// How many bytes the special symbol that begins here takes.
+#[tactic(auto, unfolding(crate::specs::Vocabulary::special_length, crate::specs::Vocabulary::special_symbols, crate::specs::Vocabulary::longest, crate::specs::Vocabulary::begins_with, basics::specs::Choice::both, crate::specs::Steps::if_any))]
+pub fn special(text: &[u8]) -> Option<usize>
+    ensures { result ≡ if_any (special_length text.now) }
 {
-    match a {
-        b'<' => {
-            if b == b'>' {
-                return 2;
-            }
-            if b == b'=' { 2 } else { 1 }
-        }
-        b'>' => if b == b'=' { 2 } else { 1 },
-        b':' => if b == b'=' { 2 } else { 1 },
-        b'.' => if b == b'.' { 2 } else { 1 },
-        b'(' => 1,
-        b')' => 1,
-        b'*' => 1,
-        b'+' => 1,
-        b',' => 1,
-        b'-' => 1,
-        b'/' => 1,
-        b';' => 1,
-        b'=' => 1,
-        b'[' => 1,
-        b']' => 1,
-        _ => 0,
+    match text {
+        [b'<', b'>' | b'=', ..] | [b'>' | b':', b'=', ..] | [b'.', b'.', ..] => Some(2),
+        [b'(' | b')' | b'*' | b'+' | b',' | b'-' | b'.' | b'/', ..] => Some(1),
+        [b':' | b';' | b'<' | b'=' | b'>' | b'[' | b']', ..] => Some(1),
+        _ => None,
     }
-}
-
-pub fn special_end(text: &[u8], at: usize) -> usize
-    requires { at < length text.now }
-    ensures { result ≡ at + special_length (drop at text.now) }
-{
-    if at + 1 < text.len() {
-        return at + special_length(text[at], text[at + 1]);
-    }
-    at + special_length(text[at], 0)
 }

@@ -1,28 +1,15 @@
 -- Filling a lookup, and the part that is filled. Assumes nothing.
-use Prim.Native.Nat.{ℕ, ◌+◌, ◌≤◌, ◌<◌}
+use Prim.Native.Nat.{ℕ, ◌≤◌, ◌<◌}
 use mathlib.Core.Path.{◌≡◌}
 use mathlib.Core.List.{List}
-use lib.ListN.{length, set, take, length-set}
-use lib.Seq.{get_or-set_same, get_or-set_other, get_or-take, length-take-le}
-use lib.Dec.{eqb}
+use lib.ListN.{length, take}
+use lib.Seq.{get_or-take, length-take-le}
 use native.Mathlib.Omega.{arith}
-use borrow.Author.Tests.{eqb-true, eqb-false}
-use Rattle.basics.specs.Cases.{cases}
 use Rattle.values.specs.Lookup.{Lookup}
 
 module _ (R : ℕ → ℕ → Type 0) (l : List ℕ) where
   pub lookup-none : Lookup R 0 l
   lookup-none = record { long = omega arith; is = λ j k. absurd (omega arith) }
-
-  pub lookup_more : (i v w : ℕ) → Lookup R i l → i < length l → v ≡ w → R i w → Lookup R (i + 1) (set l i v)
-  lookup_more i v w h g e x =
-      record {
-        long = simp length-set (omega arith);
-        is = λ j k.
-            cases (eqb j i)
-            (λ q. let p : j ≡ i = eqb-true j i q in rw (p, get_or-set_same l i v 0 g, e) x)
-            (λ q. rw (get_or-set_other l i j v 0 (eqb-false j i q)) (h.is j (omega (arith, eqb-false j i q))));
-      }
 
   pub lookup_part : (n : ℕ) → Lookup R n l → Lookup R (length (take n l)) (take n l)
   lookup_part n h =

@@ -1,14 +1,14 @@
 -- The heads of types: the laws of each return. Assumes nothing.
 use Prim.Native.Nat.{ℕ, zero, suc, ◌+◌, ◌*◌, ◌≤◌, ◌<◌}
 use mathlib.Core.Path.{◌≡◌, refl, sym, ap, ◌∙◌}
-use mathlib.Core.Bool.{Bool, true, false}
-use mathlib.Core.List.{List}
-use lib.ListN.{length, get_or, set, length-set}
+use mathlib.Core.Bool.{Bool, true, false, not}
+use mathlib.Core.List.{List, ◌∷◌}
+use lib.ListN.{length, get_or}
 use lib.Dec.{eqb, leb}
 use native.Mathlib.Omega.{arith}
 use native.Mathlib.Numerals.{add-one}
 use native.Mathlib.Nat.{add-zero, suc-mul}
-use borrow.Author.Tests.{eqb-true, eqb-false, ne_eqb, lt-ltb}
+use borrow.Author.Tests.{eqb-true, ne_eqb, lt-ltb}
 use Rattle.basics.specs.Choice.{both, all_below}
 use Rattle.basics.specs.Cases.{cases}
 use Rattle.basics.proofs.Bools.{no_true}
@@ -19,9 +19,8 @@ use Rattle.sizes.specs.Sizes.{words_of, offset_in, part_words}
 use Rattle.sizes.proofs.Counting.{words_record, words_array, words_simple, part_lower, offset_none, offset_more}
 use Rattle.machine.specs.Memory.{Memory}
 use Rattle.machine.specs.Values.{holds}
-use Rattle.values.specs.Walks.{Near, WordCount, simple_holds, reference_holds, part_holds, field_holds, fields_hold, element_holds, elements_hold, RecordAt, ArrayAt}
-use Rattle.values.specs.Heads.{has_parts, word_holds, words_hold, word_up_to, word_refers, head_holds, Head, HeadsTo, Heads, FieldsHave, PartSaid, FieldsSaid, Tested}
-use Rattle.values.proofs.Filling.{lookup-none, lookup_more}
+use Rattle.values.specs.Walks.{Near, WordCount, simple_holds, part_holds, field_holds, fields_hold, element_holds, elements_hold, RecordAt, ArrayAt}
+use Rattle.values.specs.Heads.{has_parts, word_holds, words_hold, word_up_to, word_refers, head_holds, Head, HeadsTo, Heads, FieldsHave, PartHas, PartSaid, FieldsSaid, Tested}
 use Rattle.values.proofs.Values.{all_same, all_true, integer_holds, holds_record, holds_array, holds_process, holds_simple}
 
 -- ---- tests of numbers one after the other
@@ -229,25 +228,13 @@ module _ (T : Table) (τ η σ : ℕ) where
 
 -- the fields that do
 module _ (T : Table) (τ η : ℕ) where
-  pub have_none : FieldsHave T τ η 0
-  have_none = record { is = λ j k. absurd (omega arith) }
+  pub field_has : (first f x : ℕ) (r : Bool) → first ≡ type_p T τ → f ≡ field_type T (first + x) → PartSaid T τ η f r → true ≡ r → PartHas T τ η (field_type T (type_p T τ + x))
+  field_has first f x r hp hf s e = rw (← hp, ← hf) (s.said (sym e))
 
-  pub have_more : (i first f : ℕ) (r : Bool) → FieldsHave T τ η i → first ≡ type_p T τ → f ≡ field_type T (first + i) → PartSaid T τ η f r → r ≡ true → FieldsHave T τ η (i + 1)
-  have_more i first f r h hp hf s e =
-      record {
-        is = λ j k.
-            cases (eqb j i)
-            (λ q. let p : j ≡ i = eqb-true j i q in rw (p, ← hp, ← hf) (s.said e))
-            (λ q. h.is j (omega (arith, eqb-false j i q)));
-      }
+  pub fields_have : (n : ℕ) (r : Bool) → n ≡ type_q T τ → (r ≡ true → (x : ℕ) → x < n → PartHas T τ η (field_type T (type_p T τ + x))) → FieldsSaid T τ η r
+  fields_have n r e h = record { said = λ y. record { is = λ j k. h y j (rw e k) } }
 
-  pub have_all : (i n : ℕ) → FieldsHave T τ η i → n ≡ type_q T τ → i ≤ n → n ≤ i → FieldsSaid T τ η true
-  have_all i n h e l g = record { said = λ x. let q : i ≡ type_q T τ = omega arith in rw q at h }
-
-  pub have_unsaid : FieldsSaid T τ η false
-  have_unsaid = record { said = λ e. no_true e }
-
-pub ruleset having = (part_said, part_unsaid, have_none, have_more, have_all, have_unsaid)
+pub ruleset having = (part_said, part_unsaid)
 
 -- a record's head, an array's
 module _ (T : Table) (τ : ℕ) where
@@ -265,16 +252,23 @@ module _ (T : Table) (τ : ℕ) where
     pub a_words : (b : Bool) → b ≡ has_parts T η → b ≡ false → Head T τ η
     a_words b hb z = array_words T τ q e l hq η (sym hb ∙ z) h
 
+    pub a_other : (b v : Bool) → b ≡ has_parts T η → v ≡ not b → v ≡ true → Head T τ η
+    a_other true v hb e z = no_true (sym e ∙ z)
+    a_other false v hb e z = a_words false hb refl
+
 pub ruleset recordheads = (r_only, r_words, head_self)
 
-pub ruleset arrayheads = (a_only, a_words, head_self)
+pub ruleset arrayheads = (a_only, a_words, a_other, head_self)
 
 -- all types
-pub standard_heads : (T : Table) (l : List ℕ) (n : ℕ) → 3 ≤ n → n ≤ length l → HeadsTo T 3 (set (set (set l 0 0) 1 1) 2 2)
-standard_heads T l n g h =
-    let a = lookup_more (Head T) l 0 0 0 (lookup-none (Head T) l) (omega arith) refl (head_self T 0) in
-    let b = lookup_more (Head T) (set l 0 0) 1 1 1 a (simp length-set (omega arith)) refl (head_self T 1) in
-    lookup_more (Head T) (set (set l 0 0) 1 1) 2 2 2 b (simp length-set (omega arith)) refl (head_self T 2)
+standard_head : (T : Table) (l : List ℕ) (j : ℕ) → j < 3 → Head T j (get_or (0 ∷ 1 ∷ 2 ∷ l) j 0)
+standard_head T l zero h = head_self T 0
+standard_head T l (suc zero) h = head_self T 1
+standard_head T l (suc (suc zero)) h = head_self T 2
+standard_head T l (suc (suc (suc j))) h = absurd (omega arith)
+
+pub standard_heads : (T : Table) (l : List ℕ) → HeadsTo T 3 (0 ∷ 1 ∷ 2 ∷ l)
+standard_heads T l = record { long = omega arith; is = standard_head T l }
 
 pub head_small : (T : Table) (τ h n : ℕ) → Head T τ h → τ < n → n ≤ 65536 → h < 65536
 head_small T τ h n e a b = let u = e.low in omega arith
@@ -285,15 +279,6 @@ all_none : (n : ℕ) (f : ℕ → Bool) → ((i : ℕ) → f i ≡ false) → eq
 unfolding all_below both
 all_none zero f h = refl
 all_none (suc n) f h = rw (h n) (ne_eqb (suc n) 0 (λ e. omega arith))
-
-module _ (m : Memory) (k a i : ℕ) (r : Bool) where
-  pub up_row : r ≡ leb (m (a + i)) k → r ≡ word_up_to m k a i
-  unfolding word_up_to
-  up_row e = e
-
-  pub refers_row : r ≡ reference_holds m k (a + i) → r ≡ word_refers m k a i
-  unfolding word_refers
-  refers_row e = e
 
 module _ (T : Table) (m : Memory) where
   truth : (a : ℕ) → holds T m 1 a ≡ leb (m a) 1
@@ -371,8 +356,5 @@ module _ (T : Table) (m : Memory) (τ h a : ℕ) (d : Head T τ h) where
 
 pub tested : (T : Table) (h kind : ℕ) → kind ≡ type_kind T h → (kind ≡ 1 → ⊥) → (kind ≡ 2 → ⊥) → (h ≡ 0 → ⊥) → Tested T h
 tested T h kind hk x y z = record { simple = has_none T h (λ e. x (hk ∙ e)) (λ e. y (hk ∙ e)); some = omega arith }
-
-pub location_near : (T : Table) (τ a : ℕ) → Near T τ a → a ≤ 20000000
-location_near T τ a h = let u = h.near in omega arith
 
 pub ruleset values = (v_free, v_record, v_array, v_words, record_at, array_at)

@@ -1,4 +1,5 @@
 pub mod Filling
+pub mod Each
 pub mod Reading
 pub mod Values
 pub mod Heading

@@ -1,7 +1,6 @@
 -- Words of a state, and words of types, as the passes read them. Assumes nothing.
-use Prim.Native.Nat.{ℕ, ◌+◌, ◌*◌, ◌/◌, ◌%◌, ◌≤◌, ◌<◌, min}
-use native.Mathlib.Nat.{div-zero, mod-zero}
-use mathlib.Core.Path.{◌≡◌, sym}
+use Prim.Native.Nat.{ℕ, ◌+◌, ◌*◌, ◌≤◌, ◌<◌, min}
+use mathlib.Core.Path.{◌≡◌}
 use mathlib.Core.Bool.{Bool, true, false}
 use mathlib.Core.List.{List}
 use lib.ListN.{get_or, get_or-eq_default}
@@ -57,9 +56,3 @@ module _ (m : Memory) (μ a r : ℕ) (e : r ≡ m a) where
   pub reference_some : (x : Bool) → (r ≡ 0 → ⊥) → x ≡ refers m μ r → x ≡ reference_holds m μ a
   unfolding reference_holds
   reference_some x h g = rw (← e, ne_eqb r 0 h) g
-
-pub quotient_none : (k w : ℕ) → w ≡ 0 → 0 ≡ k / w
-quotient_none k w e = rw e (sym (div-zero k))
-
-pub remainder_none : (k w : ℕ) → w ≡ 0 → k ≡ k % w
-remainder_none k w e = rw e (sym (mod-zero k))

@@ -7,17 +7,13 @@ ghost use Rattle.table.specs.Entries.{type_kind};
 ghost use Rattle.values.specs.Heads.{has_parts, Head, Heads, HeadsTo, PartSaid, FieldsSaid};
 
 use code::kinds;
-use words::numbers::{narrow, wide};
 
 // A record or an array.
+#[tactic(auto, unfolding(crate::specs::Heads::has_parts))]
 fn has_parts(c: &code::Slots, x: usize) -> bool
     ensures { result ≡ has_parts (decoded c.now) x }
 {
-    let kind = code::type_kind(c, x);
-    if kind == kinds::RECORD {
-        return true;
-    }
-    kind == kinds::ARRAY
+    matches!(code::type_kind(c, x), kinds::RECORD | kinds::ARRAY)
 }
 
 // The head of type x. Those of the types below `heads.len()` are known; any other type may stand for itself.
@@ -26,20 +22,19 @@ pub fn head_of(c: &code::Slots, heads: &[u16], x: usize) -> usize
     ensures { Head (decoded c.now) x result }
 {
     if x < heads.len() {
-        return wide(heads[x]);
+        usize::from(heads[x])
+    } else {
+        x
     }
-    x
 }
 
 // A part of type f, of a value of type x, has a lower type with the head h.
+#[tactic(auto, using(crate::proofs::Heading::having))]
 fn part_shares(c: &code::Slots, heads: &[u16], x: usize, h: usize, f: usize) -> bool
     requires { Heads (decoded c.now) heads.now }
     ensures { PartSaid (decoded c.now) x h f result }
 {
-    if f < x {
-        return head_of(c, heads, f) == h;
-    }
-    false
+    f < x && head_of(c, heads, f) == h
 }
 
 fn fields_share(c: &code::Slots, heads: &[u16], x: usize, h: usize) -> bool
@@ -47,17 +42,7 @@ fn fields_share(c: &code::Slots, heads: &[u16], x: usize, h: usize) -> bool
     ensures { FieldsSaid (decoded c.now) x h result }
 {
     let first = code::type_p(c, x);
-    let count = code::type_q(c, x);
-    let mut i = 0;
-    while i < count {
-        let f = code::field_type(c, first + i);
-        if part_shares(c, heads, x, h, f) {
-            i += 1;
-        } else {
-            return false;
-        }
-    }
-    true
+    (0..code::type_q(c, x)).all(|i| part_shares(c, heads, x, h, code::field_type(c, first + i)))
 }
 
 // A record of one field has the head of its field; one whose fields have one simple head has that; any other has itself.
@@ -71,16 +56,11 @@ fn record_head(c: &code::Slots, heads: &[u16], x: usize) -> usize
         return x;
     }
     let h = head_of(c, heads, f);
-    if code::type_q(c, x) == 1 {
-        return h;
+    if code::type_q(c, x) == 1 || !has_parts(c, h) && fields_share(c, heads, x, h) {
+        h
+    } else {
+        x
     }
-    if has_parts(c, h) {
-        return x;
-    }
-    if fields_share(c, heads, x, h) {
-        return h;
-    }
-    x
 }
 
 // So for an array.
@@ -94,41 +74,33 @@ fn array_head(c: &code::Slots, heads: &[u16], x: usize) -> usize
         return x;
     }
     let h = head_of(c, heads, q);
-    if has_parts(c, h) {
-        if types::elements_of(c, x) == 1 {
-            return h;
-        }
-        return x;
+    if types::elements_of(c, x) == 1 || !has_parts(c, h) {
+        h
+    } else {
+        x
     }
-    h
 }
 
 fn found_head(c: &code::Slots, heads: &[u16], x: usize) -> usize
     requires { Heads (decoded c.now) heads.now }
     ensures { Head (decoded c.now) x result }
 {
-    let kind = code::type_kind(c, x);
-    if kind == kinds::RECORD {
-        return record_head(c, heads, x);
+    match code::type_kind(c, x) {
+        kinds::RECORD => record_head(c, heads, x),
+        kinds::ARRAY => array_head(c, heads, x),
+        _ => x,
     }
-    if kind == kinds::ARRAY {
-        return array_head(c, heads, x);
-    }
-    x
 }
 
 // Finds the heads of the types below n, the standard types first.
+#[tactic(auto, using(crate::proofs::Filling::lookup_part, crate::proofs::Filling::lookup_all, crate::proofs::Heading::head_small, crate::proofs::Heading::standard_heads))]
 pub fn find_heads(c: &code::Slots, heads: &mut [u16], n: usize)
     requires { (3 ≤ n) × ((n ≤ 65536) × (n ≤ length heads.old)) }
     ensures { HeadsTo (decoded c.now) n heads.new }
 {
-    heads[0] = 0;
-    heads[1] = 1;
-    heads[2] = 2;
-    let mut x = kinds::STANDARD;
-    while x < n {
-        heads[x] = narrow(found_head(c, &heads[..x], x));
-        x += 1;
+    heads[..kinds::STANDARD].copy_from_slice(&[0, 1, 2]);
+    for x in kinds::STANDARD..n {
+        heads[x] = found_head(c, &heads[..x], x) as u16;
     }
 }
 
@@ -136,9 +108,5 @@ pub fn find_heads(c: &code::Slots, heads: &mut [u16], n: usize)
 pub fn known_types(c: &code::Slots) -> usize
     ensures { (3 ≤ result) × (result ≤ 258) }
 {
-    let n = code::types(c);
-    if n <= 255 {
-        return kinds::STANDARD + n;
-    }
-    258
+    kinds::STANDARD + code::types(c).min(255)
 }

@@ -14,6 +14,7 @@ use super::lent::{refers_to, word_or_zero};
 use code::kinds;
 
 // The words of type x.
+#[tactic(auto, using(crate::proofs::Reading::exact))]
 pub fn words_of(c: &code::Slots, sizes: &[u16], x: usize) -> usize
     requires { SmallSizes (decoded c.now) sizes.now }
     ensures { WordCount (words_of (decoded c.now) x) result }
@@ -35,27 +36,17 @@ fn words_up_to(state: &[u8], a: usize, n: usize, most: usize) -> bool
     requires a_bound { (a ≤ 20000000) × (n ≤ 200) }
     ensures { result ≡ all_below n (word_up_to (memory_of state.now) most a) }
 {
-    let mut i = 0;
-    while i < n {
-        if word_up_to(state, a + i, most) {
-            i += 1;
-        } else {
-            return false;
-        }
-    }
-    true
+    (0..n).all(|i| word_up_to(state, a + i, most))
 }
 
 // A process variable at location a is empty, or names a created process of its module.
+#[tactic(auto, using(crate::proofs::Reading::reference_none, crate::proofs::Reading::reference_some))]
 fn reference_holds(state: &[u8], home: usize, a: usize) -> bool
     requires { State state.now }
     ensures { result ≡ reference_holds (memory_of state.now) home a }
 {
     let r = word_or_zero(state, a);
-    if r == 0 {
-        return true;
-    }
-    refers_to(state, home, r)
+    r == 0 || refers_to(state, home, r)
 }
 
 // So does each of the n words from location a on.
@@ -64,37 +55,29 @@ fn references_hold(state: &[u8], home: usize, a: usize, n: usize) -> bool
     requires a_bound { (a ≤ 20000000) × (n ≤ 200) }
     ensures { result ≡ all_below n (word_refers (memory_of state.now) home a) }
 {
-    let mut i = 0;
-    while i < n {
-        if reference_holds(state, home, a + i) {
-            i += 1;
-        } else {
-            return false;
-        }
-    }
-    true
+    (0..n).all(|i| reference_holds(state, home, a + i))
 }
 
 // A value of the simple or process type h, integers apart, stands at each of the n words from location a on.
+#[tactic(auto, using(crate::proofs::Heading::sorts))]
 fn words_hold(c: &code::Slots, state: &[u8], h: usize, a: usize, n: usize) -> bool
     requires state { State state.now }
     requires tested { Tested (decoded c.now) h }
     requires a_bound { (a ≤ 20000000) × (n ≤ 200) }
     ensures { result ≡ words_hold (decoded c.now) (memory_of state.now) h a n }
 {
-    if h == kinds::BOOLEAN {
-        return words_up_to(state, a, n, 1);
+    match h {
+        kinds::BOOLEAN => words_up_to(state, a, n, 1),
+        kinds::CHARACTER => words_up_to(state, a, n, 127),
+        _ if code::type_kind(c, h) == kinds::PROCESS => {
+            references_hold(state, code::type_p(c, h), a, n)
+        }
+        _ => n == 0,
     }
-    if h == kinds::CHARACTER {
-        return words_up_to(state, a, n, 127);
-    }
-    if code::type_kind(c, h) == kinds::PROCESS {
-        return references_hold(state, code::type_p(c, h), a, n);
-    }
-    n == 0
 }
 
 // A value of type x stands at location a.
+#[tactic(auto, using(crate::proofs::Heading::values, crate::proofs::Heading::tested))]
 #[cycle(hold)]
 pub fn value_holds(
     c: &code::Slots,
@@ -112,16 +95,14 @@ pub fn value_holds(
     if h == kinds::INTEGER {
         return true;
     }
-    let kind = code::type_kind(c, h);
-    if kind == kinds::RECORD {
-        return fields_hold(c, sizes, heads, state, h, a);
+    match code::type_kind(c, h) {
+        kinds::RECORD => fields_hold(c, sizes, heads, state, h, a),
+        kinds::ARRAY => elements_hold(c, sizes, heads, state, h, a),
+        _ => words_hold(c, state, h, a, words_of(c, sizes, x)),
     }
-    if kind == kinds::ARRAY {
-        return elements_hold(c, sizes, heads, state, h, a);
-    }
-    words_hold(c, state, h, a, words_of(c, sizes, x))
 }
 
+#[tactic(auto, using(crate::proofs::Values::fieldwalks, crate::proofs::Values::walk_fits))]
 #[cycle(hold)]
 fn fields_hold(
     c: &code::Slots,
@@ -136,24 +117,18 @@ fn fields_hold(
     ensures { result ≡ fields_hold (decoded c.now) (memory_of state.now) x a }
 {
     let first = code::type_p(c, x);
-    let count = code::type_q(c, x);
     let mut at = a;
-    let mut i = 0;
-    while i < count {
+    for i in 0..code::type_q(c, x) {
         let f = code::field_type(c, first + i);
-        if x <= f {
+        if x <= f || !value_holds(c, sizes, heads, state, f, at) {
             return false;
         }
-        if value_holds(c, sizes, heads, state, f, at) {
-            at += words_of(c, sizes, f);
-            i += 1;
-        } else {
-            return false;
-        }
+        at += words_of(c, sizes, f);
     }
     true
 }
 
+#[tactic(auto, using(crate::proofs::Values::elementwalks, crate::proofs::Values::walk_fits))]
 #[cycle(hold)]
 fn elements_hold(
     c: &code::Slots,
@@ -168,20 +143,13 @@ fn elements_hold(
     ensures { result ≡ elements_hold (decoded c.now) (memory_of state.now) x a }
 {
     let q = code::type_q(c, x);
-    let count = types::elements_of(c, x);
     let words = words_of(c, sizes, q);
     let mut at = a;
-    let mut i = 0;
-    while i < count {
-        if x <= q {
+    for i in 0..types::elements_of(c, x) {
+        if x <= q || !value_holds(c, sizes, heads, state, q, at) {
             return false;
         }
-        if value_holds(c, sizes, heads, state, q, at) {
-            at += words;
-            i += 1;
-        } else {
-            return false;
-        }
+        at += words;
     }
     true
 }

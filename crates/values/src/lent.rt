@@ -6,8 +6,6 @@ ghost use Rattle.machine.specs.Layout.{location, record_at, created_at};
 ghost use Rattle.machine.specs.Lent.{State};
 ghost use Rattle.machine.specs.Processes.{refers};
 
-use words::numbers::wide;
-
 // The statuses of created processes, as numbers.
 pub const UNSTARTED: usize = machine::UNSTARTED as usize;
 
@@ -16,17 +14,20 @@ pub const STARTED: usize = machine::STARTED as usize;
 pub const ENDED: usize = machine::ENDED as usize;
 
 // Word i of the state, 0 beyond its end: a damaged state may name any word.
+#[tactic(auto, using(crate::proofs::Reading::beyond))]
 pub fn word_or_zero(state: &[u8], i: usize) -> usize
     requires { State state.now }
     ensures { Field (memory_of state.now i) result }
 {
     if i < machine::STATE_WORDS {
-        return wide(machine::word_of(state, i));
+        usize::from(machine::word_of(state, i))
+    } else {
+        0
     }
-    0
 }
 
 // Word k of the control record of process p.
+#[tactic(auto, unfolding(machine::specs::Layout::record_at))]
 pub fn record_word(state: &[u8], p: usize, k: usize) -> usize
     requires state { State state.now }
     requires le_p { (1 ≤ p) × ((p ≤ 65536) × (k < 20)) }
@@ -36,6 +37,7 @@ pub fn record_word(state: &[u8], p: usize, k: usize) -> usize
 }
 
 // Word k from the beginning of the area of process p.
+#[tactic(auto, unfolding(machine::specs::Layout::location))]
 pub fn area_word(state: &[u8], p: usize, k: usize) -> usize
     requires state { State state.now }
     requires le_p { (1 ≤ p) × ((p ≤ 64) × (k ≤ 14000000)) }
@@ -53,16 +55,11 @@ pub fn created(state: &[u8]) -> usize
 }
 
 // r is the number of a created process of a module.
+#[tactic(auto, using(crate::proofs::Reading::references))]
 pub fn refers_to(state: &[u8], home: usize, r: usize) -> bool
     requires state { State state.now }
     requires r_bound { r < 65536 }
     ensures { result ≡ refers (memory_of state.now) home r }
 {
-    if 2 <= r {
-        if r <= created(state) {
-            return record_word(state, r, machine::MODULE) == home;
-        }
-        return false;
-    }
-    false
+    2 <= r && r <= created(state) && record_word(state, r, machine::MODULE) == home
 }

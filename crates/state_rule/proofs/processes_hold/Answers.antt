@@ -1,20 +1,11 @@
-use native.Mathlib.Omega.{arith}
-use borrow.Author.Rules.{rules}
-use Rattle.basics.proofs.Passes.{passed_none, passed_more}
-use Rattle.state_rule.proofs.Chains.{process-row, processes_fail, processes_all}
+use borrow.Author.Tests.{tests}
+use Rattle.std.proofs.Common.{rules}
+use Rattle.basics.proofs.Ranges.{all_of}
+use Rattle.code.specs.Code.{decoded}
+use Rattle.machine.specs.Memory.{memory_of}
+use Rattle.state_rule.specs.Chains.{process_row, processes_hold}
 use Rattle.state_rule.proofs.processes_hold.Goals as goal
 
-pub loop-i-init : goal.loop-i-init
-loop-i-init c = (search rules, search passed_none)
-
-pub loop-i-smaller : goal.loop-i-smaller
-loop-i-smaller c = omega arith
-
-pub loop-i-preserved : goal.loop-i-preserved
-loop-i-preserved c = (omega arith, search (passed_more, process-row))
-
-pub returns-else-process_ok : goal.returns-else-process_ok
-returns-else-process_ok c = search processes_fail
-
 pub returns : goal.returns
-returns c = search processes_all
+unfolding processes_hold process_row
+returns c = all_of _ _ _ _ (process_row (decoded c.args.c.now) (memory_of c.args.state.now)) c.all.ensures.ran (cc) (λ x q k. search (rules, tests)) (λ x q k. search (rules, tests))

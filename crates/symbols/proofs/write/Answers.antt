@@ -1,38 +1,9 @@
-use Rattle.symbols.proofs.Answering.{layings}
+use Rattle.symbols.proofs.Answering.{laid_none, laid_more}
 use Rattle.symbols.proofs.write.Goals as goal
 
-pub passed-c-requires : goal.passed-c-requires
-passed-c-requires c = search layings
+pub loop-size-init : goal.loop-size-init
+loop-size-init c = laid_none _ _ c.requires _ _ c.passed-c.ensures
 
-pub loop-c-init : goal.loop-c-init
-loop-c-init c = search layings
-
-pub symbol_end-end-requires : goal.symbol_end-end-requires
-symbol_end-end-requires c = search layings
-
-pub symbol_kind-requires : goal.symbol_kind-requires
-symbol_kind-requires c = search layings
-
-pub overflow_sub-end : goal.overflow_sub-end
-overflow_sub-end c = search layings
-
-pub put_symbol-requires : goal.put_symbol-requires
-put_symbol-requires c = search layings
-
-pub overflow_add-to : goal.overflow_add-to
-overflow_add-to c = search layings
-
-pub passed-c-requires-in-loop-c : goal.passed-c-requires-in-loop-c
-passed-c-requires-in-loop-c c = search layings
-
-pub loop-c-smaller : goal.loop-c-smaller
-loop-c-smaller c = search layings
-
-pub loop-c-preserved : goal.loop-c-preserved
-loop-c-preserved c = search layings
-
-pub shape_of-out : goal.shape_of-out
-shape_of-out c = search layings
-
-pub returns : goal.returns
-returns c = search layings
+pub loop-size-preserved : goal.loop-size-preserved
+loop-size-preserved c =
+    laid_more _ _ c.requires _ _ _ _ c.loop-size.invariant _ c.in-Some.ensures.is _ c.symbol_kind-kind.ensures _ c.put_symbol.ensures _ _ c.passed-c-in-Some.ensures

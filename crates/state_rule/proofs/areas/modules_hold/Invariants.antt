@@ -1,4 +1,3 @@
-use Prim.Native.Nat.{◌≤◌, ◌-◌}
 use Rattle.code.specs.Code.{decoded}
 use Rattle.machine.specs.Memory.{memory_of}
 use Rattle.machine.specs.Variables.{first_words}
@@ -7,7 +6,4 @@ use Rattle.state_rule.specs.Frames.{variable_row, variable_holds}
 use Rattle.state_rule.proofs.areas.modules_hold.Given as goal
 
 abbrev pub invariant-loop-i : goal.invariant-loop-i
-invariant-loop-i l = (l.i ≤ l.count) × Walked (first_words (decoded l.c) l.b) (variable_row (decoded l.c) l.b (variable_holds (decoded l.c) (memory_of l.state) l.p)) l.i l.at
-
-abbrev pub decreases-loop-i : goal.decreases-loop-i
-decreases-loop-i l = l.count - l.i
+invariant-loop-i l = Walked (first_words (decoded l.c) l.b) (variable_row (decoded l.c) l.b (variable_holds (decoded l.c) (memory_of l.state) l.p)) l.i l.at

@@ -1,4 +1,4 @@
-use Rattle.std.proofs.Common.{◌+◌, ◌-◌, ◌*◌, ◌≤◌}
+use Rattle.std.proofs.Common.{◌+◌, ◌*◌}
 use Rattle.code.specs.Code.{decoded}
 use Rattle.sizes.specs.Sizes.{offset_in}
 use Rattle.values.specs.Walks.{Sought, field_i_begins}
@@ -18,7 +18,4 @@ abbrev pub decreases-part_of_fields : goal.decreases-part_of_fields
 decreases-part_of_fields l = 3 * l.x + 1
 
 abbrev pub invariant-part_of_fields-loop-i : goal.invariant-part_of_fields-loop-i
-invariant-part_of_fields-loop-i l = (l.i ≤ l.count) × Sought (offset_in (decoded l.c) l.x) (field_i_begins (decoded l.c) l.y l.x l.k) l.i l.at
-
-abbrev pub decreases-part_of_fields-loop-i : goal.decreases-part_of_fields-loop-i
-decreases-part_of_fields-loop-i l = l.count - l.i
+invariant-part_of_fields-loop-i l = Sought (offset_in (decoded l.c) l.x) (field_i_begins (decoded l.c) l.y l.x l.k) l.i l.at

@@ -1,4 +1,4 @@
-use Rattle.std.proofs.Common.{◌+◌, ◌-◌, ◌*◌, ◌≤◌}
+use Rattle.std.proofs.Common.{◌+◌, ◌*◌}
 use Rattle.code.specs.Code.{decoded}
 use Rattle.machine.specs.Memory.{memory_of}
 use Rattle.values.specs.Walks.{FieldsTo, ElementsTo}
@@ -15,13 +15,7 @@ abbrev pub decreases-value_holds : goal.decreases-value_holds
 decreases-value_holds l = 2 * l.x + 1
 
 abbrev pub invariant-elements_hold-loop-i : goal.invariant-elements_hold-loop-i
-invariant-elements_hold-loop-i l = (l.i ≤ l.count) × ElementsTo (decoded l.c) (memory_of l.state) l.x l.a l.i l.at
-
-abbrev pub decreases-elements_hold-loop-i : goal.decreases-elements_hold-loop-i
-decreases-elements_hold-loop-i l = l.count - l.i
+invariant-elements_hold-loop-i l = ElementsTo (decoded l.c) (memory_of l.state) l.x l.a l.i l.at
 
 abbrev pub invariant-fields_hold-loop-i : goal.invariant-fields_hold-loop-i
-invariant-fields_hold-loop-i l = (l.i ≤ l.count) × FieldsTo (decoded l.c) (memory_of l.state) l.x l.a l.i l.at
-
-abbrev pub decreases-fields_hold-loop-i : goal.decreases-fields_hold-loop-i
-decreases-fields_hold-loop-i l = l.count - l.i
+invariant-fields_hold-loop-i l = FieldsTo (decoded l.c) (memory_of l.state) l.x l.a l.i l.at

@@ -1,4 +1,3 @@
-use Prim.Native.Nat.{◌≤◌, ◌-◌}
 use mathlib.Core.Path.{◌≡◌}
 use lib.ListN.{length}
 use Rattle.code.specs.Code.{decoded}
@@ -6,7 +5,4 @@ use Rattle.values.specs.Jumps.{JumpsTo}
 use Rattle.values.proofs.jumps.find_jumps.Given as goal
 
 abbrev pub invariant-loop-x : goal.invariant-loop-x
-invariant-loop-x l = (l.x ≤ l.n) × (length l.jumps ≡ length l.initial.jumps) × JumpsTo (decoded l.c) l.x l.jumps
-
-abbrev pub decreases-loop-x : goal.decreases-loop-x
-decreases-loop-x l = l.n - l.x
+invariant-loop-x l = (length l.jumps ≡ length l.initial.jumps) × JumpsTo (decoded l.c) l.x l.jumps
