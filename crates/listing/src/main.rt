@@ -42,24 +42,12 @@ fn is_readable(rt: &(impl Files + Eprint), path: &str) -> io::Result<bool> {
     }
 }
 
-// The number after n, up to the largest of 64 bits.
-fn one_more(n: u64) -> u64 {
-    if n < 18446744073709551615 { n + 1 } else { n }
-}
-
-fn print_step(rt: &impl Print, number: u64, process: u8, answer: u8) -> io::Result<()> {
-    println!(rt; "{number} {process} {answer}")
-}
-
-// Prints the lines of the steps of a piece, and answers the number of the last.
+// Prints the lines of the steps of a piece, and answers the number of the last, up to the largest of 64 bits.
 fn print_steps(rt: &impl Print, schedule: &[u8], answers: &[u8], done: u64) -> io::Result<u64> {
-    let count = schedule.len();
     let mut number = done;
-    for i in 0..count {
-        if i < answers.len() {
-            number = one_more(number);
-            print_step(rt, number, schedule[i], answers[i])?;
-        }
+    for (process, answer) in schedule.iter().zip(answers) {
+        number = number.saturating_add(1);
+        println!(rt; "{number} {process} {answer}")?;
     }
     Ok(number)
 }
@@ -74,7 +62,8 @@ fn run_piece(
     done: u64,
 ) -> io::Result<u64> {
     let mut answers = [0u8; 4096];
-    stepper::run(table, state, page, piece, &mut answers);
+    // It is not refused: the table is accepted, the lengths are right and the state is of this run.
+    let _ = stepper::run(table, state, page, piece, &mut answers);
     print_steps(rt, piece, &answers, done)
 }
 
@@ -116,7 +105,8 @@ fn run_all(
 fn list_steps(rt: &impl Print, table: &[u8], file: &mut impl Read) -> io::Result<()> {
     let mut state = [0u8; 37376];
     let mut page = [0u8; 8192];
-    states::begin(table, &mut state, 0);
+    // It is not refused: the table is accepted, and the length and the number are right.
+    let _ = states::begin(table, &mut state, 0);
     run_all(rt, table, &mut state, &mut page, file)
 }
 
@@ -150,11 +140,8 @@ fn list_file(rt: &(impl Files + Print + Eprint)) -> io::Result<()> {
 
 // Both files are tried before anything is printed: where one cannot be read, there is a message that names it, and no verdict.
 fn main(rt: HostRuntime) -> io::Result<()> {
-    if !is_readable(&rt, "joyce.tab")? {
-        return Ok(());
+    if is_readable(&rt, "joyce.tab")? && is_readable(&rt, "joyce.sch")? {
+        list_file(&rt)?;
     }
-    if !is_readable(&rt, "joyce.sch")? {
-        return Ok(());
-    }
-    list_file(&rt)
+    Ok(())
 }

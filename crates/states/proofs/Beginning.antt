@@ -1,14 +1,12 @@
 -- The state in which a run begins, as the code makes it. Assumes nothing.
-use Prim.Native.Nat.{ℕ, ◌+◌, ◌*◌, ◌≤◌, ◌<◌, min}
+use Prim.Native.Nat.{ℕ, zero, suc, ◌+◌, ◌*◌, ◌≤◌, ◌<◌, min}
 use mathlib.Core.Path.{◌≡◌, refl, sym, ap, ◌∙◌, fun_ext}
 use mathlib.Core.Bool.{Bool, true, false}
 use mathlib.Core.List.{List}
 use native.Mathlib.Omega.{arith}
-use lib.Dec.{eqb, leb, ltb}
-use lib.ListN.{length, get_or, set, length-set, get_or-eq_default}
-use lib.Seq.{get_or-set_same, get_or-set_other}
-use borrow.Author.Rules.{rules}
-use borrow.Author.Tests.{eq-eqb, ne_eqb, eqb-true, eqb-false, leb-true, ltb-true, ltb-false}
+use lib.Dec.{eqb, leb}
+use lib.ListN.{length, get_or, replicate, length-replicate}
+use borrow.Author.Tests.{ne_eqb, eqb-true, eqb-false, leb-true}
 use Rattle.basics.specs.Cases.{cases}
 use Rattle.basics.specs.Choice.{pick, both}
 use Rattle.basics.proofs.Bools.{no_true, both_l, both_r}
@@ -24,7 +22,10 @@ use Rattle.numbers.proofs.BlockPromise.{program_there, program_kind}
 use Rattle.verdict.specs.Verdict.{verdict}
 use Rattle.verdict.specs.Accepted.{Accepted}
 use Rattle.verdict.specs.Checked.{CheckLeaves}
+use Rattle.verdict.specs.Refusals.{refusal_number}
+use Rattle.verdict.specs.declared.Refusal.{Refusal}
 use Rattle.verdict.proofs.Promise.{promise}
+use Rattle.verdict.proofs.Rooming.{refusal_some}
 use Rattle.machine.specs.Memory.{Memory, update, within, fill, zeros, memory_of, bytes_of}
 use Rattle.machine.specs.Lent.{WordSlice, Changed, State, Becomes}
 use Rattle.machine.specs.Layout.{status_at, statement_at, frame_at, top_at, works_at, holder_at, depth_at, created_at, number_at, plain_words, mark_words, state_words, state_size}
@@ -32,34 +33,22 @@ use Rattle.machine.specs.Calls.{standing}
 use Rattle.machine.specs.Run.{initial_state, begin}
 use Rattle.machine.specs.Public.{begun, begin_call, begin_refusal}
 use Rattle.machine.proofs.Memories.{within_yes, within-from, within_to, bytes_memory}
-use Rattle.states.specs.Parts.{Cleared, first_made}
+use Rattle.states.specs.Parts.{first_made}
 
 -- ---- clearing
 
-pub cleared_none : (s : List ℕ) → Cleared s s 0
-cleared_none s = record { same = refl; upto = omega arith; is = λ j h. absurd (omega arith) }
+all_zero : (n i : ℕ) → get_or {A = ℕ} (replicate n 0) i 0 ≡ 0
+all_zero zero i = refl
+all_zero (suc n) zero = refl
+all_zero (suc n) (suc i) = all_zero n i
 
-pub cleared_more : (s₀ s : List ℕ) (i : ℕ) → Cleared s₀ s i → i < length s → Cleared s₀ (set s i 0) (i + 1)
-cleared_more s₀ s i c h =
-    record {
-      same = simp length-set c.same;
-      upto = simp length-set (omega arith);
-      is = λ j l.
-          cases (eqb j i)
-          (λ e. let q : j ≡ i = eqb-true j i e in rw q (get_or-set_same s i 0 0 h))
-          (λ e. let d : j ≡ i → ⊥ = eqb-false j i e in get_or-set_other s i j 0 0 d ∙ c.is j (omega arith));
-    }
-
-pub cleared_all : (n : ℕ) (s₀ s : List ℕ) (i k : ℕ) → WordSlice n s₀ → Cleared s₀ s i → k ≡ length s₀ → k ≤ i → Changed n s zeros
+pub cleared : (n : ℕ) (s₀ s : List ℕ) → WordSlice n s₀ → s ≡ replicate (length s₀) 0 → Changed n s zeros
 unfolding memory_of zeros
-cleared_all n s₀ s i k l c e h = record { long = c.same ∙ l.long; is = fun_ext (λ j. rw (at (j * 2), at (j * 2 + 1))) }
-  where
-    at : (j : ℕ) → get_or s j 0 ≡ 0
-    at j =
-        let q = c.same in
-        cases (ltb j i)
-        (λ g. c.is j (ltb-true j i g))
-        (λ g. let f = ltb-false j i g in get_or-eq_default s 0 (omega arith))
+cleared n s₀ s l e =
+    record {
+      long = rw (e, length-replicate {A = ℕ} (length s₀) 0) l.long;
+      is = fun_ext (λ j. rw (e, all_zero (length s₀) (j * 2), all_zero (length s₀) (j * 2 + 1)));
+    }
 
 -- ---- words set one after the other
 
@@ -81,6 +70,8 @@ pub first_stands : (s₀ s₁ s₂ s₃ s₄ s₅ : List ℕ) (c t : ℕ)
     → Becomes s₅ (standing (memory_of s₀) 1 c 0 t 1 0)
 unfolding standing
 first_stands s₀ s₁ s₂ s₃ s₄ s₅ c t a b d e f = rw (← a.is, ← b.is, ← d.is, ← e.is) f
+
+pub ruleset firsts = (first-made)
 
 -- ---- marks
 
@@ -129,11 +120,7 @@ module _ (m : Memory) (w : ℕ) where
   pub fills_all : (s : List ℕ) (k : ℕ) → Filling m w s k → mark_words ≤ k → Becomes s (fill m plain_words mark_words w)
   fills_all s k f l = let e : k ≡ mark_words = omega (arith, f.upto) in rw e at f.is
 
-pub marks_all : (n : ℕ) → n ≡ 1 → ◌≡◌ {A = ℕ} 65535 (pick (eqb n 1) 65535 0)
-marks_all n e = rw (eq-eqb n 1 e)
-
-pub marks_no : (n : ℕ) → (n ≡ 1 → ⊥) → ◌≡◌ {A = ℕ} 0 (pick (eqb n 1) 65535 0)
-marks_no n d = rw (ne_eqb n 1 d)
+pub ruleset filling = (fills_none, fills_lent, fills_more, fills_all)
 
 -- ---- the program's words
 
@@ -168,18 +155,18 @@ begin_bytes T n s₁ s₂ s₃ s₄ c t w hc ht hw a b d f bytes =
 pub lent_bytes : (s : List ℕ) → length s ≡ state_size → State s
 lent_bytes s e = record { long = e }
 
--- what a check with verdict 0 leaves
-module _ (w : ℕ) (t c y z : List ℕ) (v : ℕ) (h : CheckLeaves w t v c y z) (o : v ≡ 0) where
+-- what a check that accepts leaves
+module _ (w : ℕ) (t c y z : List ℕ) (h : CheckLeaves w t 0 c y z) where
   pub check_accepted : Accepted (decoded c)
-  check_accepted = rw (h.table o) (promise w t (sym h.is ∙ o))
+  check_accepted = rw (h.table refl) (promise w t (sym h.is))
 
   pub check_sizes : Sizes (decoded c) z
-  check_sizes = h.sizes o
+  check_sizes = h.sizes refl
 
   pub begun_done : (s s₁ : List ℕ) (n k : ℕ) (b : Bool) → b ≡ both (eqb (length s) state_size) (leb n 1) → b ≡ true → k ≡ n
       → s₁ ≡ bytes_of state_words (begin (decoded c) k) → begun 0 s₁ ≡ begin_call verdict w t s n
   unfolding begin_call begin_refusal
-  begun_done s s₁ n k b l g i e = let g' = rw (h.table o, i) at e in rw (← l, g, ← h.is, eq-eqb v 0 o, g')
+  begun_done s s₁ n k b l g i e = let g' = rw (h.table refl, i) at e in rw (← l, g, ← h.is, g')
 
 module _ (s : List ℕ) (n : ℕ) (b : Bool) (l : b ≡ both (eqb (length s) state_size) (leb n 1)) where
   pub begun_lent : b ≡ true → State s
@@ -188,20 +175,13 @@ module _ (s : List ℕ) (n : ℕ) (b : Bool) (l : b ≡ both (eqb (length s) sta
   pub begun_word : b ≡ true → n < 65536
   begun_word g = let h = leb-true n 1 (both_r _ _ (sym l ∙ g)) in omega arith
 
-  pub begun_refused : (w : ℕ) (t c y z : List ℕ) (v : ℕ) → b ≡ true → CheckLeaves w t v c y z → (v ≡ 0 → ⊥) → begun v s ≡ begin_call verdict w t s n
+  pub begun_refused : (w : ℕ) (t c y z : List ℕ) (r : Refusal) → b ≡ true → CheckLeaves w t (refusal_number r) c y z
+      → begun (refusal_number r) s ≡ begin_call verdict w t s n
   unfolding begin_call begin_refusal
-  begun_refused w t c y z v g h d = rw (← l, g, ← h.is, ne_eqb v 0 d)
+  begun_refused w t c y z r g h = rw (← l, g, ← h.is, ne_eqb (refusal_number r) 0 (refusal_some r))
 
   pub begun_short : (w : ℕ) (t : List ℕ) → b ≡ false → begun 1 s ≡ begin_call verdict w t s n
   unfolding begin_call begin_refusal
   begun_short w t g = rw (← l, g)
 
-pub beginnable_long : (k n : ℕ) → k ≡ state_size → leb n 1 ≡ both (eqb k state_size) (leb n 1)
-unfolding both
-beginnable_long k n e = rw (eq-eqb k state_size e)
-
-pub beginnable_short : (k n : ℕ) → (k ≡ state_size → ⊥) → false ≡ both (eqb k state_size) (leb n 1)
-unfolding both
-beginnable_short k n d = rw (ne_eqb k state_size d)
-
-pub ruleset begins = (new_blank, check_accepted, check_sizes, begun_lent, begun_word, begun_done, begun_refused, begun_short, rules)
+pub ruleset begins = (new_blank, check_accepted, check_sizes, begun_lent, begun_word, begun_done, begun_short)

@@ -19,10 +19,14 @@ use Rattle.sizes.proofs.Judging.{var_in}
 use Rattle.sizes.proofs.Promise.{module_most, var_exact, size_exact}
 use Rattle.numbers.proofs.BlockPromise.{program_there, program_kind, program_params, no_program, mode_local}
 use Rattle.typing.proofs.Promise.{module_param}
+use Rattle.std.specs.Prelude.{Result}
 use Rattle.verdict.specs.Verdict.{verdict}
+use Rattle.verdict.specs.Refusals.{refusal_number, look_number}
+use Rattle.verdict.specs.declared.Refusal.{Refusal}
+use Rattle.verdict.proofs.Rooming.{refusal_some}
 use Rattle.verdict.specs.Accepted.{Accepted}
 use Rattle.machine.specs.Memory.{Memory, within, memory_of}
-use Rattle.machine.specs.Layout.{location, status_at, module_at, created_at, locations, state_size}
+use Rattle.machine.specs.Layout.{location, module_at, created_at, locations, state_size}
 use Rattle.machine.specs.Marks.{marked}
 use Rattle.machine.specs.Variables.{var_words, first_words, offset_of, belongs, is_module}
 use Rattle.machine.specs.Rule.{module_ok, process_ok, rule}
@@ -60,31 +64,6 @@ module _ (T : Table) (m : Memory) (h : rule T m ≡ true) where
       let x = both_r _ _ (rw q at (module_row p l g)) in
       let k : block_kind T (m (module_at p)) ≡ 1 = eqb-true (block_kind T (m (module_at p))) 1 (both_r _ _ x) in
       (ltb-true (m (module_at p)) (block_count T) (both_l _ _ x), omega arith))
-
--- ---- a started or ended process
-
-module _ (m : Memory) (p : ℕ) where
-  pub shown_none : p < 1 → false ≡ started_or_ended m p
-  unfolding started_or_ended
-  shown_none l = rw (lt-leb 1 p l)
-
-  module _ (l : 1 ≤ p) (x y : ℕ) (ex : x ≡ m created_at) (ey : y ≡ x) where
-    pub shown_above : y < p → false ≡ started_or_ended m p
-    unfolding started_or_ended
-    shown_above g = let u : m created_at < p = omega arith in rw (le-leb 1 p l, lt-leb p (m created_at) u)
-
-    module _ (g : p ≤ y) (st : ℕ) (es : st ≡ m (status_at p)) where
-      pub shown_before : st < 2 → false ≡ started_or_ended m p
-      unfolding started_or_ended
-      shown_before f =
-          let u : p ≤ m created_at = omega arith in
-          rw (le-leb 1 p l, le-leb p (m created_at) u, ← es, lt-leb 2 st f)
-
-      pub shown_status : 2 ≤ st → leb st 3 ≡ started_or_ended m p
-      unfolding started_or_ended
-      shown_status f =
-          let u : p ≤ m created_at = omega arith in
-          rw (le-leb 1 p l, le-leb p (m created_at) u, ← es, le-leb 2 st f)
 
 -- ---- a variable of a block
 
@@ -259,7 +238,7 @@ module _ (T : Table) (m : Memory) (p v k : ℕ) (c : Bool) (ec : c ≡ visible T
   unfolding look
   look_none z = rw (← ec, z)
 
-  pub look_seen : c ≡ true → (a r : ℕ) → a ≡ location p (offset_of T (m (module_at p)) v + k) → r ≡ word_there m a → r ≡ look T m p v k
+  pub look_seen : c ≡ true → (a : ℕ) (r : Result ℕ Refusal) → a ≡ location p (offset_of T (m (module_at p)) v + k) → look_number r ≡ word_there m a → look_number r ≡ look T m p v k
   unfolding look
   look_seen z a r q e = rw (← ec, z, ← q) e
 
@@ -280,17 +259,19 @@ module _ (w : ℕ) (table state : List ℕ) (p v k : ℕ) where
   unfolding look_call look_refusal refusal
   looked_short n = rw (ne_eqb (length state) state_size n)
 
-  module _ (x : ℕ) (l : length state ≡ state_size) (e : x ≡ verdict w table) where
-    pub looked_refused : (x ≡ 0 → ⊥) → x ≡ look_call verdict w table state p v k
+  module _ (l : length state ≡ state_size) where
+    pub looked_refused : (x : Refusal) → refusal_number x ≡ verdict w table → refusal_number x ≡ look_call verdict w table state p v k
     unfolding look_call look_refusal refusal
-    looked_refused n = rw (eq-eqb (length state) state_size l, ← e, ne_eqb x 0 n, ne_eqb x 0 n)
+    looked_refused x e =
+        let n : eqb (refusal_number x) 0 ≡ false = ne_eqb (refusal_number x) 0 (refusal_some x) in
+        rw (eq-eqb (length state) state_size l, ← e, n, n)
 
-    pub looked_judged : (r : ℕ) → x ≡ 0 → r ≡ look_judged (table_of w table) (memory_of state) p v k → r ≡ look_call verdict w table state p v k
+    pub looked_judged : (r : ℕ) → 0 ≡ verdict w table → r ≡ look_judged (table_of w table) (memory_of state) p v k → r ≡ look_call verdict w table state p v k
     unfolding look_call look_refusal refusal look_judged
-    looked_judged r z h =
+    looked_judged r e h =
         h ∙ cases (rule (table_of w table) (memory_of state))
-        (λ q. rw (eq-eqb (length state) state_size l, ← e, eq-eqb x 0 z, q))
-        (λ q. rw (eq-eqb (length state) state_size l, ← e, eq-eqb x 0 z, q))
+        (λ q. rw (eq-eqb (length state) state_size l, ← e, q))
+        (λ q. rw (eq-eqb (length state) state_size l, ← e, q))
 
 pub judged_rule : (T : Table) (m : Memory) (c : Bool) → c ≡ rule T m → c ≡ true → rule T m ≡ true
 judged_rule T m c e z = sym e ∙ z
@@ -303,6 +284,14 @@ module _ (T : Table) (m : Memory) (p v k : ℕ) (c : Bool) (ec : c ≡ rule T m)
   unfolding look_judged
   judged_broken z = rw (← ec, z)
 
-  pub judged_look : c ≡ true → (r : ℕ) → r ≡ look T m p v k → r ≡ look_judged T m p v k
+  pub judged_look : c ≡ true → (r : Result ℕ Refusal) → look_number r ≡ look T m p v k → look_number r ≡ look_judged T m p v k
   unfolding look_judged
   judged_look z r h = rw (← ec, z) h
+
+pub ruleset belonging = (belongs_none, belongs_before, belongs_last)
+
+pub ruleset seeing = (created_most, shown_record, visible_hidden, visible_other, visible_place)
+
+pub ruleset looking = (seen_visible, look_none, look_seen)
+
+pub ruleset seen = (seen_record, seen_block, seen_belongs, seen_in, seen_area, seen_at)

@@ -1,18 +1,12 @@
 -- Inner: for code and proofs only; no public promise is said with these definitions.
 -- Parts of the definitions of `machine`, as the code makes or tests them one at a time. Assumes nothing.
-use Rattle.std.specs.Prelude.{ℕ, ◌≤◌, ◌<◌, ◌≡◌, Bool, false, List, leb, length, get_or}
+use Rattle.std.specs.Prelude.{ℕ, Bool, false, leb}
 use Rattle.basics.specs.Choice.{pick}
 use Rattle.table.specs.Table.{Table}
 use Rattle.machine.specs.Memory.{Memory, update}
 use Rattle.machine.specs.Layout.{status_at, holder_at, created_at, number_at}
 use Rattle.machine.specs.Rule.{rule}
 use Rattle.machine.specs.Public.{look}
-
--- the first i bytes are 0; as many bytes as before
-pub record Cleared (s₀ s : List ℕ) (i : ℕ) : Type 0 where
-  pub same : length s ≡ length s₀
-  pub upto : i ≤ length s
-  pub is : (j : ℕ) → j < i → get_or s j 0 ≡ 0
 
 -- process 1 is started and holds its own variables; it is the one process created, in a run begun with this number
 unfoldable pub first_made : Memory → ℕ → Memory

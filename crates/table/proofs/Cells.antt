@@ -67,3 +67,5 @@ module _ (T : Table) (x f : ℕ) where
   pub declared_is : (r : ℕ) → 3 ≤ x → Field (T.cell 0 (x - 3) f) r → Field (declared T x f) r
   unfolding declared
   declared_is r h e = rw (le-ltb x 3 h) e
+
+pub ruleset counts = (count-is)

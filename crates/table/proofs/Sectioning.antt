@@ -18,10 +18,9 @@ use Rattle.basics.proofs.Bools.{no_true, both_l, both_r}
 use Rattle.basics.proofs.Chains.{chain_none, chain_more, chain_fail, chain_all}
 use Rattle.table.specs.Bytes.{num, row_size, rows_end, rows_fit, is_left_out, section_end, section_fits, whole, begins}
 use Rattle.table.specs.Table.{count_at}
-use Rattle.table.specs.Reading.{section_at, SectionIs, SectionsTo, ReadAnswer}
+use Rattle.std.specs.Prelude.{Option, Some, None}
+use Rattle.table.specs.Reading.{section_of, section_at, SectionIs, SectionsTo, WholeSections}
 use Rattle.table.specs.declared.Section.{Section}
-use Rattle.table.specs.declared.Section.TheVariants.{Whole, Early}
-use Rattle.table.specs.declared.Sections.{Sections}
 
 next : (p n : ℕ) → n ≤ p → n ≤ p + 1
 next p n h = omega arith
@@ -81,50 +80,44 @@ record Told (t : List ℕ) (p w k n a e : ℕ) : Type 0 where
   pub rows : a + n * row_size w k ≡ e
   pub start : (k ≡ 7 → 1 ≤ n) → a ≡ w
 
-module _ (t : List ℕ) (p w k : ℕ) (r : Section) (h : p ≤ length t) (s : r ≡ section_at (from p t) w k) where
-  told : r ≡ pick (is_left_out t k p) (Whole 0 0 0) (pick (rows_fit w t k p) (Whole (num t p w) w (rows_end w (drop p t) k 0)) Early)
+module _ (t : List ℕ) (p w k : ℕ) (r : Option Section) (h : p ≤ length t) (s : r ≡ section_at (from p t) w k) where
+  told : r ≡ pick (is_left_out t k p) (Some (section_of 0 0 0)) (pick (rows_fit w t k p) (Some (section_of (num t p w) w (rows_end w (drop p t) k 0))) None)
   unfolding section_at
   told = let x : r ≡ section_at (drop p t) w k = rw part_to_end at s in x ∙ rw (left_drop t p w k h, fits_drop t p w k h, num_drop t p w k)
 
-  early_told : r ≡ Early → section_fits w t k p ≡ false
+  early_told : r ≡ None → section_fits w t k p ≡ false
   unfolding section_fits
   early_told e =
       cases (is_left_out t k p)
-      (λ f. let x = rw f at told in let y : ◌≡◌ {A = ℕ} 0 1 = cc in absurd (omega arith))
-      (λ f. cases (rows_fit w t k p) (λ g. let x = rw (f, g) at told in let y : ◌≡◌ {A = ℕ} 0 1 = cc in absurd (omega arith)) (λ g. rw (f, g)))
+      (λ f. let x = rw f at told in cc)
+      (λ f. cases (rows_fit w t k p) (λ g. let x = rw (f, g) at told in cc) (λ g. rw (f, g)))
 
-  module _ (n a e : ℕ) (g : r ≡ Whole n a e) where
-    left_told : is_left_out t k p ≡ true → Told t p w k n a e
+  module _ (x : Section) (g : r ≡ Some x) where
+    left_told : is_left_out t k p ≡ true → Told t p w k x.count x.start x.next
     unfolding section_fits section_end
     left_told f =
-        let x = rw f at told in
+        let q = rw f at told in
         let y = left_true t k p f in
-        let n0 : n ≡ 0 = cc in
-        let a0 : a ≡ 0 = cc in
-        let e0 : e ≡ 0 = cc in
+        let z : x ≡ section_of 0 0 0 = cc in
         record {
           fits = rw f;
-          count = rw (num_past t p w (omega (arith, y.1))) n0;
-          ends = rw (f, e0) (omega arith);
-          rows = rw (n0, a0, e0) (omega arith);
-          start = λ q. let z = q y.0 in absurd (omega arith);
+          count = rw (num_past t p w (omega (arith, y.1)), z);
+          ends = rw (f, z) (omega arith);
+          rows = rw z (omega arith);
+          start = λ q. let n = q y.0 in let m : x.count ≡ 0 = rw z in absurd (omega arith);
         }
 
-    rows_told : is_left_out t k p ≡ false → rows_fit w t k p ≡ true → Told t p w k n a e
+    rows_told : is_left_out t k p ≡ false → rows_fit w t k p ≡ true → Told t p w k x.count x.start x.next
     unfolding section_fits section_end rows_end
     rows_told f i =
-        let x = rw (f, i) at told in
-        let n0 : n ≡ num t p w = cc in
-        let a0 : a ≡ w = cc in
-        let e0 : e ≡ rows_end w (drop p t) k 0 = cc in
-        let q = end_drop t p w k in
-        let m : n * row_size w k ≡ num t p w * row_size w k = rw n0 in
-        record { fits = rw (f, i); count = n0; ends = rw (f, e0) q; rows = omega arith; start = λ q. a0 }
+        let q = rw (f, i) at told in
+        let z : x ≡ section_of (num t p w) w (rows_end w (drop p t) k 0) = cc in
+        rw z (record { fits = rw (f, i); count = refl; ends = rw f (end_drop t p w k); rows = let m = num_drop t p w k in rw m (omega arith); start = λ q. refl })
 
-    whole_told : Told t p w k n a e
+    whole_told : Told t p w k x.count x.start x.next
     whole_told =
         cases (is_left_out t k p) left_told
-        (λ f. cases (rows_fit w t k p) (rows_told f) (λ i. let x = rw (f, i) at told in let y : ◌≡◌ {A = ℕ} 0 1 = cc in absurd (omega arith)))
+        (λ f. cases (rows_fit w t k p) (rows_told f) (λ i. let q = rw (f, i) at told in cc))
 
 fits_room : (t : List ℕ) (p w k : ℕ) → section_fits w t k p ≡ true → section_end w t k p ≤ length t
 unfolding section_fits section_end rows_fit
@@ -148,29 +141,29 @@ module _ (t : List ℕ) (w : ℕ) where
         section = λ j h. absurd (omega arith);
       }
 
-  module _ (counts starts : List ℕ) (p k : ℕ) (o : SectionsTo t w counts starts p k) (l : k < 8) (r : Section) (s : r ≡ section_at (from p t) w k) where
-    pub sections_early : r ≡ Early → false ≡ whole w t
+  module _ (counts starts : List ℕ) (p k : ℕ) (o : SectionsTo t w counts starts p k) (l : k < 8) (r : Option Section) (s : r ≡ section_at (from p t) w k) where
+    pub sections_early : r ≡ None → whole w t ≡ false
     unfolding whole
-    sections_early e = chain_fail _ _ k p o.chain 8 (length t) l (early_told t p w k r o.inside s e)
+    sections_early e = sym (chain_fail _ _ k p o.chain 8 (length t) l (early_told t p w k r o.inside s e))
 
-    module _ (n a e : ℕ) (g : r ≡ Whole n a e) where
-      pub section-end : p + e ≤ length t
-      section-end = let x = whole_told t p w k r o.inside s n a e g in rw x.ends (fits_room t p w k x.fits)
+    module _ (y : Section) (g : r ≡ Some y) where
+      pub section-end : p + y.next ≤ length t
+      section-end = let x = whole_told t p w k r o.inside s y g in rw x.ends (fits_room t p w k x.fits)
 
-      pub section-fits : length t < 2 ^ 64 → Fits w64 (p + e)
+      pub section-fits : length t < 2 ^ 64 → Fits w64 (p + y.next)
       section-fits h = let x = section-end in record { fits = omega arith }
 
-      pub section_start : p + a ≤ length t
-      section_start = let x = whole_told t p w k r o.inside s n a e g in let y = section-end in omega (arith, x.rows)
+      pub section_start : p + y.start ≤ length t
+      section_start = let x = whole_told t p w k r o.inside s y g in let m = section-end in omega (arith, x.rows)
 
-      pub start_fits : length t < 2 ^ 64 → Fits w64 (p + a)
+      pub start_fits : length t < 2 ^ 64 → Fits w64 (p + y.start)
       start_fits h = let x = section_start in record { fits = omega arith }
 
-      here : ((i : ℕ) → get_or t i 0 < 256) → SectionIs t w k n (p + a)
+      here : ((i : ℕ) → get_or t i 0 < 256) → SectionIs t w k y.count (p + y.start)
       unfolding count_at begins
       here b =
-          let x = whole_told t p w k r o.inside s n a e g in
-          let y = section-end in
+          let x = whole_told t p w k r o.inside s y g in
+          let m = section-end in
           record {
             count = rw (lt-ltb k 8 l, ← o.chain.is) x.count;
             start = λ q. rw (x.start q, ← o.chain.is);
@@ -178,36 +171,39 @@ module _ (t : List ℕ) (w : ℕ) where
             small = rw x.count (num_small t p w b);
           }
 
-      pub sections_more : ((i : ℕ) → get_or t i 0 < 256) → SectionsTo t w (set counts k n) (set starts k (p + a)) (p + e) (k + 1)
+      pub sections_more : ((i : ℕ) → get_or t i 0 < 256) → SectionsTo t w (set counts k y.count) (set starts k (p + y.start)) (p + y.next) (k + 1)
       sections_more b =
-          let x = whole_told t p w k r o.inside s n a e g in
+          let x = whole_told t p w k r o.inside s y g in
           let c8 = o.counts8 in
           let s8 = o.starts8 in
           record {
             upto = omega arith;
             inside = section-end;
-            chain = chain_more _ _ k p o.chain (p + e) x.fits x.ends;
+            chain = chain_more _ _ k p o.chain (p + y.next) x.fits x.ends;
             counts8 = simp length-set c8;
             starts8 = simp length-set s8;
             section = λ j h.
                 cases (eqb j k)
                 (λ q.
                 let i : j ≡ k = eqb-true j k q in
-                rw (i, get_or-set_same counts k n 0 (omega arith), get_or-set_same starts k (p + a) 0 (omega arith)) (here b))
+                rw (i, get_or-set_same counts k y.count 0 (omega arith), get_or-set_same starts k (p + y.start) 0 (omega arith)) (here b))
                 (λ q.
                 let i = eqb-false j k q in
-                rw (get_or-set_other counts k j n 0 i, get_or-set_other starts k j (p + a) 0 i) (o.section j (omega arith)));
+                rw (get_or-set_other counts k j y.count 0 i, get_or-set_other starts k j (p + y.start) 0 i) (o.section j (omega arith)));
           }
 
-  module _ (counts starts : List ℕ) (p k : ℕ) (o : SectionsTo t w counts starts p k) (l : 8 ≤ k) (a : 1 ≤ w) (z : w ≤ 2) where
-    pub sections_all : ReadAnswer t w (record { found = eqb p (length t); sections = record { w = w; counts = counts; starts = starts } })
+  module _ (counts starts : List ℕ) (p k : ℕ) (o : SectionsTo t w counts starts p k) (l : 8 ≤ k) where
+    ends : eqb p (length t) ≡ whole w t
     unfolding whole
-    sections_all =
-        record {
-          found = chain_all _ _ k p o.chain 8 (length t) o.upto l;
-          sections = λ e. record { low = a; high = z; section = λ j h. o.section j (omega arith) };
-          width = λ e. refl;
-        }
+    ends = chain_all _ _ k p o.chain 8 (length t) o.upto l
 
-  pub refused : (s : Sections) → false ≡ whole w t → ReadAnswer t w (record { found = false; sections = s })
-  refused s e = record { found = e; sections = λ h. no_true h; width = λ h. no_true h }
+    pub sections_left : (p ≡ length t → ⊥) → whole w t ≡ false
+    sections_left n = sym ends ∙ ne_eqb p (length t) n
+
+    pub sections_all : 1 ≤ w → w ≤ 2 → p ≡ length t → WholeSections t w (record { w = w; counts = counts; starts = starts })
+    sections_all a z e =
+        record {
+          found = sym ends ∙ eq-eqb p (length t) e;
+          sections = record { low = a; high = z; section = λ j h. o.section j (omega arith) };
+          width = refl;
+        }

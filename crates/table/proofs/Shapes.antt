@@ -92,6 +92,8 @@ module _ (w k f n : ℕ) (hn : n ≡ shorts k) (hs : n ≤ 6) (hw : w ≤ 2) whe
     pub at-word : (n * w + (f - n) * 2 ≡ field_at w k f) × (n * w + (f - n) * 2 ≤ 16)
     at-word = (sym (word_at w k f n hn h), omega (arith, product n w hs hw, words_left))
 
+pub ruleset places = (at_short, at-word)
+
 pub width_short : (w k f n : ℕ) → n ≡ shorts k → f < n → w ≡ field_width w k f
 width_short w k f n hn h = sym (short_width w k f n hn h)
 
@@ -99,12 +101,6 @@ pub width_word : (w k f n : ℕ) → n ≡ shorts k → n ≤ f → 2 ≡ field_
 width_word w k f n hn h = sym (word_width w k f n hn h)
 
 -- by cases of the section
-pub shorts_at : (n r k : ℕ) → k ≡ n → r ≡ shorts n → (r ≡ shorts k) × (r ≤ 6)
-shorts_at n r k e h = rw (e, h) (refl, shorts_small n)
-
-pub words-at : (n r k : ℕ) → k ≡ n → r ≡ words n → (r ≡ words k) × (r ≤ 2)
-words-at n r k e h = rw (e, h) (refl, words_small n)
-
 pub words_none : (k : ℕ) → (k ≡ 0 → ⊥) → (k ≡ 3 → ⊥) → (k ≡ 5 → ⊥) → (0 ≡ words k) × (0 ≤ 2)
 unfolding words
 words_none zero a b c = absurd (a refl)

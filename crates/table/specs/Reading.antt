@@ -1,20 +1,21 @@
 -- Inner: for code and proofs only; no public promise is said with these definitions.
 -- What the readers answer. Assumes nothing.
-use Rattle.std.specs.Prelude.{ℕ, ◌+◌, ◌*◌, ◌≤◌, ◌<◌, ◌≡◌, true, List, length, get_or}
+use Rattle.std.specs.Prelude.{ℕ, ◌+◌, ◌*◌, ◌≤◌, ◌<◌, ◌≡◌, true, false, List, length, get_or, Option, Some, None}
 use Rattle.basics.specs.Choice.{pick}
 use Rattle.basics.specs.Loops.{Chain}
 use Rattle.table.specs.Bytes.{num, row_size, begins, rows_end, rows_fit, is_left_out, section_end, section_fits, whole}
 use Rattle.table.specs.Table.{count_at}
 use Rattle.table.specs.declared.Section.{Section}
-use Rattle.table.specs.declared.Section.TheVariants.{Whole, Early}
 use Rattle.table.specs.declared.Sections.{Sections}
-use Rattle.table.specs.declared.Read.{Read}
 
--- the section k that begins a list of bytes: its count, where its rows begin and where they end, or it ends early
-unfoldable pub section_at : List ℕ → ℕ → ℕ → Section
+-- the section k that begins a list of bytes: its count, where its rows begin and where they end; none where the bytes end before
+abbrev pub section_of : ℕ → ℕ → ℕ → Section
+section_of n a e = record { count = n; start = a; next = e }
+
+unfoldable pub section_at : List ℕ → ℕ → ℕ → Option Section
 section_at b w k =
-    pick (is_left_out b k 0) (Whole 0 0 0)
-    (pick (rows_fit w b k 0) (Whole (num b 0 w) w (rows_end w b k 0)) Early)
+    pick (is_left_out b k 0) (Some (section_of 0 0 0))
+    (pick (rows_fit w b k 0) (Some (section_of (num b 0 w) w (rows_end w b k 0))) None)
 
 -- section k of t: its count c, and where its rows begin; where the eighth has none, its count may not be there either
 pub record SectionIs (t : List ℕ) (w k c a : ℕ) : Type 0 where
@@ -38,11 +39,16 @@ pub record SectionsTo (t : List ℕ) (w : ℕ) (counts starts : List ℕ) (p k :
   pub starts8 : length starts ≡ 8
   pub section : (j : ℕ) → j < k → SectionIs t w j (get_or counts j 0) (get_or starts j 0)
 
--- a reader's answer: whether the bytes are whole sections, and then which
-pub record ReadAnswer (t : List ℕ) (w : ℕ) (r : Read) : Type 0 where
-  pub found : r.found ≡ whole w t
-  pub sections : r.found ≡ true → SectionsOf t r.sections
-  pub width : r.found ≡ true → r.sections.w ≡ w
+-- the bytes are whole sections, and s are these
+pub record WholeSections (t : List ℕ) (w : ℕ) (s : Sections) : Type 0 where
+  pub found : whole w t ≡ true
+  pub sections : SectionsOf t s
+  pub width : s.w ≡ w
+
+-- a reader's answer: the sections, none where the bytes are not whole ones
+abbrev pub ReadAnswer : List ℕ → ℕ → Option Sections → Type 0
+ReadAnswer t w None = whole w t ≡ false
+ReadAnswer t w (Some s) = WholeSections t w s
 
 -- r is the number v, and fits a word
 pub record Field (v r : ℕ) : Type 0 where

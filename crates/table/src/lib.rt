@@ -4,7 +4,7 @@
 
 ghost use Rattle.std.specs.Prelude.{◌≡◌, ◌+◌, ◌-◌, ◌*◌, ◌≤◌, ◌<◌, min, length, eqb};
 ghost use Rattle.basics.specs.Choice.{both};
-ghost use Rattle.table.specs.Bytes.{num, shorts, words, fields, row_size, field_at, field_width};
+ghost use Rattle.table.specs.Bytes.{num, is_left_out, shorts, words, fields, row_size, field_at, field_width};
 ghost use Rattle.table.specs.Table.{table_at};
 ghost use Rattle.table.specs.Reading.{section_at, SectionsOf, ReadAnswer, Field};
 ghost use Rattle.table.specs.Parts.{argument_part, argument_in};
@@ -16,42 +16,29 @@ pub struct Sections {
     pub starts: [usize; 8],
 }
 
+// One section: how many rows it has, where they begin and where they end.
 #[derive(Clone, Copy)]
-pub enum Section {
-    Whole {
-        count: usize,
-        start: usize,
-        next: usize,
-    },
-    Early,
-}
-
-// Whether the bytes are whole sections, and then which. (An enum that holds arrays has no covered proof.)
-#[derive(Clone, Copy)]
-pub struct Read {
-    pub found: bool,
-    pub sections: Sections,
-}
-
-fn wide(b: u8) -> usize
-    ensures { (result ≡ b) × (result < 256) }
-{
-    b as usize
+pub struct Section {
+    pub count: usize,
+    pub start: usize,
+    pub next: usize,
 }
 
 // The number of k bytes at p.
+#[tactic(auto, using(crate::proofs::Numbers::num_two, crate::proofs::Numbers::num_one))]
 pub fn number(t: &[u8], p: usize, k: usize) -> usize
     requires { (1 ≤ k) × (p + k ≤ length t.now) }
     ensures { Field (num t.now p k) result }
 {
     if k == 2 {
-        wide(t[p]) + 256 * wide(t[p + 1])
+        usize::from(t[p]) + 256 * usize::from(t[p + 1])
     } else {
-        wide(t[p])
+        usize::from(t[p])
     }
 }
 
 // Fields of the edition's width in a row of section k. (By cases: an array of constants would be made anew each time that it is read.)
+#[tactic(auto, using(crate::proofs::Shapes::shorts_one), unfolding(crate::specs::Bytes::shorts))]
 fn shorts_of(k: usize) -> usize
     requires { k < 8 }
     ensures { (result ≡ shorts k) × (result ≤ 6) }
@@ -67,6 +54,7 @@ fn shorts_of(k: usize) -> usize
 }
 
 // Words after them.
+#[tactic(auto, using(crate::proofs::Shapes::words_none), unfolding(crate::specs::Bytes::words))]
 fn words_of(k: usize) -> usize
     requires { k < 8 }
     ensures { (result ≡ words k) × (result ≤ 2) }
@@ -80,6 +68,7 @@ fn words_of(k: usize) -> usize
 }
 
 // The bytes of a row of section k.
+#[tactic(auto, using(crate::proofs::Shapes::size_is, crate::proofs::Shapes::product))]
 pub fn row_size(w: usize, k: usize) -> usize
     requires { (w ≤ 2) × (k < 8) }
     ensures { (result ≡ row_size w k) × (result ≤ 16) }
@@ -87,71 +76,63 @@ pub fn row_size(w: usize, k: usize) -> usize
     shorts_of(k) * w + words_of(k) * 2
 }
 
-// The eighth section may be left out (02, b): n bytes are left.
-fn is_left_out(n: usize, k: usize) -> bool
-    ensures { result ≡ both (eqb k 7) (eqb 0 n) }
+// The eighth section may be left out (02, b): nothing is left.
+#[tactic(auto, using(crate::proofs::Numbers::emptiness), unfolding(basics::specs::Choice::both, crate::specs::Bytes::is_left_out))]
+fn is_left_out(part: &[u8], k: usize) -> bool
+    ensures { result ≡ is_left_out part.now k 0 }
 {
-    if k == 7 {
-        return 0 == n;
-    }
-    false
+    k == 7 && part.is_empty()
 }
 
-// Section k, which begins at the start of `part`.
-fn read_section(part: &[u8], w: usize, k: usize) -> Section
+// Section k, which begins at the start of `part`; none where the part ends before it does.
+fn read_section(part: &[u8], w: usize, k: usize) -> Option<Section>
     requires { (1 ≤ w) × (w ≤ 2) × (k < 8) }
     ensures { result ≡ section_at part.now w k }
 {
-    if is_left_out(part.len(), k) {
-        return Section::Whole {
+    if is_left_out(part, k) {
+        return Some(Section {
             count: 0,
             start: 0,
             next: 0,
-        };
+        });
     }
     if part.len() < w {
-        return Section::Early;
+        return None;
     }
     let count = number(part, 0, w);
     let rows = count * row_size(w, k);
     if part.len() - w < rows {
-        return Section::Early;
+        return None;
     }
-    Section::Whole {
+    Some(Section {
         count,
         start: w,
         next: w + rows,
-    }
+    })
 }
 
-// The sections of the table `t` in the edition of width w.
-pub fn read_sections(t: &[u8], w: usize) -> Read
+// The sections of the table `t` in the edition of width w, where its bytes are whole sections.
+pub fn read_sections(t: &[u8], w: usize) -> Option<Sections>
     requires { (1 ≤ w) × (w ≤ 2) }
     ensures { ReadAnswer t.now w result }
 {
     let mut counts = [0usize; 8];
     let mut starts = [0usize; 8];
     let mut p = 0;
-    let mut k = 0;
-    while k < 8 {
-        let Section::Whole { count, start, next } = read_section(&t[p..], w, k) else {
-            return Read {
-                found: false,
-                sections: Sections { w, counts, starts },
-            };
-        };
-        counts[k] = count;
-        starts[k] = p + start;
-        p += next;
-        k += 1;
+    for k in 0..8 {
+        let section = read_section(&t[p..], w, k)?;
+        counts[k] = section.count;
+        starts[k] = p + section.start;
+        p += section.next;
     }
-    Read {
-        found: p == t.len(),
-        sections: Sections { w, counts, starts },
+    if p != t.len() {
+        return None;
     }
+    Some(Sections { w, counts, starts })
 }
 
 // How many rows section k has.
+#[tactic(auto, using(crate::proofs::Cells::counts))]
 pub fn rows(t: &[u8], s: Sections, k: usize) -> usize
     requires sections_of { SectionsOf t.now s }
     requires k_bound { k < 8 }
@@ -161,6 +142,7 @@ pub fn rows(t: &[u8], s: Sections, k: usize) -> usize
 }
 
 // Where field f begins in a row of section k.
+#[tactic(auto, using(crate::proofs::Shapes::places))]
 pub fn field_at(w: usize, k: usize, f: usize) -> usize
     requires { (w ≤ 2) × (k < 8) × (f < fields k) }
     ensures { (result ≡ field_at w k f) × (result ≤ 16) }
@@ -173,6 +155,7 @@ pub fn field_at(w: usize, k: usize, f: usize) -> usize
 }
 
 // Its bytes.
+#[tactic(auto, using(crate::proofs::Shapes::width_short, crate::proofs::Shapes::width_word))]
 pub fn field_width(w: usize, k: usize, f: usize) -> usize
     requires { k < 8 }
     ensures { result ≡ field_width w k f }
@@ -183,29 +166,22 @@ pub fn field_width(w: usize, k: usize, f: usize) -> usize
     2
 }
 
-fn least(a: usize, b: usize) -> usize
-    ensures { result ≡ min a b }
-{
-    if a <= b {
-        return a;
-    }
-    b
-}
-
 // The argument finder: the part of the table that holds a call's arguments, `count` of them from `first` on, or as many of these as there are.
+#[tactic(auto, using(crate::proofs::Parts::parts))]
 pub fn call_arguments(t: &[u8], s: Sections, first: usize, count: usize) -> &[u8]
     requires { SectionsOf t.now s }
     ensures { result.now ≡ argument_part s.w t.now first count }
 {
     let w = s.w;
     let n = s.counts[4];
-    let f = least(first, n);
+    let f = first.min(n);
     let from = s.starts[4] + f * w;
-    let to = from + least(count, n - f) * w;
+    let to = from + count.min(n - f) * w;
     &t[from..to]
 }
 
 // Argument k of a call, 0 where its part has no such argument.
+#[tactic(auto, using(crate::proofs::Parts::arguments))]
 pub fn argument(part: &[u8], w: usize, k: usize) -> usize
     requires { (1 ≤ w) × (w ≤ 2) × (k < 65536) }
     ensures { Field (argument_in part.now w k) result }

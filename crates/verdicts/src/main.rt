@@ -2,43 +2,32 @@
 // verdict, and prints for each verdict how many tables have it there, and how many of these get it here.
 #![tactic(auto)]
 
-ghost use Rattle.std.specs.Prelude.{◌≡◌, ◌+◌, ◌*◌, ◌<◌};
-ghost use Rattle.verdicts.specs.Tally.{one_more, counted, counted_if};
+ghost use Rattle.std.specs.Prelude.{◌≡◌};
+ghost use Rattle.verdicts.specs.Tally.{counted, counted_if};
 ghost use Rattle.verdict.specs.Verdict.{verdict};
 
 use std::io::{ErrorKind, Read};
 use std::{fs, io};
 
-fn one_more(n: u64) -> u64
-    ensures { result ≡ one_more n }
-{
-    if n < 18446744073709551615 { n + 1 } else { n }
-}
-
 // Counts the verdict v; numbers that no verdict has are passed over.
+#[tactic(auto, using(crate::proofs::Counts::counting))]
 fn count(counts: &mut [u64; 10], v: u8)
     ensures { counts.new ≡ counted counts.old v }
 {
-    let i = v as usize;
+    let i = usize::from(v);
     if i < 10 {
-        counts[i] = one_more(counts[i]);
+        counts[i] = counts[i].saturating_add(1);
     }
 }
 
-fn join(low: u8, high: u8) -> usize
-    ensures value { result ≡ low + high * 256 }
-    ensures upper_bound { result < 65536 }
-{
-    low as usize + high as usize * 256
-}
-
 // Counts one record: the verdict v that the file has for the table.
+#[tactic(auto, using(crate::proofs::Counts::comparing))]
 fn compare(table: &[u8], v: u8, seen: &mut [u64; 10], agreed: &mut [u64; 10])
     ensures seen_after { seen.new ≡ counted seen.old v }
     ensures agreed_after { agreed.new ≡ counted_if (verdict 1 table.now) agreed.old v }
 {
     count(seen, v);
-    if verdict::check(table) == v as u32 {
+    if verdict::check(table) == u32::from(v) {
         count(agreed, v);
     }
 }
@@ -80,7 +69,7 @@ fn compare_next(
     if !fill(file, &mut head)? {
         return Ok(false);
     }
-    let length = join(head[0], head[1]);
+    let length = usize::from(u16::from_le_bytes(head));
     let mut room = [0u8; 65536];
     compare_rest(file, &mut room[..length], seen, agreed)
 }
@@ -99,20 +88,14 @@ fn compare_all(
     Ok(())
 }
 
-fn print_line(rt: &impl Print, v: u64, seen: u64, agreed: u64) -> io::Result<()> {
-    println!(rt; "verdict {v}: {seen} tables, {agreed} agree")
-}
-
+// A line for each verdict; a check gives no 1.
 fn print_all(rt: &impl Print, seen: [u64; 10], agreed: [u64; 10]) -> io::Result<()> {
-    print_line(rt, 0, seen[0], agreed[0])?;
-    print_line(rt, 2, seen[2], agreed[2])?;
-    print_line(rt, 3, seen[3], agreed[3])?;
-    print_line(rt, 4, seen[4], agreed[4])?;
-    print_line(rt, 5, seen[5], agreed[5])?;
-    print_line(rt, 6, seen[6], agreed[6])?;
-    print_line(rt, 7, seen[7], agreed[7])?;
-    print_line(rt, 8, seen[8], agreed[8])?;
-    print_line(rt, 9, seen[9], agreed[9])
+    for v in 0..10 {
+        if v != 1 {
+            println!(rt; "verdict {v}: {} tables, {} agree", seen[v], agreed[v])?;
+        }
+    }
+    Ok(())
 }
 
 // A file that cannot be opened is a line on standard error, and nothing else is printed.

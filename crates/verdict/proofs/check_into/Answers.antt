@@ -1,24 +1,12 @@
 use Rattle.table.specs.Empty.{field, fields_of, listing}
-use Rattle.verdict.proofs.Rooming.{checked_empty, checked_some}
-use borrow.Author.Rules.{rules}
+use Rattle.verdict.proofs.Rooming.{empty_answer, some_answer}
+use borrow.Author.Tests.{eqb-true, eqb-false}
+use mathlib.Core.Path.{sym, ◌∙◌}
 use Rattle.verdict.proofs.check_into.Goals as goal
 
-pub slice_bounds-check_bytes-end : goal.slice_bounds-check_bytes-end
+pub returns-then-is_empty : goal.returns-then-is_empty
 unfolding listing fields_of field
-slice_bounds-check_bytes-end c = search rules
-
-pub check_bytes-requires : goal.check_bytes-requires
-unfolding listing fields_of field
-check_bytes-requires c = search rules
-
-pub returns-then-t-eq0 : goal.returns-then-t-eq0
-unfolding listing fields_of field
-returns-then-t-eq0 c = checked_empty _ _ _ _ _ _ c.if-t-eq0.true c.check_bytes.ensures
-
-pub check_bytes-requires-2 : goal.check_bytes-requires-2
-unfolding listing fields_of field
-check_bytes-requires-2 c = search rules
+returns-then-is_empty c = empty_answer _ _ _ _ (eqb-true _ _ (sym c.is_empty.ensures ∙ c.if-is_empty.true)) c.check_bytes.ensures
 
 pub returns : goal.returns
-unfolding listing fields_of field
-returns c = search checked_some
+returns c = some_answer _ _ _ _ (eqb-false _ _ (sym c.is_empty.ensures ∙ c.if-is_empty.false)) c.check_bytes-2.ensures
