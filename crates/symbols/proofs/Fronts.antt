@@ -189,8 +189,6 @@ unfolding comment_length if_any
 comment_other [] h a b d = refl
 comment_other (y ∷ l) h a b d = rw (ne_eqb y 32 a, ne_eqb y 10 b, ne_eqb y 34 d)
 
-pub ruleset comments = (comment_one, comment_line, comment_closed, comment_open, comment_past, comment_short, comment_other)
-
 -- ---- names
 
 pub name_some : (l : List ℕ) (n : ℕ) → 1 ≤ length l → true ≡ letter (get_or l 0 0) → n ≡ span_length in_name (rest l) → option (Some (1 + n)) (if_any (name_length l))

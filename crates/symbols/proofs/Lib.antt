@@ -7,8 +7,8 @@ pub mod Specials
 pub mod Among
 pub mod Keys
 pub mod Seven
+pub mod Quoting
 pub mod Scanning
-pub mod Comments
 pub mod Telling
 pub mod Answering
 pub mod Longest

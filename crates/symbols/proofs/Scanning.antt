@@ -5,7 +5,7 @@ use mathlib.Core.Bool.{true}
 use mathlib.Core.List.{List, [], ◌∷◌}
 use native.Mathlib.Nat.{add-zero}
 use native.Mathlib.Omega.{arith}
-use lib.ListN.{length, get_or, drop, take, length-drop}
+use lib.ListN.{length, get_or, drop, length-drop}
 use lib.Seq.{drop-cons, drop-drop}
 use lib.Dec.{eqb, ltb}
 use borrow.Author.Tests.{eq-eqb, ne_eqb, eqb-true, ltb-true, ltb-false}
@@ -13,11 +13,11 @@ use Rattle.basics.specs.Cases.{cases}
 use Rattle.symbols.specs.Characters.{in_comment}
 use Rattle.symbols.specs.Runs.{span_length, new_lines}
 use Rattle.symbols.specs.Symbols.{or_else, symbol_length, symbol_kind, comment_length, Symbol, fault, more, symbols_from}
-use Rattle.symbols.specs.Steps.{if_any, Stands, PassesTo}
+use Rattle.symbols.specs.declared.cursor.Extent.{Extent}
+use Rattle.symbols.specs.Steps.{if_any, CommentIs, Stands, PassesTo}
 use Rattle.std.specs.Prelude.{Option, None, Some, IfSome}
-use Rattle.symbols.proofs.Fronts.{any_some, any_more, any_none}
+use Rattle.symbols.proofs.Fronts.{any_some, any_more}
 use Rattle.symbols.proofs.Strings.{tail, tail_is}
-use Rattle.symbols.proofs.Comments.{lines_part}
 use Rattle.symbols.proofs.Lengths.{get_d_past, numeral-length, constant-length}
 use Rattle.symbols.proofs.Keys.{name-length}
 use Rattle.symbols.proofs.Specials.{special-length}
@@ -114,22 +114,20 @@ module _ (text : List ℕ) (place line : ℕ) where
   passing_none s = record { stands = s; rises = omega arith; keeps = refl }
 
   module _ (at n : ℕ) (g : Passing text place line at n) where
-    module _ (x k : ℕ) (e : Some x ≡ if_any (comment_length (tail text at))) (p : 0 < x) (q : k ≡ new_lines (length (take x (drop at text))) (take x (drop at text))) where
-      pub passing_more : Passing text place line (at + x) (n + k)
+    module _ (c : Extent) (b : CommentIs (tail text at) (Some c)) where
+      pub passing_more : Passing text place line (at + c.size) (n + c.lines)
       passing_more =
-          let z : comment_length (drop at text) ≡ x = any_some (comment_length (drop at text)) x (sym (rw (tail_is text at) at e)) in
-          let b : x ≤ length (drop at text) = rw z at (comment-length (drop at text)) in
-          let w : k ≡ new_lines x (drop at text) = q ∙ lines_part x (drop at text) b in
-          let f = lines_few x (drop at text) in
-          let c = comment_next n at (drop at text) (λ o. omega arith) in
-          let d : drop x (drop at text) ≡ drop (at + x) text = drop-drop x at text in
+          let g' : CommentIs (drop at text) (Some c) = rw (tail_is text at) at b in
+          let z : comment_length (drop at text) ≡ c.size = sym g'.is in
+          let i = comment_next n at (drop at text) (λ o. omega (arith, g'.some)) in
+          let d : drop c.size (drop at text) ≡ drop (at + c.size) text = drop-drop c.size at text in
           record {
-            stands = record { within = omega (arith, g.stands.within, length-drop at text); counted = omega (arith, g.stands.counted) };
+            stands = record { within = omega (arith, g.stands.within, g'.within, length-drop at text); counted = omega (arith, g.stands.counted, g'.few) };
             rises = omega (arith, g.rises);
-            keeps = sym (rw (d, ← w) at (rw z at c)) ∙ g.keeps;
+            keeps = sym (rw (d, ← g'.lines) at (rw z at i)) ∙ g.keeps;
           }
 
-    pub passing_stop : None ≡ if_any (comment_length (tail text at)) → PassesTo text place line at n
-    passing_stop e = record { stands = g.stands; rises = g.rises; keeps = g.keeps; ends = any_none (comment_length (drop at text)) (sym (rw (tail_is text at) at e)) }
+    pub passing_stop : CommentIs (tail text at) None → PassesTo text place line at n
+    passing_stop e = record { stands = g.stands; rises = g.rises; keeps = g.keeps; ends = rw (tail_is text at) at e }
 
 pub ruleset passings = (passing_none, passing_more, passing_stop)

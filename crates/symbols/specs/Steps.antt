@@ -2,6 +2,8 @@
 -- What the functions below the call ask and tell one another: nothing here is part of what the call promises. Assumes nothing.
 use Rattle.std.specs.Prelude.{ℕ, zero, suc, ◌+◌, ◌*◌, ◌%◌, ◌<◌, ◌≤◌, ◌≡◌, Bool, true, false, Option, None, Some, List, [], ◌∷◌, length, drop, eqb}
 use Rattle.basics.specs.Choice.{either}
+use Rattle.symbols.specs.Runs.{new_lines}
+use Rattle.symbols.specs.declared.cursor.Extent.{Extent}
 use Rattle.symbols.specs.Symbols.{symbol_length, comment_length, Reading, fault, found, symbols_from, symbols_of}
 
 -- a length as the code gives it: none where nothing begins, which a definition says by 0
@@ -12,6 +14,19 @@ if_any (suc n) = Some (suc n)
 -- what a closure may answer of a byte is what a test says
 abbrev pub Tests : (ℕ → Bool → Type 0) → (ℕ → Bool) → Type 0
 Tests post test = (b : ℕ) (r : Bool) → post b r → r ≡ test b
+
+-- a text begins with a comment that takes so many bytes, so many of them new lines
+pub record BeginsComment (text : List ℕ) (c : Extent) : Type 0 where
+  pub some : 0 < c.size
+  pub within : c.size ≤ length text
+  pub few : c.lines ≤ c.size
+  pub is : c.size ≡ comment_length text
+  pub lines : c.lines ≡ new_lines c.size text
+
+-- the comment that begins here, as the code gives it
+abbrev pub CommentIs : List ℕ → Option Extent → Type 0
+CommentIs text None = comment_length text ≡ 0
+CommentIs text (Some c) = BeginsComment text c
 
 -- a cursor stands in a text: lines are counted from 1, and a new line is a byte
 pub record Stands (text : List ℕ) (place line : ℕ) : Type 0 where

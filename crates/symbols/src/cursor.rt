@@ -1,10 +1,8 @@
 // The cursor: it passes spaces, new lines and quoted comments, and counts lines (02).
-ghost use Rattle.std.specs.Prelude.{◌≡◌, ◌<◌, ◌≤◌, length, IfSome};
-ghost use Rattle.symbols.specs.Runs.{new_lines};
-ghost use Rattle.symbols.specs.Symbols.{comment_length};
-ghost use Rattle.symbols.specs.Steps.{if_any, Stands, PassesTo};
+ghost use Rattle.std.specs.Prelude.{◌∷◌};
+ghost use Rattle.symbols.specs.Steps.{CommentIs, Stands, PassesTo};
 
-use super::characters::{in_comment, run};
+use super::characters::in_comment;
 
 // A place, and its line from 1.
 #[derive(Clone, Copy)]
@@ -13,32 +11,41 @@ pub struct Cursor {
     pub line: usize,
 }
 
-// How many bytes the comment that begins here takes.
-#[tactic(auto, using(crate::proofs::Fronts::comments))]
-fn comment(text: &[u8]) -> Option<usize>
-    ensures is { result ≡ if_any (comment_length text.now) }
-    ensures within { IfSome result (λ n. (0 < n) × (n ≤ length text.now)) }
-{
-    match text {
-        [b' ' | b'\n', ..] => Some(1),
-        [b'"', rest @ ..] => {
-            let size = run(rest, in_comment);
-            if size < rest.len() && rest[size] == b'"' {
-                Some(size + 2)
-            } else {
-                None
-            }
-        }
-        _ => None,
-    }
+// What a comment takes: its bytes, and how many of them are new lines.
+#[derive(Clone, Copy)]
+struct Extent {
+    size: usize,
+    lines: usize,
 }
 
-#[tactic(auto, using(crate::proofs::Comments::lines_are))]
-fn new_lines(text: &[u8]) -> usize
-    ensures is { result ≡ new_lines (length text.now) text.now }
-    ensures few { result ≤ length text.now }
+// The comment whose opening quote stands before the text. It is read once: its lines are counted on the way to the closing quote.
+#[tactic(auto, using(crate::proofs::Quoting::quotings))]
+fn quoted(text: &[u8]) -> Option<Extent>
+    ensures { CommentIs (34 ∷ text.now) result }
 {
-    text.iter().filter(|b| **b == b'\n').count()
+    let mut lines = 0;
+    for (i, b) in text.iter().enumerate() {
+        match *b {
+            b'"' => return Some(Extent { size: i + 2, lines }),
+            b'\n' => lines += 1,
+            b if in_comment(b) => {}
+            _ => return None,
+        }
+    }
+    None
+}
+
+// The comment that begins here.
+#[tactic(auto, using(crate::proofs::Quoting::comments))]
+fn comment(text: &[u8]) -> Option<Extent>
+    ensures { CommentIs text.now result }
+{
+    match text {
+        [b' ', ..] => Some(Extent { size: 1, lines: 0 }),
+        [b'\n', ..] => Some(Extent { size: 1, lines: 1 }),
+        [b'"', rest @ ..] => quoted(rest),
+        _ => None,
+    }
 }
 
 // Past all comments.
@@ -49,9 +56,9 @@ fn past_comments(text: &[u8], place: usize, line: usize) -> Cursor
 {
     let mut at = place;
     let mut n = line;
-    while let Some(size) = comment(&text[at..]) {
-        n += new_lines(&text[at..at + size]);
-        at += size;
+    while let Some(c) = comment(&text[at..]) {
+        n += c.lines;
+        at += c.size;
     }
     Cursor { place: at, line: n }
 }

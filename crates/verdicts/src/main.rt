@@ -2,7 +2,7 @@
 // verdict, and prints for each verdict how many tables have it there, and how many of these get it here.
 #![tactic(auto)]
 
-ghost use Rattle.std.specs.Prelude.{◌≡◌};
+ghost use Rattle.std.specs.Prelude.{◌≡◌, ◌+◌, ◌*◌, ◌<◌};
 ghost use Rattle.verdicts.specs.Tally.{counted, counted_if};
 ghost use Rattle.verdict.specs.Verdict.{verdict};
 
@@ -18,6 +18,14 @@ fn count(counts: &mut [u64; 10], v: u8)
     if i < 10 {
         counts[i] = counts[i].saturating_add(1);
     }
+}
+
+// The number of two bytes, the low one first.
+fn join(low: u8, high: u8) -> usize
+    ensures value { result ≡ low + high * 256 }
+    ensures upper_bound { result < 65536 }
+{
+    usize::from(u16::from_le_bytes([low, high]))
 }
 
 // Counts one record: the verdict v that the file has for the table.
@@ -69,7 +77,7 @@ fn compare_next(
     if !fill(file, &mut head)? {
         return Ok(false);
     }
-    let length = usize::from(u16::from_le_bytes(head));
+    let length = join(head[0], head[1]);
     let mut room = [0u8; 65536];
     compare_rest(file, &mut room[..length], seen, agreed)
 }
