@@ -17,7 +17,8 @@ use Rattle.symbols.specs.declared.cursor.Extent.{Extent}
 use Rattle.symbols.specs.Steps.{CommentIs}
 use Rattle.symbols.proofs.Ends.{drop_end}
 use Rattle.symbols.proofs.Fronts.{rest, rest_is, any_some, any_none, comment_one, comment_line, comment_closed, comment_open, comment_past, comment_short, comment_other}
-use Rattle.symbols.proofs.Scanning.{comment-length}
+use Rattle.symbols.proofs.Strings.{tail}
+use Rattle.symbols.proofs.Scanning.{comment-length, Passing, passing_more}
 
 -- how many bytes are still to come, and how many new lines among them
 abbrev coming : List ℕ → ℕ → ℕ
@@ -180,6 +181,17 @@ module _ (l : List ℕ) where
   pub begins_other : 1 ≤ length l → (get_or l 0 0 ≡ 32 → ⊥) → (get_or l 0 0 ≡ 10 → ⊥) → (get_or l 0 0 ≡ 34 → ⊥) → CommentIs l None
   begins_other h a b d = any_none (comment_length l) (sym (comment_other l h a b d))
 
+-- ---- the cursor past one byte
+
+module _ (text : List ℕ) (place line at n : ℕ) (g : Passing text place line at n) where
+  pub passing_space : 1 ≤ length (tail text at) → get_or (tail text at) 0 0 ≡ 32 → Passing text place line (at + 1) n
+  passing_space h b =
+      let e : n + 0 ≡ n = omega arith in
+      rw e at (passing_more text place line at n g (record { size = 1; lines = 0 }) (begins_space (tail text at) h b))
+
+  pub passing_line : 1 ≤ length (tail text at) → get_or (tail text at) 0 0 ≡ 10 → Passing text place line (at + 1) (n + 1)
+  passing_line h b = passing_more text place line at n g (record { size = 1; lines = 1 }) (begins_line (tail text at) h b)
+
 pub ruleset quotings = (quoting_none, quoting_few, quoting_line, quoting_more, quoting_closed, quoting_stop, quoting_end)
 
-pub ruleset comments = (begins_space, begins_line, begins_quote, begins_short, begins_other)
+pub ruleset comments = (begins_space, begins_line, begins_quote, begins_short, begins_other, passing_space, passing_line)

@@ -35,32 +35,31 @@ fn quoted(text: &[u8]) -> Option<Extent>
     None
 }
 
-// The comment that begins here.
-#[tactic(auto, using(crate::proofs::Quoting::comments))]
-fn comment(text: &[u8]) -> Option<Extent>
-    ensures { CommentIs text.now result }
-{
-    match text {
-        [b' ', ..] => Some(Extent { size: 1, lines: 0 }),
-        [b'\n', ..] => Some(Extent { size: 1, lines: 1 }),
-        [b'"', rest @ ..] => quoted(rest),
-        _ => None,
-    }
-}
-
-// Past all comments.
-#[tactic(auto, using(crate::proofs::Scanning::passings))]
+// Past all comments: spaces, new lines and what stands between quotes.
+#[tactic(auto, using(crate::proofs::Quoting::comments, crate::proofs::Scanning::passings))]
 fn past_comments(text: &[u8], place: usize, line: usize) -> Cursor
     requires { Stands text.now place line }
     ensures { PassesTo text.now place line result.place result.line }
 {
     let mut at = place;
     let mut n = line;
-    while let Some(c) = comment(&text[at..]) {
-        n += c.lines;
-        at += c.size;
+    loop {
+        match &text[at..] {
+            [b' ', ..] => at += 1,
+            [b'\n', ..] => {
+                at += 1;
+                n += 1;
+            }
+            [b'"', rest @ ..] => {
+                let Some(c) = quoted(rest) else {
+                    return Cursor { place: at, line: n };
+                };
+                at += c.size;
+                n += c.lines;
+            }
+            _ => return Cursor { place: at, line: n },
+        }
     }
-    Cursor { place: at, line: n }
 }
 
 // Moves a cursor past all comments.
